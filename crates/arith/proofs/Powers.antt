@@ -1,0 +1,1 @@
+-- Powers, and how they compare. Assumes nothing.

@@ -1,0 +1,1 @@
+-- Whole quotients and remainders, rounded either way. Assumes nothing.

@@ -1,0 +1,1 @@
+-- Numbers that shrink by a ratio at each step lose a binary digit in a bounded number of steps. Assumes nothing.

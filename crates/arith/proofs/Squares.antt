@@ -1,0 +1,1 @@
+-- Squares of sums and doubles. Assumes nothing.

@@ -1,0 +1,1 @@
+// A double taken apart and put together.

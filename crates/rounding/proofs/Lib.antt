@@ -1,0 +1,6 @@
+-- The laws by subject: what a comparison says, the nearest whole number, relative error, order by units, products.
+pub mod Compared
+pub mod Nearest
+pub mod Relative
+pub mod Units
+pub mod Products

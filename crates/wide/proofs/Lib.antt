@@ -1,0 +1,3 @@
+-- The law of the two halves, and why four partial products give them.
+pub mod Products
+pub mod PartialProducts

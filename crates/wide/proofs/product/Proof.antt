@@ -1,0 +1,56 @@
+-- `product` meets its contract: each partial product leaves room for the digits that are added to it, and together they are the product. Assumes nothing.
+use native.Mathlib.Omega.{arith}
+use borrow.Author.Needs.{needs}
+use Rattle.wide.proofs.PartialProducts.{Room, room, four-products}
+use Rattle.wide.proofs.Products.{halves-of-product}
+use Rattle.wide.proofs.product.Statement.{statement}
+use Rattle.wide.proofs.product.Tie as tie
+
+mul-low : tie.Need-mul-low
+mul-low c = omega (arith, room (c .args .a) (c .args .b) (omega arith) (omega arith))
+
+mul-mid : tie.Need-mul-mid
+mul-mid c = omega (arith, room (c .args .a) (c .args .b) (omega arith) (omega arith))
+
+add-mid : tie.Need-add-mid
+add-mid c = omega (arith, room (c .args .a) (c .args .b) (omega arith) (omega arith))
+
+mul-cross : tie.Need-mul-cross
+mul-cross c = omega (arith, room (c .args .a) (c .args .b) (omega arith) (omega arith))
+
+add-cross : tie.Need-add-cross
+add-cross c = omega (arith, room (c .args .a) (c .args .b) (omega arith) (omega arith))
+
+mul-t10 : tie.Need-mul-t10
+mul-t10 c = omega (arith, room (c .args .a) (c .args .b) (omega arith) (omega arith))
+
+add-t12 : tie.Need-add-t12
+add-t12 c = omega (arith, room (c .args .a) (c .args .b) (omega arith) (omega arith))
+
+add-t14 : tie.Need-add-t14
+add-t14 c = omega (arith, room (c .args .a) (c .args .b) (omega arith) (omega arith))
+
+mul-t16 : tie.Need-mul-t16
+mul-t16 c = search needs
+
+add-t18 : tie.Need-add-t18
+add-t18 c = search needs
+
+returns : tie.Need-returns
+returns c = halves-of-product (c .args .a) (c .args .b) _ _ (omega arith) (four-products (c .args .a) (c .args .b))
+
+pub product-spec : {M : Type 1} → statement M
+product-spec =
+    tie.close
+    (tie.spec
+    mul-low
+    mul-mid
+    add-mid
+    mul-cross
+    add-cross
+    mul-t10
+    add-t12
+    add-t14
+    mul-t16
+    add-t18
+    returns)

@@ -1,0 +1,34 @@
+// The whole product of two 64-bit numbers, which the language has no type for: its two halves.
+ghost use mathlib.Core.Path.{_≡_};
+ghost use Prim.Native.Nat.{_*_, _^_, _/_};
+ghost use Rattle.wide.specs.Products.{productOf};
+
+// hi * 2^64 + lo
+pub struct Halves {
+    pub hi: u64,
+    pub lo: u64,
+}
+
+// a * b, by four partial products of 32-bit digits, as on paper. A sum of a partial product and two digits fits 64 bits, so no carry is lost.
+pub fn product(a: u64, b: u64) -> Halves
+    ensures { λ r. ⌜ r ≡ productOf a b ⌝ }
+{
+    let a1 = a / 4294967296;
+    let a0 = a % 4294967296;
+    let b1 = b / 4294967296;
+    let b0 = b % 4294967296;
+    let low = a0 * b0;
+    let mid = a1 * b0 + low / 4294967296;
+    let cross = a0 * b1 + mid % 4294967296;
+    Halves {
+        hi: a1 * b1 + mid / 4294967296 + cross / 4294967296,
+        lo: cross % 4294967296 * 4294967296 + low % 4294967296,
+    }
+}
+
+// The upper half: a * b / 2^64, rounded down. As fractions of 2^64, the product of a and b.
+pub fn high(a: u64, b: u64) -> u64
+    ensures { λ r. ⌜ r ≡ a * b / 2 ^ 64 ⌝ }
+{
+    product(a, b).hi
+}

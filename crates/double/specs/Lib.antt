@@ -1,2 +1,4 @@
 pub mod Operators
 pub mod Numbers
+pub mod Fields
+pub mod Sizes

@@ -1,0 +1,38 @@
+-- From a double to its pattern and back, and from a pattern to its double and back. Assumes nothing.
+use mathlib.Core.Path.{_≡_, refl, sym, ap, subst, _∙_}
+use mathlib.Core.Bool.{Bool, true, false, not}
+use Prim.Native.Nat.{ℕ, _^_, _<_}
+use lib.Dec.{T}
+use lib.Ieee.{Float, nan, inf, fin, binary64, fits, isNan, ofBits, toBits, nanBits}
+use lib.Ieee.Bits.{ofBits-toBits, toBits-ofBits, toBits-lt, nanBits-is}
+use Rattle.arith.proofs.Branches.{false-not-true}
+
+-- a pattern fits 64 bits
+pub pattern-lt : (x : Float) → T (fits binary64 x) → toBits binary64 x < 2 ^ 64
+pattern-lt x F = toBits-lt binary64 x F
+
+-- a double, NaN included, is the double of its pattern
+pub double-back : (x : Float) → T (fits binary64 x) → ofBits binary64 (toBits binary64 x) ≡ x
+double-back x F = ofBits-toBits binary64 x F
+
+-- doubles with one pattern are one double
+pub same-pattern : (x y : Float) → T (fits binary64 x) → T (fits binary64 y) → toBits binary64 x ≡ toBits binary64 y → x ≡ y
+same-pattern x y F G e = sym (double-back x F) ∙ ap (ofBits binary64) e ∙ double-back y G
+
+-- a pattern that is not a NaN's is the pattern of its double
+pub pattern-back : (b : ℕ) → b < 2 ^ 64 → nanBits binary64 b ≡ false → toBits binary64 (ofBits binary64 b) ≡ b
+pattern-back b h n = toBits-ofBits binary64 b h (subst (λ (t : Bool). T (not t)) (sym (sym (nanBits-is binary64 b) ∙ n)) tt)
+
+is-nan : (x : Float) → isNan x ≡ true → x ≡ nan
+unfolding isNan
+is-nan nan e = refl
+is-nan (inf s) e = absurd (false-not-true e)
+is-nan (fin s m k) e = absurd (false-not-true e)
+
+pub nan-of-pattern : (b : ℕ) → nanBits binary64 b ≡ true → ofBits binary64 b ≡ nan
+nan-of-pattern b n = is-nan (ofBits binary64 b) (sym (nanBits-is binary64 b) ∙ n)
+
+-- and every NaN's pattern comes back as the one that 01 names: "7FF8000000000000"
+pub nan-back : (b : ℕ) → nanBits binary64 b ≡ true → toBits binary64 (ofBits binary64 b) ≡ 0x7ff8_0000_0000_0000
+unfolding toBits
+nan-back b n = ap (toBits binary64) (nan-of-pattern b n)

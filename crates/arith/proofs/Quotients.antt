@@ -1,7 +1,7 @@
 -- Whole quotients and remainders. In order: long division digit by digit; quotients rounded up; a multiple less a number; fractions compared by their whole parts in units of 1/u.
 -- Not here: a quotient of a sum of a multiple and a rest (lib.Arith), the laws of _/_ and _%_ (native.Mathlib.Nat). Assumes nothing.
 use mathlib.Core.Path.{_≡_, sym, ap, _∙_}
-use Prim.Native.Nat.{ℕ, zero, suc, _+_, _-_, _*_, _/_, _%_, _≤_, _<_}
+use Prim.Native.Nat.{ℕ, zero, _+_, _-_, _*_, _/_, _%_, _≤_, _<_}
 use native.Mathlib.Nat.{mul-comm, mul-right-comm, add-mul, one-mul, mul-pos, mul-le-mul-left, mul-le-mul-right, lt-of-mul-lt-mul-right, div-add-mod', div-mul-le-self, lt-div-mul-add, mul-add-div-right, mul-add-mod-self-right, div-div-eq-div-mul, sub-add-cancel, add-div-right}
 use native.Mathlib.Omega.{arith}
 use lib.Arith.{digits-div, digits-mod}

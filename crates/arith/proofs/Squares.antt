@@ -1,7 +1,7 @@
 -- Squares and their order. Not here: the square of a sum or a double, which `omega arith` multiplies out by itself. Assumes nothing.
-use mathlib.Core.Path.{_≡_, ap, sym, _∙_}
+use mathlib.Core.Path.{_≡_, ap}
 use Prim.Native.Nat.{ℕ, _+_, _-_, _*_, _≤_, _<_}
-use native.Mathlib.Nat.{mul-le-mul, mul-le-mul-left, mul-lt-mul-of-pos-right, lt-of-le-of-lt, lt-of-lt-of-le, lt-irrefl, le-of-lt, lt-of-not-le}
+use native.Mathlib.Nat.{mul-le-mul, mul-le-mul-left, mul-lt-mul-of-pos-right, lt-of-le-of-lt, lt-of-lt-of-le, lt-irrefl, le-of-lt, le-trans, lt-of-not-le}
 use native.Mathlib.Omega.{arith}
 
 -- the odd number below 2 r
@@ -17,4 +17,4 @@ square-lt a b h = lt-of-le-of-lt (mul-le-mul-left a (le-of-lt h)) (mul-lt-mul-of
 
 -- a number whose square is at most n is below every number whose square is above n
 pub lt-of-squares : (n p q : ℕ) → p * p ≤ n → n < q * q → p < q
-lt-of-squares n p q a b = lt-of-not-le (λ (g : q ≤ p). lt-irrefl n (lt-of-lt-of-le b (native.Mathlib.Nat.le-trans (mul-le-mul g g) a)))
+lt-of-squares n p q a b = lt-of-not-le (λ (g : q ≤ p). lt-irrefl n (lt-of-lt-of-le b (le-trans (mul-le-mul g g) a)))

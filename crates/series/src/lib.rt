@@ -1,0 +1,1 @@
+// The whole-number logarithm on exact fractions. No code: see specs/ and proofs/.

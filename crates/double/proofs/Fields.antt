@@ -1,13 +1,13 @@
 -- From a bit pattern to its fields, from the fields to the size in units of 2^-1074, and back. Assumes nothing.
 -- In order: `ofBits-is`, the ranges of the fields, `low-value`, `mid-value` and both as `mag-value`, that a number has one sign and one size, `measured` and `read`.
-use mathlib.Core.Path.{_≡_, refl, sym, ap, subst, _∙_}
+use mathlib.Core.Path.{_≡_, sym, ap, subst, _∙_}
 use mathlib.Core.Bool.{Bool, true, false, cond}
-use Prim.Native.Nat.{ℕ, zero, suc, _+_, _*_, _/_, _%_, _^_, _<_}
+use Prim.Native.Nat.{ℕ, zero, suc, _+_, _*_, _/_, _^_, _<_}
 use native.Mathlib.Nat.{mul-one, mod-lt, eq-of-mul-eq-mul-right}
 use native.Mathlib.Decide.{decLt}
 use native.Mathlib.Omega.{arith}
 use borrow.Author.Tests.{ne-eqb}
-use lib.Dec.{T, leb, eqb}
+use lib.Dec.{T, eqb}
 use lib.Pow.{pow-pos, field}
 use lib.Ieee.{Float, nan, inf, fin, binary64, odd, fits, ofFields, ofBits, toBits, down}
 use lib.Ieee.Bits.{ofBits-toBits}

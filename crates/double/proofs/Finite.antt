@@ -1,6 +1,6 @@
 -- When a double is finite, by comparisons. Assumes nothing.
 use mathlib.Core.Path.{_≡_, refl, sym, subst, _∙_}
-use mathlib.Core.Bool.{Bool, true, false, _&&_}
+use mathlib.Core.Bool.{true, false, _&&_}
 use lib.Dec.{T}
 use lib.Ieee.{Float, nan, inf, fin, lt, ne}
 use lib.Ieee.Compare.{nan-differs}

@@ -1,12 +1,12 @@
 -- A double put together as the pattern j * 2^52 + q, with the leading one left in q, from 2^52 up to and including 2^53. It carries into the field by itself. Assumes nothing.
-use mathlib.Core.Path.{_≡_, refl, sym, ap, subst, _∙_}
+use mathlib.Core.Path.{_≡_, sym, ap, subst, _∙_}
 use mathlib.Core.Logic.{_⊎_, inl, inr}
 use mathlib.Core.Bool.{Bool, false, not}
-use Prim.Native.Nat.{ℕ, suc, _+_, _-_, _*_, _/_, _%_, _^_, _≤_, _<_}
+use Prim.Native.Nat.{ℕ, suc, _+_, _-_, _*_, _%_, _^_, _≤_, _<_}
 use native.Mathlib.Nat.{eq-or-lt-of-le, pow-succ', mul-assoc}
 use native.Mathlib.Omega.{arith}
 use borrow.Author.Tests.{lt-leb, le-ltb}
-use lib.Dec.{T, leb}
+use lib.Dec.{T}
 use lib.Ieee.{Float, binary64, ofBits, ofFields, nanBits}
 use lib.Ieee.Bits.{nanBits-above}
 use Rattle.double.specs.Fields.{signOf, fieldOf, digitsOf, Units}

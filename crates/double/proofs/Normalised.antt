@@ -2,14 +2,14 @@
 use mathlib.Core.Path.{_≡_, refl, sym, ap, subst, _∙_}
 use mathlib.Core.Bool.{false}
 use Prim.Native.Nat.{ℕ, zero, suc, _+_, _-_, _*_, _^_, _≤_, _<_}
-use native.Mathlib.Nat.{mul-assoc, mul-comm, mul-right-comm, mul-le-mul-right, mul-lt-mul-of-pos-right, le-of-mul-le-mul-right, lt-of-mul-lt-mul-right, eq-of-mul-eq-mul-right, le-antisymm, lt-of-not-le, not-le-of-lt, le-trans, le-of-eq, lt-of-lt-of-le, lt-irrefl}
+use native.Mathlib.Nat.{not-suc-le-zero, mul-assoc, mul-comm, mul-right-comm, mul-le-mul-right, mul-lt-mul-of-pos-right, le-of-mul-le-mul-right, lt-of-mul-lt-mul-right, eq-of-mul-eq-mul-right, le-antisymm, lt-of-not-le, le-trans, le-of-eq, lt-of-lt-of-le, lt-irrefl}
 use native.Mathlib.Omega.{arith}
 use lib.Dec.{T}
 use lib.IntN.{ℤ}
-use lib.Pow.{pow-add, pow-pos}
+use lib.Pow.{pow-add, pow-mono, pow-pos}
 use lib.Count.{leadingZeros}
 use lib.Ieee.{Float, fin, binary64, fits, toBits, up, down, size}
-use lib.Ieee.Digits.{size-le, size-lt, size-reaches}
+use lib.Ieee.Digits.{size-le, size-lt}
 use Rattle.double.specs.Fields.{fieldOf, digitsOf, Units, mag, shift, normalOf}
 use Rattle.double.specs.declared.Normal.{Normal}
 use Rattle.double.proofs.Fields.{digits-lt, read}
@@ -54,6 +54,12 @@ normalised (suc j) t h l p = mid-normalised j t (omega arith) l
 pub of-low : (t : ℕ) (r : Normal) → 0 < t → t < 2 ^ 52 → r ≡ normalOf 0 t → Normalised t (r .m) (r .k)
 unfolding mag
 of-low t r p l e = subst (λ (a : Normal). Normalised t (a .m) (a .k)) (sym e) (normalised 0 t (omega arith) l p)
+
+-- past the field 0 there is nothing to shift
+pub of-mid : (f t : ℕ) → (f ≡ 0 → ⊥) → normalOf f t ≡ record { m = 2 ^ 52 + t; k = f + 51 }
+unfolding normalOf
+of-mid zero t h = absurd (h refl)
+of-mid (suc j) t h = refl
 
 -- a positive finite double
 pub of-double : (x : Float) (n : ℕ) → T (fits binary64 x) → Units x n → 0 < n
@@ -107,15 +113,12 @@ module _ (n m k : ℕ) (z : Normalised n m k) where
 
   -- the number of binary digits of the units is one above k
   pub size-is : size n ≡ suc k
-  size-is = le-antisymm (size-le n (suc k) exponent-to) (lt-of-not-le (λ (g : size n ≤ k). lt-irrefl n (lt-of-lt-of-le (size-lt n) (le-trans (pow-le g) exponent-from))))
-    where
-      pow-le : {i j : ℕ} → i ≤ j → 2 ^ i ≤ 2 ^ j
-      pow-le h = lib.Pow.pow-mono h
+  size-is = le-antisymm (size-le n (suc k) exponent-to) (lt-of-not-le (λ (g : size n ≤ k). lt-irrefl n (lt-of-lt-of-le (size-lt n) (le-trans (pow-mono g) exponent-from))))
 
 -- at a field f from 1 to 2046 that is f + 52, so the exponent is f - 1023
 pub size-of-normal : (f t : ℕ) → 1 ≤ f → f < 2047 → t < 2 ^ 52 → size (mag f t) ≡ f + 52
 unfolding mag
-size-of-normal zero t a h l = absurd (native.Mathlib.Nat.not-suc-le-zero a)
+size-of-normal zero t a h l = absurd (not-suc-le-zero a)
 size-of-normal (suc j) t a h l =
     let sum : suc (suc j + 51) ≡ suc j + 52 = omega arith in
     size-is ((2 ^ 52 + t) * 2 ^ j) (2 ^ 52 + t) (suc j + 51) (mid-normalised j t (omega arith) l) ∙ sum

@@ -1,11 +1,10 @@
 -- `normal_of_low` meets its contract: the shift brings the leading one to 2^52, so no bit is lost. Assumes nothing.
 use borrow.Author.Needs.{needs}
-use mathlib.Core.Path.{_≡_, ap, _∙_}
+use mathlib.Core.Path.{ap}
 use Prim.Native.Nat.{ℕ, _-_}
 use native.Mathlib.Omega.{arith}
 use lib.Count.{leadingZeros}
 use Rattle.double.specs.Fields.{shift, normalOf}
-use Rattle.double.specs.declared.Normal.{Normal}
 use Rattle.double.proofs.Subnormals.{Shifted, shifted}
 use Rattle.double.proofs.normal_of_low.Statement.{statement}
 use Rattle.double.proofs.normal_of_low.Tie as tie

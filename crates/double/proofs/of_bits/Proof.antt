@@ -1,11 +1,12 @@
 -- `of_bits` meets its contract: the test is the kit's own rule for a NaN's pattern. Assumes nothing.
-use mathlib.Core.Path.{_≡_, sym, _∙_, subst}
-use mathlib.Core.Bool.{Bool, true, false, not}
-use Prim.Native.Nat.{ℕ, _*_, _%_, _^_}
+use mathlib.Core.Path.{sym, _∙_, subst}
+use mathlib.Core.Bool.{Bool, not}
+use Prim.Native.Nat.{_*_, _%_, _^_}
+use native.Mathlib.Omega.{arith}
 use borrow.Author.Needs.{needs}
 use borrow.Author.Tests.{lt-ltb, le-ltb}
 use lib.Dec.{T}
-use lib.Ieee.{binary64, nanBits}
+use lib.Ieee.{binary64}
 use lib.Ieee.Bits.{nanBits-above}
 use Rattle.double.proofs.RoundTrips.{nan-of-pattern}
 use Rattle.double.proofs.of_bits.Statement.{statement}
@@ -17,12 +18,12 @@ nan-requires c κs = search needs
 returns : tie.Need-returns
 returns c =
     let b = c .before .before .args .b in
-    c .nan .ensures ∙ sym (nan-of-pattern b (nanBits-above binary64 b ∙ lt-ltb (2047 * 2 ^ 52) (b % 2 ^ 63) (c .before .if1 .taken)))
+    c .nan .ensures ∙ sym (nan-of-pattern b (nanBits-above binary64 b ∙ lt-ltb (2047 * 2 ^ 52) (b % 2 ^ 63) (omega arith)))
 
 float-from-bits-result : tie.Need-float-from-bits-result
 float-from-bits-result c =
     let b = c .before .args .b in
-    subst (λ (t : Bool). T (not t)) (sym (nanBits-above binary64 b ∙ le-ltb (2047 * 2 ^ 52) (b % 2 ^ 63) (c .if1 .left))) tt
+    subst (λ (t : Bool). T (not t)) (sym (nanBits-above binary64 b ∙ le-ltb (2047 * 2 ^ 52) (b % 2 ^ 63) (omega arith))) tt
 
 returns-2 : tie.Need-returns-2
 returns-2 c = search needs

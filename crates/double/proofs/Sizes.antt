@@ -20,13 +20,13 @@ none-below : (n m : ℕ) → n < 0 * 1 * m → ⊥
 none-below n m h = let e : 0 * 1 * m ≡ 0 = zero-mul m in omega arith
 
 -- below 0: the sign is turned
-pub negative : (x : Float) → lt x +0 ≡ true → neg x ≡ absOf x
+pub abs-of-negative : (x : Float) → lt x +0 ≡ true → neg x ≡ absOf x
 unfolding lt neg absOf
-negative nan h = cc
-negative (inf true) h = refl
-negative (inf false) h = cc
-negative (fin true m e) h = refl
-negative (fin false m e) h = absurd (none-below (m * up e * 1) (down e) (ltb-true _ _ h))
+abs-of-negative nan h = cc
+abs-of-negative (inf true) h = refl
+abs-of-negative (inf false) h = cc
+abs-of-negative (fin true m e) h = refl
+abs-of-negative (fin false m e) h = absurd (none-below (m * up e * 1) (down e) (ltb-true _ _ h))
 
 both-none : (a b : ℕ) → a + b ≤ 0 → (eqb a b && eqb a 0) ≡ false → ⊥
 both-none a b h k =
@@ -35,13 +35,13 @@ both-none a b h k =
     false-not-true (sym (simp (eq-eqb a b e, eq-eqb a 0 z) at k))
 
 -- neither below 0 nor equal to it: its own size
-pub positive : (x : Float) → lt x +0 ≡ false → eq x +0 ≡ false → x ≡ absOf x
+pub abs-of-positive : (x : Float) → lt x +0 ≡ false → eq x +0 ≡ false → x ≡ absOf x
 unfolding lt eq absOf
-positive nan h k = refl
-positive (inf false) h k = refl
-positive (inf true) h k = cc
-positive (fin false m e) h k = refl
-positive (fin true m e) h k = absurd (both-none (m * up e * 1) (0 * 1 * down e) (ltb-false _ _ h) k)
+abs-of-positive nan h k = refl
+abs-of-positive (inf false) h k = refl
+abs-of-positive (inf true) h k = cc
+abs-of-positive (fin false m e) h k = refl
+abs-of-positive (fin true m e) h k = absurd (both-none (m * up e * 1) (0 * 1 * down e) (ltb-false _ _ h) k)
 
 -- a number with a digit is not 0
 some : (m : ℕ) (e : ℤ) (d : ℕ) → suc m * up e * 1 ≡ 0 * 1 * d → ⊥
@@ -61,9 +61,9 @@ exponent-of-zero (pos (suc k)) t = absurd (not-one (2 ^ suc k) (2 ^ suc k * 1) (
 exponent-of-zero (negsuc k) t = absurd (not-one (2 ^ suc k) (1 * 2 ^ suc k) (pow-lt {i = 0} {j = suc k} (omega arith)) (eqb→eq _ _ t) (one-mul _))
 
 -- equal to 0: the size is +0, of -0 too
-pub null : (x : Float) → T (fits binary64 x) → eq x +0 ≡ true → +0 ≡ absOf x
+pub abs-of-zero : (x : Float) → T (fits binary64 x) → eq x +0 ≡ true → +0 ≡ absOf x
 unfolding eq absOf fits
-null nan f h = cc
-null (inf s) f h = cc
-null (fin s zero e) f h = ap (fin false 0) (sym (exponent-of-zero e f))
-null (fin s (suc m) e) f h = absurd (some m e (down e) (eqb-true _ _ (and-left _ _ h)))
+abs-of-zero nan f h = cc
+abs-of-zero (inf s) f h = cc
+abs-of-zero (fin s zero e) f h = ap (fin false 0) (sym (exponent-of-zero e f))
+abs-of-zero (fin s (suc m) e) f h = absurd (some m e (down e) (eqb-true _ _ (and-left _ _ h)))

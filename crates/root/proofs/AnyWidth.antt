@@ -8,13 +8,13 @@ use native.Mathlib.Omega.{arith}
 use lib.Dec.{T, ltb, ltb→lt}
 use Rattle.root.specs.Steps.{wholeRoot, roundRoot}
 use Rattle.root.proofs.WholeRoots.{IsRoot, below, whole-is}
-use Rattle.root.proofs.RoundedRoots.{Nearest, rounded}
+use Rattle.root.proofs.RoundedRoots.{WithinHalf, rounded}
 
 -- r has p + 1 digits, where P is 2^p, and is nearest to the root of n
 pub record Rounds (P n r : ℕ) : Type 0 where
   pub from : P ≤ r
   pub to : r < 2 * P
-  pub nearest : Nearest n r
+  pub nearest : WithinHalf n r
 
 -- n is from P² up to (2P)² less 2P, so that the root does not round up to 2P
 module _ (P n : ℕ) (pp : 0 < P) (lo : P * P ≤ n) (hi : n + 2 * P ≤ 4 * (P * P)) where

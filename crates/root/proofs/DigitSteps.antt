@@ -35,19 +35,11 @@ module _ {m i root rem rest : ℕ} (t : Turn m i root rem rest) (more : i < 53) 
   -- the digit 1
   pub set : root * 4 + 1 ≤ rem * 4 + rest / 2 ^ 62 → Turn m (i + 1) (root * 2 + 1) (rem * 4 + rest / 2 ^ 62 - (root * 4 + 1)) (rest * 4 % 2 ^ 64)
   set h =
-      let a = t .held in
-      let b = t .small in
-      let c = t .short in
-      let d = t .left in
       record { held = omega (arith, four); small = omega arith; short = omega (arith, two); left = omega arith; count = omega arith }
 
   -- the digit 0
   pub clear : rem * 4 + rest / 2 ^ 62 < root * 4 + 1 → Turn m (i + 1) (root * 2) (rem * 4 + rest / 2 ^ 62) (rest * 4 % 2 ^ 64)
   clear h =
-      let a = t .held in
-      let b = t .small in
-      let c = t .short in
-      let d = t .left in
       record { held = omega (arith, four); small = omega arith; short = omega (arith, two); left = omega arith; count = omega arith }
 
 -- after the last turn no digit is to come

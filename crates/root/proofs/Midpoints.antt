@@ -4,9 +4,9 @@ use Prim.Native.Nat.{ℕ, _+_, _-_, _*_, _≤_, _<_}
 use native.Mathlib.Nat.{mul-le-mul, mul-le-mul-right, mul-lt-mul-of-pos-right, mul-mul-mul-comm, mul-assoc, mul-pos, lt-of-le-of-lt, lt-of-lt-of-le}
 use native.Mathlib.Omega.{arith}
 use Rattle.arith.proofs.Squares.{square-lt}
-use Rattle.root.proofs.RoundedRoots.{Nearest}
+use Rattle.root.proofs.RoundedRoots.{WithinHalf}
 
-module _ (q n c w : ℕ) (C : 0 < c) (r : Nearest n q) (Q : 0 < q) where
+module _ (q n c w : ℕ) (C : 0 < c) (r : WithinHalf n q) (Q : 0 < q) where
   CC : 0 < c * c
   CC = mul-pos C C
 

@@ -21,7 +21,7 @@ unfolding wholeRoot roundRoot
 nearRoot n = roundRoot n (wholeRoot 53 n)
 
 -- The root of the positive number m * 2^(k - 1126). With an even exponent its half is the root's; an odd one is made even by doubling m first.
--- The 52 binary digits behind m are what gives the root 53 digits. 485 is what is left of the exponents: (k - 1126 - 52)/2 counted from -1074.
+-- The 52 binary digits set behind m give the root 53 digits. In units of 2^-1074 it is then that root times 2^(k/2 + 485): 485 is 1074 less half of 1126 + 52.
 unfoldable pub rootOf : Normal → Float
 unfolding nearRoot ofBits
 rootOf n = ofBits binary64 ((n .k / 2 + 485) * 2 ^ 52 + nearRoot (n .m * 2 ^ (n .k % 2) * 2 ^ 52))

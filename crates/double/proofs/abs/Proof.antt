@@ -2,21 +2,21 @@
 use mathlib.Core.Path.{sym, subst}
 use lib.Dec.{T}
 use lib.Ieee.{ofBits}
-use Rattle.double.proofs.Sizes.{negative, null, positive}
+use Rattle.double.proofs.Sizes.{abs-of-negative, abs-of-zero, abs-of-positive}
 use Rattle.double.proofs.abs.Statement.{statement}
 use Rattle.double.proofs.abs.Tie as tie
 
 returns : tie.Need-returns
 unfolding ofBits
-returns c = negative (c .before .args .x) (c .if1 .taken)
+returns c = abs-of-negative (c .before .args .x) (c .if1 .taken)
 
 returns-2 : tie.Need-returns-2
 unfolding ofBits
-returns-2 c = null (c .before .before .args .x) (subst T (sym (c .before .before .good .0 .1)) tt) (c .if2 .taken)
+returns-2 c = abs-of-zero (c .before .before .args .x) (subst T (sym (c .before .before .good .0 .1)) tt) (c .if2 .taken)
 
 returns-3 : tie.Need-returns-3
 unfolding ofBits
-returns-3 c = positive (c .before .before .args .x) (c .before .if1 .left) (c .if2 .left)
+returns-3 c = abs-of-positive (c .before .before .args .x) (c .before .if1 .left) (c .if2 .left)
 
 pub abs-spec : {M : Type 1} → statement M
 abs-spec = tie.close (tie.spec returns returns-2 returns-3)

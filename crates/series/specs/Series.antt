@@ -55,6 +55,10 @@ fall a b = size ((b - 1) / a)
 unfoldable pub lOf : ℕ → ℕ → Signed
 lOf a b = lAt (rise a b) (fall a b) (a * 2 ^ fall a b) (b * 2 ^ rise a b)
 
+-- |x|, over the same denominator
+abbrev pub magnitude : Signed → ℕ
+magnitude x = x .plus - x .less + (x .less - x .plus)
+
 -- x + p/q
 abbrev pub plusFraction : Signed → ℕ → ℕ → Signed
 plusFraction x p q = record { plus = x .plus * q + p * x .over; less = x .less * q; over = x .over * q }

@@ -1,9 +1,8 @@
 -- The two halves of a product make the product, and two numbers that make it are its halves. Assumes nothing.
-use mathlib.Core.Path.{_≡_, sym, ap, ap₂, _∙_}
+use mathlib.Core.Path.{_≡_, ap₂}
 use Prim.Native.Nat.{ℕ, _+_, _*_, _^_, _/_, _%_, _<_}
-use native.Mathlib.Nat.{div-add-mod', mul-add-div-right, mul-add-mod-self-right, div-eq-of-lt, mod-eq-of-lt}
+use native.Mathlib.Nat.{div-add-mod'}
 use native.Mathlib.Omega.{arith}
-use Rattle.wide.specs.declared.Halves.{Halves}
 use Rattle.wide.specs.Products.{productOf}
 
 pub halves-make-product : (a b : ℕ) → productOf a b .hi * 2 ^ 64 + productOf a b .lo ≡ a * b

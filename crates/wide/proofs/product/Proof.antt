@@ -1,7 +1,7 @@
 -- `product` meets its contract: each partial product leaves room for the digits that are added to it, and together they are the product. Assumes nothing.
 use native.Mathlib.Omega.{arith}
 use borrow.Author.Needs.{needs}
-use Rattle.wide.proofs.PartialProducts.{Room, room, four-products}
+use Rattle.wide.proofs.PartialProducts.{room, four-products}
 use Rattle.wide.proofs.Products.{halves-of-product}
 use Rattle.wide.proofs.product.Statement.{statement}
 use Rattle.wide.proofs.product.Tie as tie

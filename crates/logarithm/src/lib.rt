@@ -1,0 +1,95 @@
+// The logarithm kernel, in whole numbers up to the last rounding.
+//
+// A positive double is m·2^(k-1126), 2^52 ≤ m < 2^53. With c the m whose 44 low bits are cleared, c / 2^52 is 1+i/256 for an entry i of the table, and
+//   log x = (k - 1074)·S(1/3) + log (c / 2^52) + log (m / c).
+// The last is S(t) at t = (m - c)/(m + c), which is below 1/512, so that three of the forty terms do. The entry and t are rounded down, in units of
+// 2^-56 and 2^-60, the sum of both in units of 2^-64 is off by less than 300, and the whole in units of 2^-53 by less than half of |k - 1074| and 3.
+mod table;
+
+ghost use mathlib.Core.Path.{_≡_};
+ghost use Prim.Native.Nat.{_*_, _^_, _/_, _<_, _≤_};
+ghost use Rattle.logarithm.specs.Steps.{shortSeriesOf, mantissaOf, scaledOf, positiveOf, logOf};
+
+// floor(d·2^60 / n), in five steps of which each fits a u64.
+fn quotient(d: u64, n: u64) -> u64
+    requires { ⌜ (d < 2 ^ 44) × (0 < n) × (512 * d < n) × (n < 2 ^ 54) ⌝ }
+    ensures { λ r. ⌜ r ≡ d * 2 ^ 60 / n ⌝ }
+{
+    let a = d * 1048576;
+    let b = a % n * 1024;
+    let c = b % n * 1024;
+    let e = c % n * 1024;
+    let f = e % n * 1024;
+    a / n * 1099511627776 + b / n * 1073741824 + c / n * 1048576 + e / n * 1024 + f / n
+}
+
+// 2 (t + t³/3 + t⁵/5), t and the answer in units of 2^-64.
+fn short_series(t: u64) -> u64
+    requires { ⌜ t ≤ 2 ^ 56 ⌝ }
+    ensures { λ r. ⌜ r ≡ shortSeriesOf t ⌝ }
+{
+    let t2 = wide::high(t, t);
+    let t3 = wide::high(t, t2);
+    let t5 = wide::high(t3, t2);
+    2 * t + 2 * t3 / 3 + 2 * t5 / 5
+}
+
+// The logarithm of m / 2^52, in units of 2^-64.
+fn mantissa(m: u64) -> u64
+    requires { ⌜ (2 ^ 52 ≤ m) × (m < 2 ^ 53) ⌝ }
+    ensures { λ r. ⌜ r ≡ mantissaOf m ⌝ }
+{
+    let h = m / 17592186044416;
+    let t = quotient(m % 17592186044416, m + h * 17592186044416) * 16;
+    let i = (h - 256) as usize;
+    table::entry(i) * 256 + short_series(t)
+}
+
+// n / 2^53; the literal is 2^-53.
+fn scaled(n: u64) -> f64
+    ensures { λ r. ⌜ r ≡ scaledOf n ⌝ }
+{
+    std::num::nearest_u64_to_f64(n) * 0.00000000000000011102230246251565
+}
+
+// S(1/3) in units of 2^-53: S(1/3)·2^53 is 6243314768165359.2089..
+const LN2: u64 = 6243314768165359;
+
+// The logarithm of m·2^(k-1126). Below 1 the turns of S(1/3) outweigh the mantissa's part by at least a unit, so that the answer is never -0.
+fn positive(m: u64, k: u64) -> f64
+    requires { ⌜ (2 ^ 52 ≤ m) × (m < 2 ^ 53) × (k < 2098) ⌝ }
+    ensures { λ r. ⌜ r ≡ positiveOf m k ⌝ }
+{
+    let q = mantissa(m) / 2048;
+    if k < 1074 {
+        -scaled((1074 - k) * LN2 - q)
+    } else {
+        scaled((k - 1074) * LN2 + q)
+    }
+}
+
+// 01, log: of NaN it is NaN, of zero or below minus infinity, of +infinity itself. The sign is asked for first: -0 and the negative numbers have the highest bit.
+pub fn log(x: f64) -> f64
+    ensures { λ r. ⌜ r ≡ logOf x ⌝ }
+{
+    if x != x {
+        return double::nan();
+    }
+    let b = f64::to_bits(x);
+    if b >= 9223372036854775808 {
+        return -1.0 / 0.0;
+    }
+    let field = b / 4503599627370496;
+    let digits = b % 4503599627370496;
+    match field {
+        0 => {
+            if digits == 0 {
+                return -1.0 / 0.0;
+            }
+            let n = double::normal_of_low(digits);
+            positive(n.m, n.k)
+        }
+        1..=2046 => positive(4503599627370496 + digits, field + 51),
+        _ => 1.0 / 0.0,
+    }
+}

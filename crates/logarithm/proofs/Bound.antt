@@ -1,6 +1,6 @@
 -- The answer for m·2^(k-1126) is within 2^-44·max(1, |L|) of L, L taken with m / 2^52 and the exponent k - 1074; its sign is that of the exponent. Assumes nothing.
 use mathlib.Core.Path.{_≡_, refl, sym, ap, subst}
-use mathlib.Core.Bool.{Bool, true, false}
+use mathlib.Core.Bool.{true, false, not}
 use Prim.Native.Nat.{ℕ, zero, suc, _+_, _*_, _/_, _^_, _-_, _≤_, _<_, max}
 use native.Mathlib.Nat.{le-trans, le-of-eq, le-of-lt, one-mul, mul-le-mul-left, mul-le-mul-right, le-max-left, le-max-right}
 use native.Mathlib.Omega.{arith}
@@ -122,7 +122,7 @@ value-of-neg : (x : Float) (h : ℕ) → Units x h → Sized (neg x) true h
 unfolding neg
 value-of-neg nan h v = absurd v
 value-of-neg (inf s) h v = absurd v
-value-of-neg (fin s m e) h v = (ap mathlib.Core.Bool.not (v .0), v .1)
+value-of-neg (fin s m e) h v = (ap not (v .0), v .1)
 
 above-shape :
     (y w h o p l a x : ℕ) → p ≡ l + a → y * (h * o) ≤ y * (a * w) + x * w → y * (a * w) ≤ y * (h * o) + x * w

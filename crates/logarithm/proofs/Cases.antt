@@ -2,7 +2,7 @@
 use mathlib.Core.Path.{_≡_, refl, sym, ap, _∙_}
 use mathlib.Core.Bool.{Bool, true, false, cond}
 use Prim.Native.Nat.{ℕ, zero, suc, _+_, _^_, _≤_, _<_}
-use native.Mathlib.Nat.{not-suc-le-zero}
+use native.Mathlib.Nat.{not-suc-le-zero, le-of-eq}
 use native.Mathlib.Omega.{arith}
 use lib.Count.{trailingZeros}
 use lib.Ieee.{Float, nan, inf, binary64, neg, div, isNan, ofBits, ofFields, odd, toBits}
@@ -25,12 +25,12 @@ infinity = refl
 pub field-of-zero : (f t : ℕ) → f ≡ 0 → t ≡ 0 → inf true ≡ byFieldOf f t
 unfolding byFieldOf
 field-of-zero zero t e z = rw (eq-eqb t 0 z)
-field-of-zero (suc f) t e z = absurd (not-suc-le-zero (native.Mathlib.Nat.le-of-eq e))
+field-of-zero (suc f) t e z = absurd (not-suc-le-zero (le-of-eq e))
 
 pub field-low : (f t : ℕ) (r : Float) → f ≡ 0 → (t ≡ 0 → ⊥) → r ≡ positiveOf (normalOf 0 t .m) (normalOf 0 t .k) → r ≡ byFieldOf f t
 unfolding byFieldOf
 field-low zero t r e n k = rw (ne-eqb t 0 n) k
-field-low (suc f) t r e n k = absurd (not-suc-le-zero (native.Mathlib.Nat.le-of-eq e))
+field-low (suc f) t r e n k = absurd (not-suc-le-zero (le-of-eq e))
 
 pub field-mid : (f t : ℕ) (r : Float) → 1 ≤ f → f < 2047 → r ≡ positiveOf (2 ^ 52 + t) (f + 51) → r ≡ byFieldOf f t
 unfolding byFieldOf normalOf

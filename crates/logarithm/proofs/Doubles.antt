@@ -2,11 +2,11 @@
 use mathlib.Core.Path.{_≡_, refl, sym, ap, _∙_, subst}
 use mathlib.Core.Bool.{false}
 use Prim.Native.Nat.{ℕ, zero, suc, _+_, _-_, _*_, _/_, _^_, _≤_, _<_}
-use native.Mathlib.Nat.{not-le-of-lt, lt-of-not-le, le-of-suc-le-suc, zero-mul, mul-lt-mul-of-pos-right, mul-one, mul-pos, mul-le-mul-left, mul-le-mul-right, le-of-mul-le-mul-right, lt-of-mul-lt-mul-right}
+use native.Mathlib.Nat.{not-le-of-lt, lt-of-not-le, le-of-suc-le-suc, zero-mul, mul-one, mul-pos}
 use native.Mathlib.Decide.{decLt}
 use native.Mathlib.Omega.{arith}
 use lib.Dec.{T}
-use lib.Pow.{pow-pos, pow-mono}
+use lib.Pow.{pow-pos}
 use lib.IntN.{ℤ}
 use lib.Ieee.{Float, fin, binary64, fits, neg, up, down, isNan, toBits}
 use lib.Ieee.Fits.{up-pos, down-pos}
@@ -15,7 +15,7 @@ use Rattle.double.specs.Fields.{Units, signOf, fieldOf, digitsOf, mag, normalOf
 use Rattle.double.proofs.Fields.{Measured, measured}
 use Rattle.double.proofs.Normalised.{Normalised, of-double, fraction-up, fraction-down}
 use Rattle.series.specs.Series.{Written, lAt, lOf}
-use Rattle.series.proofs.SameFraction.{L-by-any}
+use Rattle.series.proofs.SameFraction.{positive-below, from-one-of, below-one-of, L-by-any}
 use Rattle.series.proofs.SignedFractions.{same-back, over-pos, over-pos-of}
 use Rattle.logarithm.specs.Steps.{ln2, scaledOf, mantissaOf, positiveOf, logOf}
 use Rattle.logarithm.specs.Bound.{Close, Negative, NotNegative}
@@ -111,6 +111,17 @@ module _ (n : ℕ) (e : ℤ) (F : T (fits binary64 (fin false (suc n) e))) where
   down-written : k < 1074 → Written a b 0 (1074 - k) m (2 ^ 52)
   down-written h = record { from-one = m-from; below-two = m-to; value = down-value h ∙ sym (ap (λ (v : ℕ). m * v) (mul-one b)) }
 
+  -- how many turns there are, up or down
+
+  few : (k : ℕ) → k < 2098 → k - 1074 ≤ 1023
+  few k h = omega arith
+
+  some : (k : ℕ) → k < 1074 → 1 ≤ 1074 - k
+  some k h = omega arith
+
+  most : (k : ℕ) → 1074 - k ≤ 1074
+  most k = omega arith
+
   -- ---- the bound
 
   pub log-close : Close (logOf x) (lOf a b)
@@ -118,15 +129,6 @@ module _ (n : ℕ) (e : ℤ) (F : T (fits binary64 (fin false (suc n) e))) where
     where
       moved : (r : Float) (u f : ℕ) → Written a b u f m (2 ^ 52) → Close r (lAt u f m (2 ^ 52)) → Close r (lOf a b)
       moved r u f w c = close-moves r (over-pos u f m (2 ^ 52) (omega arith)) (over-pos-of a b b-pos) (same-back (L-by-any a-pos b-pos w)) c
-
-      few : (k : ℕ) → k < 2098 → k - 1074 ≤ 1023
-      few k h = omega arith
-
-      some : (k : ℕ) → k < 1074 → 1 ≤ 1074 - k
-      some k h = omega arith
-
-      most : (k : ℕ) → 1074 - k ≤ 1074
-      most k = omega arith
 
       from : (k : ℕ) → (k < 1074 → ⊥) → 1074 ≤ k
       from k h = omega arith
@@ -139,42 +141,20 @@ module _ (n : ℕ) (e : ℤ) (F : T (fits binary64 (fin false (suc n) e))) where
           subst (λ (r : Float). Close r (lOf a b)) (up-branch m k (from k h))
           (moved _ (k - 1074) 0 (up-written (from k h)) (up-close (k - 1074) m m-from m-to (few k (normal .most))))
 
+  pub log-close-by-any : (r f c d : ℕ) → Written a b r f c d → Close (logOf x) (lAt r f c d)
+  log-close-by-any r f c d w =
+      close-moves (logOf x) (over-pos-of a b b-pos) (over-pos r f c d (positive-below w)) (L-by-any a-pos b-pos w) log-close
+
   -- ---- the sign: k - 1074 is below 0 exactly for x below 1
-
-  at-least : (a b m v : ℕ) → 2 ^ 52 ≤ m → a * 2 ^ 52 ≡ m * (b * v) → 1 ≤ v → b ≤ a
-  at-least a b m v lo e h =
-      le-of-mul-le-mul-right {k = 2 ^ 52} (omega (arith, mul-le-mul-right (b * v) lo, mul-le-mul-left (2 ^ 52 * b) h)) (pow-pos 52)
-
-  less-than : (a b m v : ℕ) → m < 2 ^ 53 → a * v * 2 ^ 52 ≡ m * b → 2 ≤ v → 0 < b → a < b
-  less-than a b m v hi e h p =
-      lt-of-mul-lt-mul-right (2 ^ 53) (omega (arith, mul-lt-mul-of-pos-right hi p, mul-le-mul-left (2 ^ 52 * a) h))
 
   pub log-below-one : a < b → Negative (logOf x)
   log-below-one h = subst Negative (down-branch m k low ∙ by-parts) (down-sign (1074 - k) m m-from m-to (some k low) (most k))
     where
       low : k < 1074
-      low = lt-of-not-le (λ (g : 1074 ≤ k). not-le-of-lt h (at-least a b m (2 ^ (k - 1074)) m-from (up-value g) (pow-pos (k - 1074))))
-
-      some : (k : ℕ) → k < 1074 → 1 ≤ 1074 - k
-      some k h = omega arith
-
-      most : (k : ℕ) → 1074 - k ≤ 1074
-      most k = omega arith
+      low = lt-of-not-le (λ (g : 1074 ≤ k). not-le-of-lt h (from-one-of (up-written g)))
 
   pub log-from-one : b ≤ a → NotNegative (logOf x)
   log-from-one h = subst NotNegative (up-branch m k high ∙ by-parts) (up-sign (k - 1074) m m-from m-to (few k (normal .most)))
     where
-      doubled : (i : ℕ) → 1 ≤ i → 2 ≤ 2 ^ i
-      doubled i l = pow-mono {i = 1} {j = i} l
-
-      some : (k : ℕ) → k < 1074 → 1 ≤ 1074 - k
-      some k h = omega arith
-
       high : 1074 ≤ k
-      high =
-          le-of-suc-le-suc
-          (lt-of-not-le
-          (λ (g : suc k ≤ 1074). not-le-of-lt (less-than a b m (2 ^ (1074 - k)) m-to (down-value g) (doubled (1074 - k) (some k g)) b-pos) h))
-
-      few : (k : ℕ) → k < 2098 → k - 1074 ≤ 1023
-      few k h = omega arith
+      high = le-of-suc-le-suc (lt-of-not-le (λ (g : suc k ≤ 1074). not-le-of-lt (below-one-of (down-written g) b-pos (some k g)) h))

@@ -1,4 +1,5 @@
--- The laws of log.
+-- The way in: Promise, what document 01 asks of log; TableRule, what it asks of the table. Below them, from the code upwards: LongDivision and ShortSeries, a mantissa's
+-- logarithm (Mantissas), the sum with the turns (Sums), its rounding (Fractions), the errors together (Slack), the bound by m and k (Bound), by the double (Doubles).
 pub mod LongDivision
 pub mod TableRule
 pub mod ShortSeries

@@ -8,7 +8,7 @@ use lib.Ieee.{Float, nan, inf, fin, binary64, fits, up, down}
 use Rattle.double.specs.Numbers.{#0, #1}
 use Rattle.double.specs.Fields.{Sized}
 use Rattle.rounding.specs.Within.{Within}
-use Rattle.series.specs.Series.{Signed, lOf, magnitude}
+use Rattle.series.specs.Series.{Signed, Written, rise, fall, lAt, lOf, magnitude}
 use Rattle.logarithm.specs.Steps.{logOf}
 
 -- 01: "the distance from L(x) is at most 2^-44·max(1, |L(x)|)", of an answer r and l = L(x). There are no real numbers here:
@@ -21,12 +21,13 @@ pub record Close (r : Float) (l : Signed) : Type 0 where
       Within (2 ^ 44 * (cond sign 0 units * l .over + l .less * 2 ^ 1074)) (2 ^ 44 * (cond sign units 0 * l .over + l .plus * 2 ^ 1074))
       (max (l .over) (magnitude l) * 2 ^ 1074)
 
--- r is a finite number below 0; from 0 up, and not -0
+-- r is a finite number below 0
 pub record Negative (r : Float) : Type 0 where
   pub units : ℕ
   pub positive : 0 < units
   pub value : Sized r true units
 
+-- r is a finite number from +0 up, and not -0
 pub record NotNegative (r : Float) : Type 0 where
   pub units : ℕ
   pub value : Sized r false units
@@ -45,6 +46,12 @@ pub record Promise : Type 0 where
   -- 01: "otherwise the distance from L(x) is at most 2^-44·max(1, |L(x)|)"
   pub otherwise :
       (n : ℕ) (e : ℤ) → T (fits binary64 (fin false (suc n) e)) → Close (logOf (fin false (suc n) e)) (lOf (suc n * up e) (down e))
+  -- 01: "for a positive fraction x = m·2^k with m in [1,2)": lOf's k and m are such, and by any other such k and m the distance is as small
+  pub k-and-m :
+      (n : ℕ) (e : ℤ) → let a = suc n * up e in let b = down e in Written a b (rise a b) (fall a b) (a * 2 ^ fall a b) (b * 2 ^ rise a b)
+  pub by-any-k-and-m :
+      (n : ℕ) (e : ℤ) → T (fits binary64 (fin false (suc n) e)) → (r f c d : ℕ) → Written (suc n * up e) (down e) r f c d
+      → Close (logOf (fin false (suc n) e)) (lAt r f c d)
   -- not in 01: the sign of log x is that of x - 1, and no answer is -0
   pub below-one : (n : ℕ) (e : ℤ) → T (fits binary64 (fin false (suc n) e)) → suc n * up e < down e → Negative (logOf (fin false (suc n) e))
   pub from-one : (n : ℕ) (e : ℤ) → T (fits binary64 (fin false (suc n) e)) → down e ≤ suc n * up e → NotNegative (logOf (fin false (suc n) e))

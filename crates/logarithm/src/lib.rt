@@ -3,7 +3,7 @@
 // A positive double is m·2^(k-1126), 2^52 ≤ m < 2^53. With c the m whose 44 low bits are cleared, c / 2^52 is 1+i/256 for an entry i of the table, and
 //   log x = (k - 1074)·S(1/3) + log (c / 2^52) + log (m / c).
 // The last is S(t) at t = (m - c)/(m + c), which is below 1/512, so that three of the forty terms do. The entry and t are rounded down, in units of
-// 2^-56 and 2^-60, the sum of both in units of 2^-64 is off by less than 300, and the whole in units of 2^-53 by less than half of |k - 1074| and 3.
+// 2^-56 and 2^-60; their sum is off by less than 300 units of 2^-64, and the whole by at most |k - 1074| + 3 units of 2^-54, of which 2^-44 is 1024.
 mod table;
 
 ghost use mathlib.Core.Path.{_≡_};
@@ -39,8 +39,8 @@ fn mantissa(m: u64) -> u64
     requires { ⌜ (2 ^ 52 ≤ m) × (m < 2 ^ 53) ⌝ }
     ensures { λ r. ⌜ r ≡ mantissaOf m ⌝ }
 {
-    let h = m / 17592186044416;
-    let t = quotient(m % 17592186044416, m + h * 17592186044416) * 16;
+    let h = m / 0x1000_0000_0000;
+    let t = quotient(m % 0x1000_0000_0000, m + h * 0x1000_0000_0000) * 16;
     let i = (h - 256) as usize;
     table::entry(i) * 256 + short_series(t)
 }
@@ -76,11 +76,11 @@ pub fn log(x: f64) -> f64
         return double::nan();
     }
     let b = f64::to_bits(x);
-    if b >= 9223372036854775808 {
+    if b >= 0x8000_0000_0000_0000 {
         return -1.0 / 0.0;
     }
-    let field = b / 4503599627370496;
-    let digits = b % 4503599627370496;
+    let field = b / 0x10_0000_0000_0000;
+    let digits = b % 0x10_0000_0000_0000;
     match field {
         0 => {
             if digits == 0 {
@@ -89,7 +89,7 @@ pub fn log(x: f64) -> f64
             let n = double::normal_of_low(digits);
             positive(n.m, n.k)
         }
-        1..=2046 => positive(4503599627370496 + digits, field + 51),
+        1..=2046 => positive(0x10_0000_0000_0000 + digits, field + 51),
         _ => 1.0 / 0.0,
     }
 }

@@ -27,6 +27,23 @@ exponent-le i j k l h = omega (arith, lt-of-not-le (λ (g : suc (k + l) ≤ i + 
     below : 2 ^ (i + j) < 2 ^ suc (k + l)
     below = omega (arith, pow-add 2 i j, pow-add 2 k l, pow-suc 2 (k + l))
 
+pub positive-below : {a b u f c d : ℕ} → Written a b u f c d → 0 < d
+positive-below {c = c} {d = d} w = go c d (w .from-one) (w .below-two)
+  where
+    go : (c d : ℕ) → d ≤ c → c < 2 * d → 0 < d
+    go c d l h = omega arith
+
+-- x is from 1 up where its k is not negative, and below 1 where it is
+pub from-one-of : {a b u c d : ℕ} → Written a b u 0 c d → b ≤ a
+from-one-of {a} {b} {u} {c} {d} w =
+    let h : b * 2 ^ u ≤ a * 1 = at-least (a * 1) (b * 2 ^ u) c d (positive-below w) (w .value) (w .from-one) in
+    omega (arith, mul-le-mul-left b (pow-pos u))
+
+pub below-one-of : {a b f c d : ℕ} → Written a b 0 f c d → 0 < b → 1 ≤ f → a < b
+below-one-of {a} {b} {f} {c} {d} w pb h =
+    let l : a * 2 ^ f < 2 * (b * 1) = less-than (a * 2 ^ f) (b * 1) c d (omega arith) (w .value) (w .below-two) in
+    omega (arith, mul-le-mul-left a (pow-mono {i = 1} {j = f} h))
+
 mantissas-meet : (A B A′ B′ c d c′ d′ : ℕ) → 0 < A′ * B → A * d ≡ c * B → A′ * d′ ≡ c′ * B′ → A * B′ ≡ A′ * B → c * d′ ≡ c′ * d
 mantissas-meet A B A′ B′ c d c′ d′ p e e′ s =
     eq-of-mul-eq-mul-right (A′ * B) p (c * d′) (c′ * d) (regrouped ∙ ap₂ _*_ (sym e) e′ ∙ regrouped′ ∙ ap (λ (t : ℕ). c′ * d * t) s)
@@ -61,23 +78,17 @@ sums-meet u f u′ f′ t T N D N′ D′ e h = omega (arith, ap (λ (x : ℕ). 
 module _
     {a b u f c d a′ b′ u′ f′ c′ d′ : ℕ} (w : Written a b u f c d) (w′ : Written a′ b′ u′ f′ c′ d′) (pa : 0 < a) (pb : 0 < b) (pa′ : 0 < a′)
     (pb′ : 0 < b′) (same : a * b′ ≡ a′ * b) where
-  d-pos : 0 < d
-  d-pos = let l : d ≤ c = w .from-one in let h : c < 2 * d = w .below-two in omega arith
-
-  d-pos′ : 0 < d′
-  d-pos′ = let l : d′ ≤ c′ = w′ .from-one in let h : c′ < 2 * d′ = w′ .below-two in omega arith
-
   same-exponent : u + f′ ≡ u′ + f
   same-exponent =
       let p : f + u′ ≤ f′ + u =
       exponent-le f u′ f′ u
       (powers-meet a b a′ b′ (2 ^ f) (2 ^ u) (2 ^ f′) (2 ^ u′) (mul-pos pa′ (pow-pos f′)) same
-      (at-least (a′ * 2 ^ f′) (b′ * 2 ^ u′) c′ d′ d-pos′ (w′ .value) (w′ .from-one))
+      (at-least (a′ * 2 ^ f′) (b′ * 2 ^ u′) c′ d′ (positive-below w′) (w′ .value) (w′ .from-one))
       (less-than (a * 2 ^ f) (b * 2 ^ u) c d (mul-pos pb (pow-pos u)) (w .value) (w .below-two))) in
       let q : f′ + u ≤ f + u′ =
       exponent-le f′ u f u′
       (powers-meet a′ b′ a b (2 ^ f′) (2 ^ u′) (2 ^ f) (2 ^ u) (mul-pos pa (pow-pos f)) (sym same)
-      (at-least (a * 2 ^ f) (b * 2 ^ u) c d d-pos (w .value) (w .from-one))
+      (at-least (a * 2 ^ f) (b * 2 ^ u) c d (positive-below w) (w .value) (w .from-one))
       (less-than (a′ * 2 ^ f′) (b′ * 2 ^ u′) c′ d′ (mul-pos pb′ (pow-pos u′)) (w′ .value) (w′ .below-two))) in
       omega arith
 
@@ -103,7 +114,7 @@ module _
   L-of-same = record {
     crosswise =
         sums-meet u f u′ f′ (sNum 1 3) (sDen 3) _ _ _ _ same-exponent
-        (S-of-same (c - d) (c + d) (c′ - d′) (c′ + d′) (omega (arith, d-pos)) (omega (arith, d-pos′))
+        (S-of-same (c - d) (c + d) (c′ - d′) (c′ + d′) (omega (arith, positive-below w)) (omega (arith, positive-below w′))
         (ratios-meet c d c′ d′ (w .from-one) (w′ .from-one) same-mantissa));
   }
 

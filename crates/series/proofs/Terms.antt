@@ -2,7 +2,7 @@
 use mathlib.Core.Path.{_≡_, sym, ap, ap₂, _∙_}
 use mathlib.Core.Bool.{Bool}
 use Prim.Native.Nat.{ℕ, zero, suc, _+_, _*_, _/_, _^_, _<_}
-use native.Mathlib.Nat.{mul-pos, one-le-pow, pow-suc, mul-assoc}
+use native.Mathlib.Nat.{mul-pos, one-le-pow, pow-zero, pow-suc, mul-assoc}
 use native.Mathlib.Omega.{arith}
 use lib.Dec.{T, eqb, eqb→eq, leb→le}
 use Rattle.arith.proofs.Tables.{every, at-index}
@@ -35,7 +35,8 @@ pub sNum-by-weights : (p q : ℕ) → sNum p q ≡ 2 * odds weight 40 p q
 unfolding sNum term weight
 sNum-by-weights p q =
     ap (λ (x : ℕ). 2 * x)
-    (odds-as-written weight p q 0 40 (term p q) (λ j i l e. ap₂ (λ (x y : ℕ). weight j * p ^ x * q ^ y) (omega arith) (omega arith)) ∙ omega (arith, native.Mathlib.Nat.pow-zero q, ap (λ (x : ℕ). odds weight 40 p q * x) (native.Mathlib.Nat.pow-zero q)))
+    (odds-as-written weight p q 0 40 (term p q) (λ j i l e. ap₂ (λ (x y : ℕ). weight j * p ^ x * q ^ y) (omega arith) (omega arith))
+    ∙ omega (arith, ap (λ (x : ℕ). odds weight 40 p q * x) (pow-zero q)))
 
 pub sDen-by-weights : (q : ℕ) → sDen q * q ≡ allOdds * q ^ 80
 unfolding sDen

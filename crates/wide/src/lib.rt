@@ -13,16 +13,16 @@ pub struct Halves {
 pub fn product(a: u64, b: u64) -> Halves
     ensures { λ r. ⌜ r ≡ productOf a b ⌝ }
 {
-    let a1 = a / 4294967296;
-    let a0 = a % 4294967296;
-    let b1 = b / 4294967296;
-    let b0 = b % 4294967296;
+    let a1 = a / 0x1_0000_0000;
+    let a0 = a % 0x1_0000_0000;
+    let b1 = b / 0x1_0000_0000;
+    let b0 = b % 0x1_0000_0000;
     let low = a0 * b0;
-    let mid = a1 * b0 + low / 4294967296;
-    let cross = a0 * b1 + mid % 4294967296;
+    let mid = a1 * b0 + low / 0x1_0000_0000;
+    let cross = a0 * b1 + mid % 0x1_0000_0000;
     Halves {
-        hi: a1 * b1 + mid / 4294967296 + cross / 4294967296,
-        lo: cross % 4294967296 * 4294967296 + low % 4294967296,
+        hi: a1 * b1 + mid / 0x1_0000_0000 + cross / 0x1_0000_0000,
+        lo: cross % 0x1_0000_0000 * 0x1_0000_0000 + low % 0x1_0000_0000,
     }
 }
 

@@ -1,0 +1,42 @@
+-- The power by the cases of document 01. Assumes nothing.
+use mathlib.Core.Path.{_≡_, refl, sym, ap, _∙_}
+use mathlib.Core.Bool.{Bool, true, false, cond}
+use lib.Ieee.{Float, nan, eq, ne, mul}
+use Rattle.double.specs.Operators.{_⊗_, _≺_}
+use Rattle.double.specs.Numbers.{#0, #1, #2}
+use Rattle.double.proofs.NotNan.{nan-of}
+use Rattle.kernels.specs.Door.{logOf, expOf, powfOf}
+
+module _ (x y : Float) where
+  pub of-zero : eq y #0 ≡ true → #1 ≡ powfOf x y
+  unfolding powfOf
+  of-zero a = simp (a)
+
+  -- for y 1 and 2 as for every other but 0
+  pub of-nan : eq y #0 ≡ false → ne x x ≡ true → nan ≡ powfOf x y
+  unfolding powfOf mul
+  of-nan a b = go (eq y #1) (eq y #2) refl refl
+    where
+      e : x ≡ nan
+      e = nan-of x b
+
+      go : (p q : Bool) → eq y #1 ≡ p → eq y #2 ≡ q → nan ≡ powfOf x y
+      go true q h k = simp (a, h) (sym e)
+      go false true h k = simp (a, h, k) (ap (λ (z : Float). z ⊗ z) (sym e))
+      go false false h k = simp (a, h, k, b)
+
+  pub of-one : eq y #0 ≡ false → eq y #1 ≡ true → x ≡ powfOf x y
+  unfolding powfOf
+  of-one a b = simp (a, b)
+
+  pub of-two : eq y #0 ≡ false → eq y #1 ≡ false → eq y #2 ≡ true → x ⊗ x ≡ powfOf x y
+  unfolding powfOf
+  of-two a b c = simp (a, b, c)
+
+  pub of-negative : eq y #0 ≡ false → eq y #1 ≡ false → eq y #2 ≡ false → ne x x ≡ false → (x ≺ #0) ≡ true → nan ≡ powfOf x y
+  unfolding powfOf
+  of-negative a b c d e = simp (a, b, c, d, e)
+
+  pub otherwise : eq y #0 ≡ false → eq y #1 ≡ false → eq y #2 ≡ false → ne x x ≡ false → (x ≺ #0) ≡ false → expOf (y ⊗ logOf x) ≡ powfOf x y
+  unfolding powfOf
+  otherwise a b c d e = simp (a, b, c, d, e)

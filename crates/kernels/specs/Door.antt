@@ -1,0 +1,6 @@
+-- The one door: what the four kernels compute, under the names that every cone's formula cites. Definitions only.
+-- What is known of them stands with each: Rattle.root.specs.Nearest, Rattle.logarithm.specs.Bound, Rattle.exponential.specs.Bound, proofs/PowfCases.
+unfoldable pub use Rattle.root.specs.Steps.{sqrtOf}
+unfoldable pub use Rattle.logarithm.specs.Steps.{logOf}
+unfoldable pub use Rattle.exponential.specs.Steps.{expOf}
+unfoldable pub use Rattle.kernels.specs.Powf.{powfOf}

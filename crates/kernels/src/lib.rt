@@ -1,0 +1,46 @@
+// The four kernels behind one door: nothing above this crate knows which crate computes a root, a logarithm or an exponential.
+ghost use mathlib.Core.Path.{_≡_};
+ghost use Rattle.kernels.specs.Door.{sqrtOf, logOf, expOf, powfOf};
+
+// The square root.
+pub fn sqrt(x: f64) -> f64
+    ensures { λ r. ⌜ r ≡ sqrtOf x ⌝ }
+{
+    root::sqrt(x)
+}
+
+// The natural logarithm; 000's `logsafe`.
+pub fn log(x: f64) -> f64
+    ensures { λ r. ⌜ r ≡ logOf x ⌝ }
+{
+    logarithm::log(x)
+}
+
+// The exponential.
+pub fn exp(x: f64) -> f64
+    ensures { λ r. ⌜ r ≡ expOf x ⌝ }
+{
+    exponential::exp(x)
+}
+
+// The power x^y. A NaN is asked for before y is 1 or 2, which answer it as 01 does: "a NaN among these has the bits above", which x itself or x·x may not have.
+pub fn powf(x: f64, y: f64) -> f64
+    ensures { λ r. ⌜ r ≡ powfOf x y ⌝ }
+{
+    if y == 0.0 {
+        return 1.0;
+    }
+    if x != x {
+        return double::nan();
+    }
+    if y == 1.0 {
+        return x;
+    }
+    if y == 2.0 {
+        return x * x;
+    }
+    if x < 0.0 {
+        return double::nan();
+    }
+    exp(y * log(x))
+}

@@ -74,7 +74,7 @@ module _ (k m a : ℕ) (pm : 0 < m) (h : a ≤ k * m) where
       go : (n : ℕ) → n ≤ a + (m - 1) → n < a + m
       go n l = omega arith
 
-  up-most : c ≤ k
+  pub up-most : c ≤ k
   up-most = go c k (lt-of-mul-lt-mul-right m (one-more (c * m) (k * m) ((k + 1) * m) up-below h (add-mul k 1 m ∙ ap (λ (x : ℕ). k * m + x) (one-mul m))))
     where
       go : (x y : ℕ) → x < y + 1 → x ≤ y

@@ -3,7 +3,7 @@
 use mathlib.Core.Path.{_≡_, refl, sym, ap, _∙_, subst}
 use mathlib.Core.Bool.{Bool, true, false, not, cond}
 use mathlib.Core.Logic.{_⊎_, inl, inr}
-use Prim.Native.Nat.{ℕ, zero, suc, _+_, _-_, _*_, _/_, _%_, _^_, _≤_, _<_}
+use Prim.Native.Nat.{ℕ, _+_, _-_, _*_, _/_, _^_, _≤_, _<_}
 use native.Mathlib.Nat.{le-trans, le-of-eq, lt-of-lt-of-le, lt-of-le-of-lt, le-div-iff-mul-le, div-lt-iff-lt-mul, div-mul-le-self, lt-div-mul-add, eq-or-lt-of-le, not-le-of-lt, le-of-suc-le-suc, suc-mul, add-le-add, le-refl, mul-le-mul-right}
 use native.Mathlib.Numerals.{add-one, add-one-le}
 use native.Mathlib.Omega.{arith}
@@ -11,7 +11,7 @@ use lib.Dec.{T, leb, ltb, leb→le, ltb→lt, nleb→lt, lit≤, lit<}
 use lib.Pow.{shr-mono}
 use Rattle.arith.proofs.Tables.{every, at-index}
 use Rattle.exponential.specs.Sum.{thirdNum, thirdDen}
-use Rattle.exponential.specs.Steps.{turn, turnRest, home, fraction, border, gap, placeOf, rest, thirdIn64, InRange, AtPlace}
+use Rattle.exponential.specs.Steps.{thirdIn53, thirdRest, home, homeRest, border, gap, placeOf, rest, thirdIn64, InRange, AtPlace}
 
 -- what 1024·S(1/3) is rounded up by, in units of 2^-64 over thirdDen
 unfoldable pub excess : ℕ
@@ -62,28 +62,28 @@ pub border-below-next : (k : ℕ) → k < 2048 → border k * 2048 * thirdDen < 
 unfolding border-near
 border-below-next k h = ltb→lt _ _ (at-index border-near 2048 border-near-ok k h)
 
--- the borders lie between the multiples of turn + 1, one place off
+-- the borders lie between the multiples of thirdIn53 + 1, one place off
 below-multiple : ℕ → Bool
 unfolding border
-below-multiple k = leb (border (k + 2)) ((k + 2) * (turn + 1))
+below-multiple k = leb (border (k + 2)) ((k + 2) * (thirdIn53 + 1))
 
 below-multiple-ok : T (every below-multiple 2048)
 unfolding every below-multiple
 below-multiple-ok = tt
 
-border-below-multiple : (k : ℕ) → k < 2048 → border (k + 2) ≤ (k + 2) * (turn + 1)
+border-below-multiple : (k : ℕ) → k < 2048 → border (k + 2) ≤ (k + 2) * (thirdIn53 + 1)
 unfolding below-multiple
 border-below-multiple k h = leb→le _ _ (at-index below-multiple 2048 below-multiple-ok k h)
 
 above-multiple : ℕ → Bool
 unfolding border
-above-multiple k = leb ((k + 1) * (turn + 1)) (border (k + 2))
+above-multiple k = leb ((k + 1) * (thirdIn53 + 1)) (border (k + 2))
 
 above-multiple-ok : T (every above-multiple 2048)
 unfolding every above-multiple
 above-multiple-ok = tt
 
-border-above-multiple : (k : ℕ) → k < 2048 → (k + 1) * (turn + 1) ≤ border (k + 2)
+border-above-multiple : (k : ℕ) → k < 2048 → (k + 1) * (thirdIn53 + 1) ≤ border (k + 2)
 unfolding above-multiple
 border-above-multiple k h = leb→le _ _ (at-index above-multiple 2048 above-multiple-ok k h)
 
@@ -116,7 +116,7 @@ rest-small y part k h l = go (border k) (border (k + 1)) (gap k) (h .from) (h .b
 border-mono : {j k : ℕ} → j ≤ k → border j ≤ border k
 unfolding border
 border-mono h =
-    add-le-add (add-le-add (mul-le-mul-right turn h) (shr-mono 40 (add-le-add (mul-le-mul-right turnRest h) (le-refl 116201501695)))) (le-refl 1)
+    add-le-add (add-le-add (mul-le-mul-right thirdIn53 h) (shr-mono 40 (add-le-add (mul-le-mul-right thirdRest h) (le-refl homeRest)))) (le-refl 1)
 
 last-border : border 2047 < 2 ^ 64
 unfolding border
@@ -141,7 +141,7 @@ module _ (y : ℕ) (range : InRange y) where
   high-y = omega arith
 
   k₀ : ℕ
-  k₀ = y / (turn + 1)
+  k₀ = y / (thirdIn53 + 1)
 
   k₀-low : 2 ≤ k₀
   unfolding k₀
@@ -155,14 +155,14 @@ module _ (y : ℕ) (range : InRange y) where
   unfolding k₀
   low-border = go (k₀ - 2) (omega (arith, k₀-low)) (border-below-multiple (k₀ - 2) (omega (arith, k₀-high)))
     where
-      go : (j : ℕ) → k₀ ≡ j + 2 → border (j + 2) ≤ (j + 2) * (turn + 1) → border k₀ ≤ y
-      go j e b = le-trans (subst (λ (x : ℕ). border x ≤ x * (turn + 1)) (sym e) b) (div-mul-le-self y (turn + 1))
+      go : (j : ℕ) → k₀ ≡ j + 2 → border (j + 2) ≤ (j + 2) * (thirdIn53 + 1) → border k₀ ≤ y
+      go j e b = le-trans (subst (λ (x : ℕ). border x ≤ x * (thirdIn53 + 1)) (sym e) b) (div-mul-le-self y (thirdIn53 + 1))
 
   next-border : y < border (k₀ + 2)
   unfolding k₀
   next-border =
-      lt-of-lt-of-le (lt-div-mul-add {a = y} {b = turn + 1} (lit< tt))
-      (le-trans (le-of-eq (sym (suc-mul k₀ (turn + 1)) ∙ ap (λ (x : ℕ). x * (turn + 1)) (sym (add-one k₀)))) (border-above-multiple k₀ (omega (arith, k₀-high))))
+      lt-of-lt-of-le (lt-div-mul-add {a = y} {b = thirdIn53 + 1} (lit< tt))
+      (le-trans (le-of-eq (sym (suc-mul k₀ (thirdIn53 + 1)) ∙ ap (λ (x : ℕ). x * (thirdIn53 + 1)) (sym (add-one k₀)))) (border-above-multiple k₀ (omega (arith, k₀-high))))
 
   pub at-place : AtPlace y (placeOf y)
   unfolding placeOf k₀

@@ -1,34 +1,34 @@
 -- The exponential is within 2^-44 of document 01's sum, for every double from -708 to 709. Assumes nothing.
 -- The place k of Places becomes j = k - 1024, its rest p the rest of x, and the rounded sum the answer's digits.
-use mathlib.Core.Path.{_≡_, refl, sym, ap, ap₂, _∙_, subst}
+use mathlib.Core.Path.{_≡_, sym, ap, _∙_, subst}
 use mathlib.Core.Bool.{Bool, true, false, cond}
-use Prim.Native.Nat.{ℕ, zero, suc, _+_, _-_, _*_, _/_, _%_, _^_, _≤_, _<_}
-use native.Mathlib.Nat.{le-trans, le-refl, le-of-lt, lt-of-not-le, mul-assoc, mul-comm, add-mul, one-mul, mul-le-mul-right, le-of-mul-le-mul-right, sub-add-cancel, zero-add, add-zero}
+use Prim.Native.Nat.{ℕ, suc, _+_, _-_, _*_, _/_, _^_, _≤_, _<_}
+use native.Mathlib.Nat.{lt-of-not-le, mul-assoc, add-mul, one-mul, mul-le-mul-right, le-of-mul-le-mul-right, sub-add-cancel}
 use native.Mathlib.Decide.{decLe}
 use native.Mathlib.Omega.{arith}
 use borrow.Author.Tests.{le-leb, lt-leb}
-use lib.IntN.{ℤ, pos, negsuc, negℤ, _+ℤ_, _*ℤ_, pos-+ℤ-pos, pos-*ℤ-pos, negsuc-*ℤ-pos, negℤ-+ℤ, +ℤ-assoc, +ℤ-comm, +ℤ-invl, +ℤ-idr}
-use lib.Dec.{T, leb, lit<, lit≤}
-use lib.Pow.{pow-pos, pow-add}
-use lib.Ieee.{Float, up, down, minus, binary64, ofBits, toBits}
+use lib.IntN.{ℤ, pos, negsuc, negℤ, _+ℤ_, _*ℤ_, pos-+ℤ-pos, pos-*ℤ-pos, negsuc-*ℤ-pos, negℤ-+ℤ, +ℤ-assoc, +ℤ-invl, +ℤ-idr}
+use lib.Dec.{T, lit<}
+use lib.Pow.{pow-add}
+use lib.Ieee.{Float, up, down, minus}
 use lib.Ieee.Exact.{HasValue}
-use Rattle.double.specs.Fields.{signOf, fieldOf, digitsOf, mag}
 use Rattle.double.proofs.Made.{made}
-use Rattle.exponential.specs.Sum.{thirdNum, thirdDen, factorial, sumNum, sumDen}
-use Rattle.exponential.specs.Steps.{placeOf, moved, rest, horner, packed, expAt, expOf}
-use Rattle.exponential.specs.Bound.{signed, Parted, Relative, Near, Between, ExpBound}
-use Rattle.exponential.proofs.Horner.{tail, Rounded, horner-below-two, horner-from-one}
-use Rattle.exponential.proofs.AsWritten.{tail-is-sum}
-use Rattle.exponential.proofs.Places.{Fine, Found, up-found, down-fits, down-found}
+use Rattle.rounding.specs.Within.{Within}
+use Rattle.exponential.specs.Sum.{thirdNum, thirdDen, sumNum, sumDen}
+use Rattle.exponential.specs.Steps.{placeOf, raised, rest, horner, composed, expAt, expOf}
+use Rattle.exponential.specs.Bound.{Parted, Near, Between, Promise}
+use Rattle.exponential.proofs.Horner.{horner-below-two, horner-from-one}
+use Rattle.exponential.proofs.AsWritten.{last-terms-are-sum}
+use Rattle.exponential.proofs.Places.{Fine, Placed, up-found, down-fits, down-found}
 use Rattle.exponential.proofs.Ends.{most-709, most-708}
-use Rattle.exponential.proofs.Cases.{between}
-use Rattle.exponential.proofs.Fractions.{Written, written}
+use Rattle.exponential.proofs.Cases.{above-709, below-708, of-nan, of-zero, between}
+use Rattle.exponential.proofs.Fractions.{FractionOf, written}
 
 -- ---- k - 1024 as an integer
 
 -- 2^(k - 1024) is 2^k over 2^1024
-power-moved : (k : ℕ) → up (minus k 1024) * 2 ^ 1024 ≡ down (minus k 1024) * 2 ^ k
-power-moved k = go (decLe 1024 k)
+power-raised : (k : ℕ) → up (minus k 1024) * 2 ^ 1024 ≡ down (minus k 1024) * 2 ^ k
+power-raised k = go (decLe 1024 k)
   where
     back : {k : ℕ} → 1024 ≤ k → k - 1024 + 1024 ≡ k
     back h = omega arith
@@ -109,15 +109,15 @@ module _ (k M p A : ℕ) (below : p < M) where
 -- ---- the answer's size
 
 -- c is 2^44, K·L is 2^62: a bound in units of the sum is one in units of the answer, d·P of them
-answer-not-above : (c K L d u T P dn : ℕ) → 0 < K → c * (d * K * u) ≤ (c + 1) * (K * L * T) → c * (d * P * (dn * u)) ≤ (c + 1) * (dn * P * T * L)
-answer-not-above c K L d u T P dn k h = le-of-mul-le-mul-right {k = K} (omega (arith, mul-le-mul-right (dn * P) h)) k
-
-answer-not-below : (c K L d u T P dn : ℕ) → 0 < K → c * (K * L * T) ≤ c * (d * K * u) + K * L * T → c * (dn * P * T * L) ≤ c * (d * P * (dn * u)) + dn * P * T * L
-answer-not-below c K L d u T P dn k h = le-of-mul-le-mul-right {k = K} (omega (arith, mul-le-mul-right (dn * P) h)) k
+answer-within : (c K L d u T P dn : ℕ) → 0 < K → Within (c * (d * K * u)) (c * (K * L * T)) (K * L * T) → Within (c * (d * P * (dn * u))) (c * (dn * P * T * L)) (dn * P * T * L)
+answer-within c K L d u T P dn k h = record {
+  not-above = le-of-mul-le-mul-right {k = K} (omega (arith, mul-le-mul-right (dn * P) (h .not-above))) k;
+  not-below = le-of-mul-le-mul-right {k = K} (omega (arith, mul-le-mul-right (dn * P) (h .not-below))) k;
+}
 
 -- up j·T·2^1074 is down j·2^(k - 2)·T·2^52
-exact-moved : (k T : ℕ) → 2 ≤ k → up (minus k 1024) * T * 2 ^ 1074 ≡ down (minus k 1024) * 2 ^ (k - 2) * T * 2 ^ 52
-exact-moved k T h = go (up (minus k 1024)) (down (minus k 1024)) (2 ^ 1024) (2 ^ k) (2 ^ (k - 2)) (power-moved k) (ap (λ (n : ℕ). 2 ^ n) (back h) ∙ pow-add 2 (k - 2) 2)
+exact-raised : (k T : ℕ) → 2 ≤ k → up (minus k 1024) * T * 2 ^ 1074 ≡ down (minus k 1024) * 2 ^ (k - 2) * T * 2 ^ 52
+exact-raised k T h = go (up (minus k 1024)) (down (minus k 1024)) (2 ^ 1024) (2 ^ k) (2 ^ (k - 2)) (power-raised k) (ap (λ (n : ℕ). 2 ^ n) (back h) ∙ pow-add 2 (k - 2) 2)
   where
     back : {k : ℕ} → 2 ≤ k → k ≡ k - 2 + 2
     back h = omega arith
@@ -125,22 +125,20 @@ exact-moved k T h = go (up (minus k 1024)) (down (minus k 1024)) (2 ^ 1024) (2 ^
     go : (x y z v w : ℕ) → x * z ≡ y * v → v ≡ w * 4 → x * T * (z * 2 ^ 50) ≡ y * w * T * 2 ^ 52
     go x y z v w e f = omega (arith, ap (λ (n : ℕ). n * T * 2 ^ 50) e, ap (λ (n : ℕ). y * n * T * 2 ^ 50) f)
 
-relative : (k d T u : ℕ) → 2 ≤ k → Rounded (d * 1024) (2 ^ 62 * T) u → Relative (d * 2 ^ (k - 2)) (2 ^ 1074) (up (minus k 1024) * T) (down (minus k 1024) * u)
-relative k d T u h r =
-    let e = exact-moved k T h in
-    record {
-      not-above = subst (λ (n : ℕ). 2 ^ 44 * (d * 2 ^ (k - 2) * (down (minus k 1024) * u)) ≤ (2 ^ 44 + 1) * n) (sym e) (answer-not-above (2 ^ 44) 1024 (2 ^ 52) d u T (2 ^ (k - 2)) (down (minus k 1024)) (lit< tt) (r .not-above));
-      not-below = subst (λ (n : ℕ). 2 ^ 44 * n ≤ 2 ^ 44 * (d * 2 ^ (k - 2) * (down (minus k 1024) * u)) + n) (sym e) (answer-not-below (2 ^ 44) 1024 (2 ^ 52) d u T (2 ^ (k - 2)) (down (minus k 1024)) (lit< tt) (r .not-below));
-    }
+distance : (k d T u : ℕ) → 2 ≤ k → Within (2 ^ 44 * (d * 1024 * u)) (2 ^ 44 * (2 ^ 62 * T)) (2 ^ 62 * T)
+    → Within (2 ^ 44 * (d * 2 ^ (k - 2) * (down (minus k 1024) * u))) (2 ^ 44 * (up (minus k 1024) * T * 2 ^ 1074)) (up (minus k 1024) * T * 2 ^ 1074)
+distance k d T u h r =
+    subst (λ (n : ℕ). Within (2 ^ 44 * (d * 2 ^ (k - 2) * (down (minus k 1024) * u))) (2 ^ 44 * n) n) (sym (exact-raised k T h))
+    (answer-within (2 ^ 44) 1024 (2 ^ 52) d u T (2 ^ (k - 2)) (down (minus k 1024)) (lit< tt) r)
 
-packed-value : (k v : ℕ) → 2 ≤ k → k ≤ 2046 → 2 ^ 62 ≤ v → v < 2 ^ 63 → HasValue (packed k v) false ((v + 512) / 1024 * 2 ^ (k - 2)) (2 ^ 1074)
-unfolding packed
-packed-value k v h l a b = made (k - 2) ((v + 512) / 1024) (omega arith) (omega arith) (omega arith)
+composed-value : (k v : ℕ) → 2 ≤ k → k ≤ 2046 → 2 ^ 62 ≤ v → v < 2 ^ 63 → HasValue (composed k v) false ((v + 512) / 1024 * 2 ^ (k - 2)) (2 ^ 1074)
+unfolding composed
+composed-value k v h l a b = made (k - 2) ((v + 512) / 1024) (omega arith) (omega arith) (omega arith)
 
 -- ---- both signs
 
 -- U is x + 1024·S(1/3) over thirdDen·b
-near-of : (s : Bool) (a b w U : ℕ) → Found b w U → ((k p : ℕ) → U ≡ p + k * thirdNum * b → p < thirdNum * b → Parted s a b (minus k 1024) p) → Near s a b (expAt w)
+near-of : (s : Bool) (a b w U : ℕ) → Placed b w U → ((k p : ℕ) → U ≡ p + k * thirdNum * b → p < thirdNum * b → Parted s a b (minus k 1024) p) → Near s a b (expAt w)
 unfolding expAt
 near-of s a b w U f parted =
     let k = placeOf (w / 2048) in
@@ -149,9 +147,10 @@ near-of s a b w U f parted =
       j = minus k 1024;
       p = f .p;
       parted = parted k (f .p) (f .splits) (f .below);
-      size = (v + 512) / 1024 * 2 ^ (k - 2);
-      value = packed-value k v (f .least) (f .most) (horner-from-one (rest w k)) (horner-below-two (rest w k) (f .small));
-      within = relative k ((v + 512) / 1024) (sumNum (f .p) (thirdDen * b)) (sumDen (thirdDen * b)) (f .least) (subst (λ (t : ℕ). Rounded ((v + 512) / 1024 * 1024) (2 ^ 62 * t) (sumDen (thirdDen * b))) (tail-is-sum (f .p) (thirdDen * b)) (f .near));
+      units = (v + 512) / 1024 * 2 ^ (k - 2);
+      value = composed-value k v (f .least) (f .most) (horner-from-one (rest w k)) (horner-below-two (rest w k) (f .small));
+      distance = distance k ((v + 512) / 1024) (sumNum (f .p) (thirdDen * b)) (sumDen (thirdDen * b)) (f .least)
+          (subst (λ (t : ℕ). Within (2 ^ 44 * ((v + 512) / 1024 * 1024 * sumDen (thirdDen * b))) (2 ^ 44 * (2 ^ 62 * t)) (2 ^ 62 * t)) (last-terms-are-sum (f .p) (thirdDen * b)) (f .near));
     }
 
 up-parted : (a b k p : ℕ) → 1024 * thirdNum * b + a * thirdDen ≡ p + k * thirdNum * b → p < thirdNum * b → Parted false a b (minus k 1024) p
@@ -168,15 +167,24 @@ down-parted a b k p h e l =
       below = l;
     }
 
-pub exp-bound : ExpBound
-exp-bound x is s a b bp v =
+near : (x : Float) → Between x → (s : Bool) (a b : ℕ) → 0 < b → HasValue x s a b → Near s a b (expOf x)
+near x is s a b bp v =
     subst (λ (r : Float). Near s a b r) (ap expAt (w .same) ∙ between x (is .number) (is .not-over) (is .not-under)) (go s v (w .fine))
   where
-    w : Written x s a b
+    w : FractionOf x s a b
     w = written x is s a b bp v
 
-    go : (r : Bool) → HasValue x r a b → Fine a b → Near r a b (expAt (moved r a b))
-    go false u fine = near-of false a b (moved false a b) (1024 * thirdNum * b + a * thirdDen) (up-found a b bp (most-709 x a b u (is .not-over)) fine) (up-parted a b)
+    go : (r : Bool) → HasValue x r a b → Fine a b → Near r a b (expAt (raised r a b))
+    go false u fine = near-of false a b (raised false a b) (1024 * thirdNum * b + a * thirdDen) (up-found a b bp (most-709 x a b u (is .not-over)) fine) (up-parted a b)
     go true u fine =
-        near-of true a b (moved true a b) (1024 * thirdNum * b - a * thirdDen) (down-found a b bp (most-708 x a b u (is .not-under)) fine)
+        near-of true a b (raised true a b) (1024 * thirdNum * b - a * thirdDen) (down-found a b bp (most-708 x a b u (is .not-under)) fine)
         (λ k p e l. down-parted a b k p (down-fits a b bp (most-708 x a b u (is .not-under))) e l)
+
+pub promise : Promise
+promise = record {
+  above-709 = λ x h. sym (above-709 x h);
+  below-708 = λ x h. sym (below-708 x h);
+  of-nan = of-nan;
+  of-zero = of-zero;
+  between = near;
+}

@@ -1,15 +1,14 @@
 -- The exponential by the class of its argument, and document 01's cases of it. Assumes nothing.
 use mathlib.Core.Path.{_≡_, refl, sym, ap, _∙_, subst}
 use mathlib.Core.Logic.{_⊎_, inl, inr}
-use mathlib.Core.Bool.{Bool, true, false, not, cond}
-use Prim.Native.Nat.{ℕ, zero, suc, _+_, _-_, _*_, _/_, _%_, _^_, _≤_, _<_}
+use mathlib.Core.Bool.{Bool, true, false}
+use Prim.Native.Nat.{ℕ, zero, _+_, _-_, _*_, _/_, _^_, _≤_, _<_}
 use native.Mathlib.Nat.{le-of-lt, lt-trans, le-trans, div-eq-of-lt, eq-zero-or-pos}
 use native.Mathlib.Omega.{arith}
 use lib.IntN.{pos}
-use lib.Dec.{T, leb, lit<, lit≤}
+use lib.Dec.{T, lit<, lit≤}
 use lib.Pow.{pow-lt, shl-lt}
 use lib.Ieee.{Float, nan, inf, fin, binary64, fits, ofBits, ofFields, toBits, neg, ne, lt}
-use lib.Ieee.Scale.{finite}
 use Rattle.arith.proofs.Branches.{false-not-true}
 use Rattle.arith.proofs.Quotients.{up-of-small}
 use Rattle.double.specs.Operators.{_≺_}
@@ -17,7 +16,7 @@ use Rattle.double.specs.Numbers.{#0, #1, #708, #709}
 use Rattle.double.specs.Fields.{signOf, fieldOf, digitsOf, mag, Sized}
 use Rattle.double.proofs.Fields.{by-fields, digits-lt, low-value, measured}
 use Rattle.double.proofs.NotNan.{nan-of}
-use Rattle.exponential.specs.Steps.{home, moved, expAt, expOf}
+use Rattle.exponential.specs.Steps.{home, raised, expAt, expOf}
 use Rattle.exponential.proofs.Ends.{not-over, not-under, under-not-over}
 
 -- ---- numbers and NaN
@@ -71,7 +70,7 @@ of-zero false = refl
 
 -- "Between": the steps
 pub between : (x : Float) → ne x x ≡ false → (#709 ≺ x) ≡ false → (x ≺ neg #708) ≡ false
-    → expAt (moved (signOf (toBits binary64 x)) (mag (fieldOf (toBits binary64 x)) (digitsOf (toBits binary64 x))) (2 ^ 1074)) ≡ expOf x
+    → expAt (raised (signOf (toBits binary64 x)) (mag (fieldOf (toBits binary64 x)) (digitsOf (toBits binary64 x))) (2 ^ 1074)) ≡ expOf x
 unfolding expOf
 between x a b c = simp (a, b, c)
 
@@ -88,8 +87,8 @@ at-home-less = refl
 tiny : (t : ℕ) → t < 2 ^ 52 → t * 2 ^ 64 < 2 ^ 1074
 tiny t h = lt-trans (shl-lt 52 64 h) (pow-lt {i = 116} {j = 1074} (lit< tt))
 
-one-at : (s : Bool) (t : ℕ) → t < 2 ^ 52 → expAt (moved s t (2 ^ 1074)) ≡ #1
-unfolding moved
+one-at : (s : Bool) (t : ℕ) → t < 2 ^ 52 → expAt (raised s t (2 ^ 1074)) ≡ #1
+unfolding raised
 one-at false t h = ap (λ (n : ℕ). expAt (home * 2048 + n)) (div-eq-of-lt (tiny t h)) ∙ at-home
 one-at true t h = go (eq-zero-or-pos t)
   where
@@ -108,7 +107,7 @@ class-0 x F e =
     let v : Sized x (signOf b) t = subst (λ (y : Float). Sized y (signOf b) t) (sym (ap (λ (f : ℕ). ofFields binary64 (signOf b) f t) e) ∙ by-fields x F) (low-value (signOf b) t) in
     let small : t ≤ 708 * 2 ^ 1074 = le-trans (le-of-lt (lt-trans (digits-lt b) (pow-lt {i = 52} {j = 1074} (lit< tt)))) (lit≤ tt) in
     let small′ : t ≤ 709 * 2 ^ 1074 = le-trans small (lit≤ tt) in
-    sym (one-at (signOf b) t (digits-lt b)) ∙ ap (λ (f : ℕ). expAt (moved (signOf b) (mag f t) (2 ^ 1074))) (sym e)
+    sym (one-at (signOf b) t (digits-lt b)) ∙ ap (λ (f : ℕ). expAt (raised (signOf b) (mag f t) (2 ^ 1074))) (sym e)
     ∙ between x (number-of-class x (subst (λ (f : ℕ). f < 2047) (sym e) (lit< tt)))
     (not-over x (signOf b) t (2 ^ 1074) (lit< tt) v small′) (not-under x (signOf b) t (2 ^ 1074) (lit< tt) v small)
 

@@ -1,10 +1,10 @@
 -- The coefficients of the sum, and the largest sum: each rule is one computed test. Assumes nothing.
 use mathlib.Core.Path.{_≡_, refl}
 use mathlib.Core.Bool.{Bool}
-use Prim.Native.Nat.{ℕ, zero, suc, _+_, _-_, _*_, _/_, _^_, _≤_, _<_}
+use Prim.Native.Nat.{ℕ, zero, suc, _+_, _-_, _*_, _^_, _≤_, _<_}
 use native.Mathlib.Nat.{mul-zero}
 use native.Mathlib.Omega.{arith}
-use lib.Dec.{T, leb, ltb, eqb, leb→le, ltb→lt, eqb→eq}
+use lib.Dec.{T, leb, eqb, leb→le, ltb→lt, eqb→eq}
 use Rattle.arith.proofs.Tables.{every, at-index}
 use Rattle.exponential.specs.Sum.{factorial, share}
 use Rattle.exponential.specs.Steps.{thirdIn64, coefficient, horner}

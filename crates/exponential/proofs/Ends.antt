@@ -1,10 +1,9 @@
 -- Comparisons of a double with 709 and with -708, as comparisons of whole numbers. Assumes nothing.
-use mathlib.Core.Path.{_≡_, refl, sym, ap, _∙_, subst}
-use mathlib.Core.Bool.{Bool, true, false, not, cond}
-use Prim.Native.Nat.{ℕ, _+_, _*_, _^_, _≤_, _<_}
+use mathlib.Core.Path.{_≡_, refl, sym, subst}
+use mathlib.Core.Bool.{Bool, true, false, not}
+use Prim.Native.Nat.{ℕ, _*_, _≤_, _<_}
 use native.Mathlib.Nat.{mul-one, mul-right-comm, mul-le-mul-right, le-trans, le-of-eq, le-of-mul-le-mul-right}
 use borrow.Author.Tests.{le-ltb}
-use lib.IntN.{pos}
 use lib.Dec.{T, ltb, nltb→le}
 use lib.Ieee.{Float, nan, inf, fin, up, down, ofBits, neg, lt}
 use lib.Ieee.Exact.{HasValue}

@@ -1,23 +1,22 @@
 -- A double from -708 to 709 as a fraction: the range of its fields, that it is a whole number of 2^-53 from ½ on, and that the steps do not depend on how the fraction is written. Assumes nothing.
-use mathlib.Core.Path.{_≡_, refl, sym, ap, _∙_, subst}
+use mathlib.Core.Path.{_≡_, sym, ap, _∙_}
 use mathlib.Core.Bool.{Bool, true, false, cond}
-use Prim.Native.Nat.{ℕ, zero, suc, _+_, _-_, _*_, _/_, _%_, _^_, _≤_, _<_}
-use native.Mathlib.Nat.{mul-assoc, mul-comm, mul-right-comm, mul-div-mul-right, mul-lt-mul-of-pos-left, mul-lt-mul-of-pos-right, lt-of-mul-lt-mul-right, lt-of-lt-of-le, lt-trans, lt-of-not-le, eq-of-mul-eq-mul-right, le-of-eq, le-of-lt}
+use Prim.Native.Nat.{ℕ, zero, suc, _+_, _-_, _*_, _/_, _^_, _≤_, _<_}
+use native.Mathlib.Nat.{mul-comm, mul-div-mul-right, mul-lt-mul-of-pos-left, mul-lt-mul-of-pos-right, lt-of-mul-lt-mul-right, lt-of-lt-of-le, lt-trans, lt-of-not-le, eq-of-mul-eq-mul-right}
 use native.Mathlib.Decide.{decLe}
 use native.Mathlib.Omega.{arith}
-use lib.Dec.{T, lit<, lit≤}
+use lib.Dec.{T, lit<}
 use lib.Pow.{pow-pos, pow-add, pow-mono, pow-lt, shl-lt}
-use lib.Ieee.{Float, nan, inf, fin, up, down, binary64, fits, toBits, ofBits, neg, ne}
+use lib.Ieee.{Float, nan, inf, fin, up, down, binary64, toBits, ofBits, neg}
 use lib.Ieee.Exact.{HasValue}
 use lib.Ieee.Fits.{down-pos}
 use lib.Ieee.Scale.{finite}
 use Rattle.arith.proofs.Quotients.{up-of-factor}
-use Rattle.double.specs.Operators.{_≺_}
 use Rattle.double.specs.Numbers.{#708, #709}
 use Rattle.double.specs.Fields.{signOf, fieldOf, digitsOf, mag, Sized}
 use Rattle.double.proofs.Fields.{digits-lt, measured}
 use Rattle.double.proofs.Finite.{finite-between}
-use Rattle.exponential.specs.Steps.{home, moved, InRange, Normal}
+use Rattle.exponential.specs.Steps.{home, raised, InRange, NormalFields}
 use Rattle.exponential.specs.Bound.{Between}
 use Rattle.exponential.proofs.Ends.{most-709, most-708}
 use Rattle.exponential.proofs.Places.{Fine, low, whole, up-range, down-range}
@@ -45,10 +44,10 @@ module _ (x : Float) (is : Between x) where
       go true v = most-708 x size (2 ^ 1074) v (is .not-under)
       go false v = most-709 x size (2 ^ 1074) v (is .not-over)
 
-  pub normal-of : 1 ≤ fieldOf b → Normal (signOf b) (fieldOf b) (digitsOf b)
+  pub normal-of : 1 ≤ fieldOf b → NormalFields (signOf b) (fieldOf b) (digitsOf b)
   normal-of h = record { first = h; digits = digits-lt b; most = size-most }
 
-pub range-of-normal : (s : Bool) (f t : ℕ) → Normal s f t → InRange (moved s (mag f t) (2 ^ 1074) / 2048)
+pub range-of-normal : (s : Bool) (f t : ℕ) → NormalFields s f t → InRange (raised s (mag f t) (2 ^ 1074) / 2048)
 range-of-normal true f t n = down-range (mag f t) (2 ^ 1074) (pow-pos 1074) (n .most)
 range-of-normal false f t n = up-range (mag f t) (2 ^ 1074) (pow-pos 1074) (n .most)
 
@@ -90,13 +89,13 @@ module _ (a b A B : ℕ) (bp : 0 < b) (Bp : 0 < B) (same : a * B ≡ A * b) wher
   units-same : a * 2 ^ 64 * B ≡ A * 2 ^ 64 * b
   units-same = omega (arith, ap (λ (x : ℕ). x * 2 ^ 64) same)
 
-  pub moved-same : (s : Bool) → moved s a b ≡ moved s A B
-  unfolding moved
-  moved-same false =
+  pub raised-same : (s : Bool) → raised s a b ≡ raised s A B
+  unfolding raised
+  raised-same false =
       ap (λ (x : ℕ). home * 2048 + x)
       (sym (mul-div-mul-right (a * 2 ^ 64) b Bp) ∙ ap (λ (x : ℕ). x / (b * B)) units-same ∙ ap (λ (x : ℕ). A * 2 ^ 64 * b / x) (mul-comm b B)
       ∙ mul-div-mul-right (A * 2 ^ 64) B bp)
-  moved-same true =
+  raised-same true =
       ap (λ (x : ℕ). home * 2048 - x)
       (sym (up-of-factor (a * 2 ^ 64) b B bp Bp) ∙ ap (λ (x : ℕ). (x + (b * B - 1)) / (b * B)) units-same
       ∙ ap (λ (x : ℕ). (A * 2 ^ 64 * b + (x - 1)) / x) (mul-comm b B) ∙ up-of-factor (A * 2 ^ 64) B b Bp bp)
@@ -111,16 +110,16 @@ same-value (fin i m e) s r a b A B h k =
     cross v d p q = omega (arith, ap (λ (x : ℕ). x * B) p, ap (λ (x : ℕ). x * b) q)
 
 -- what the theorem needs of a fraction that x is
-pub record Written (x : Float) (s : Bool) (a b : ℕ) : Type 0 where
+pub record FractionOf (x : Float) (s : Bool) (a b : ℕ) : Type 0 where
   pub fine : Fine a b
-  pub same : moved s a b ≡ moved (signOf (toBits binary64 x)) (mag (fieldOf (toBits binary64 x)) (digitsOf (toBits binary64 x))) (2 ^ 1074)
+  pub same : raised s a b ≡ raised (signOf (toBits binary64 x)) (mag (fieldOf (toBits binary64 x)) (digitsOf (toBits binary64 x))) (2 ^ 1074)
 
-pub written : (x : Float) → Between x → (s : Bool) (a b : ℕ) → 0 < b → HasValue x s a b → Written x s a b
+pub written : (x : Float) → Between x → (s : Bool) (a b : ℕ) → 0 < b → HasValue x s a b → FractionOf x s a b
 written x is s a b bp v =
     let bits = toBits binary64 x in
     let A = mag (fieldOf bits) (digitsOf bits) in
     let e = same-value x s (signOf bits) a b A (2 ^ 1074) v (sized x is) in
     record {
       fine = fine-move a b A (2 ^ 1074) bp (pow-pos 1074) (e .1) (fine-fields (fieldOf bits) (digitsOf bits) (digits-lt bits));
-      same = moved-same a b A (2 ^ 1074) bp (pow-pos 1074) (e .1) s ∙ ap (λ (r : Bool). moved r A (2 ^ 1074)) (e .0);
+      same = raised-same a b A (2 ^ 1074) bp (pow-pos 1074) (e .1) s ∙ ap (λ (r : Bool). raised r A (2 ^ 1074)) (e .0);
     }

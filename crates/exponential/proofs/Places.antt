@@ -1,17 +1,18 @@
--- The place of every x from -708 to 709 is the floor of x/S(1/3), moved by 1024, and the sum at its rest is within the bound. Assumes nothing.
+-- The place of every x from -708 to 709 is the floor of x/S(1/3), raised by 1024, and the sum at its rest is within the bound. Assumes nothing.
 -- x is any fraction a / b, or its negative. x + 1024·S(1/3) = U / (thirdDen·b).
-use mathlib.Core.Path.{_≡_, refl, sym, ap, _∙_, subst}
+use mathlib.Core.Path.{_≡_, refl, sym, ap, _∙_}
 use mathlib.Core.Logic.{_⊎_, inl, inr}
-use mathlib.Core.Bool.{Bool, true, false}
-use Prim.Native.Nat.{ℕ, zero, suc, _+_, _-_, _*_, _/_, _%_, _^_, _≤_, _<_}
-use native.Mathlib.Nat.{le-trans, le-of-eq, le-refl, le-of-lt, lt-of-lt-of-le, lt-of-le-of-lt, mul-le-mul-right, mul-le-mul-left, mul-assoc, mul-comm, mul-right-comm, mul-pos, mul-lt-mul-of-pos-left, mul-div-cancel, div-mul-le-self, lt-div-mul-add, div-le-of-le-mul, div-lt-iff-lt-mul, sub-add-cancel, eq-zero-or-pos, add-mul, one-mul, zero-mul}
-use native.Mathlib.Numerals.{add-one-le}
+use mathlib.Core.Bool.{true, false}
+use Prim.Native.Nat.{ℕ, zero, _+_, _-_, _*_, _/_, _^_, _≤_, _<_}
+use native.Mathlib.Nat.{le-trans, le-of-eq, le-of-lt, lt-of-lt-of-le, lt-of-le-of-lt, mul-le-mul-right, mul-le-mul-left, mul-right-comm, mul-pos, mul-lt-mul-of-pos-left, mul-div-cancel, div-mul-le-self, lt-div-mul-add, div-le-of-le-mul, sub-add-cancel, eq-zero-or-pos, add-mul, one-mul, zero-mul}
 use native.Mathlib.Omega.{arith}
 use lib.Dec.{lit≤, lit<}
 use lib.Arith.{digits-div}
+use Rattle.arith.proofs.Quotients.{up-reaches, up-below, up-most}
+use Rattle.rounding.specs.Within.{Within}
 use Rattle.exponential.specs.Sum.{thirdNum, thirdDen, factorial}
-use Rattle.exponential.specs.Steps.{home, border, gap, placeOf, moved, rest, thirdIn64, horner, InRange, AtPlace}
-use Rattle.exponential.proofs.Horner.{tail, Rounded, rounded}
+use Rattle.exponential.specs.Steps.{home, border, gap, placeOf, raised, rest, thirdIn64, horner, InRange, AtPlace}
+use Rattle.exponential.proofs.Horner.{lastTerms, rounded}
 use Rattle.exponential.proofs.Borders.{excess, excess-is, gap-not-above, gap-not-below, border-below-next, border-order, at-place}
 use Rattle.exponential.proofs.Remainder.{rest-not-above, rest-not-below, floor-from, floor-below, up-not-above, up-not-below, up-exact, down-not-above, down-not-below, down-exact, rest-most}
 
@@ -54,14 +55,16 @@ data Kept (b w U : ℕ) : Type 0 where
   exact : w ≡ w / 2048 * 2048 → excess * b + U * 2 ^ 64 ≤ w * (thirdDen * b) → Kept b w U
   known : (m : ℕ) → U < (m + 1) * thirdNum * b → border m ≤ w / 2048 → Kept b w U
 
-pub record Found (b w U : ℕ) : Type 0 where
+pub record Placed (b w U : ℕ) : Type 0 where
   pub p : ℕ
   pub splits : U ≡ p + placeOf (w / 2048) * thirdNum * b
   pub below : p < thirdNum * b
   pub least : 2 ≤ placeOf (w / 2048)
   pub most : placeOf (w / 2048) ≤ 2046
   pub small : rest w (placeOf (w / 2048)) ≤ thirdIn64
-  pub near : Rounded ((horner (rest w (placeOf (w / 2048))) 39 + 512) / 1024 * 1024) (2 ^ 62 * tail p (thirdDen * b) 39) (factorial 39 * (thirdDen * b) ^ 39)
+  pub near :
+      Within (2 ^ 44 * ((horner (rest w (placeOf (w / 2048))) 39 + 512) / 1024 * 1024 * (factorial 39 * (thirdDen * b) ^ 39)))
+      (2 ^ 44 * (2 ^ 62 * lastTerms p (thirdDen * b) 39)) (2 ^ 62 * lastTerms p (thirdDen * b) 39)
 
 module _ (b w U : ℕ) (bp : 0 < b) (range : InRange (w / 2048))
     (lo : w * (thirdDen * b) ≤ excess * b + U * 2 ^ 64) (hi : excess * b + U * 2 ^ 64 ≤ w * (thirdDen * b) + thirdDen * b) (kept : Kept b w U) where
@@ -115,7 +118,7 @@ module _ (b w U : ℕ) (bp : 0 < b) (range : InRange (w / 2048))
       go : (m g : ℕ) → m ≤ w → w + g - m + m ≡ w + g
       go m g h = omega arith
 
-  found : Found b w U
+  found : Placed b w U
   found =
       let p : ℕ = U - k * thirdNum * b in
       let splits : U ≡ p + k * thirdNum * b = sym (sub-add-cancel from) in
@@ -164,8 +167,8 @@ module _ (a b : ℕ) (bp : 0 < b) (most : a ≤ 709 * b) where
   range-of : (n : ℕ) → n ≤ 709 * 2 ^ 64 → InRange ((home * 2048 + n) / 2048)
   range-of n h = record { from = omega arith; to = omega arith }
 
-  pub up-range : InRange (moved false a b / 2048)
-  unfolding moved f
+  pub up-range : InRange (raised false a b / 2048)
+  unfolding raised f
   up-range = range-of f f-most
 
   kept-up : Fine a b → Kept b (home * 2048 + f) (1024 * thirdNum * b + a * thirdDen)
@@ -183,8 +186,8 @@ module _ (a b : ℕ) (bp : 0 < b) (most : a ≤ 709 * b) where
       back : (g n : ℕ) → g ≡ n * 2048 → home * 2048 + g ≡ (home * 2048 + g) / 2048 * 2048
       back g n e = omega arith
 
-  pub up-found : Fine a b → Found b (moved false a b) (1024 * thirdNum * b + a * thirdDen)
-  unfolding moved f
+  pub up-found : Fine a b → Placed b (raised false a b) (1024 * thirdNum * b + a * thirdDen)
+  unfolding raised f
   up-found fine =
       found b (home * 2048 + f) (1024 * thirdNum * b + a * thirdDen) bp up-range
       (up-not-above thirdNum thirdDen b (2 ^ 64) excess (home * 2048) a (home * 2048 + f) (1024 * thirdNum * b + a * thirdDen) f excess-is refl refl (div-mul-le-self (a * 2 ^ 64) b))
@@ -195,42 +198,25 @@ module _ (a b : ℕ) (bp : 0 < b) (most : a ≤ 708 * b) where
   g : ℕ
   g = (a * 2 ^ 64 + (b - 1)) / b
 
-  g-reaches : a * 2 ^ 64 ≤ g * b
-  unfolding g
-  g-reaches = go (g * b) (lt-div-mul-add {a = a * 2 ^ 64 + (b - 1)} bp)
-    where
-      go : (n : ℕ) → a * 2 ^ 64 + (b - 1) < n + b → a * 2 ^ 64 ≤ n
-      go n l = omega arith
-
-  g-below : g * b ≤ a * 2 ^ 64 + b
-  unfolding g
-  g-below = go (g * b) (div-mul-le-self (a * 2 ^ 64 + (b - 1)) b)
-    where
-      go : (n : ℕ) → n ≤ a * 2 ^ 64 + (b - 1) → n ≤ a * 2 ^ 64 + b
-      go n l = omega arith
-
   -- a / b at most m / 2^64 gives g at most m
   g-most : (m : ℕ) → a * 2 ^ 64 ≤ m * b → g ≤ m
   unfolding g
-  g-most m h = go g m (div-lt-iff-lt-mul {k = b} {x = a * 2 ^ 64 + (b - 1)} {y = m + 1} bp .1 (over (m * b) ((m + 1) * b) (add-mul m 1 b ∙ ap (λ (x : ℕ). m * b + x) (one-mul b)) h))
-    where
-      over : (x y : ℕ) → y ≡ x + b → a * 2 ^ 64 ≤ x → a * 2 ^ 64 + (b - 1) < y
-      over x y e l = omega arith
+  g-most m h = up-most m b (a * 2 ^ 64) bp h
 
-      go : (x y : ℕ) → x < y + 1 → x ≤ y
-      go x y l = omega arith
-
-  g-in-range : g ≤ 708 * 2 ^ 64
-  g-in-range = g-most (708 * 2 ^ 64) (le-trans (mul-le-mul-right (2 ^ 64) most) (le-of-eq (go b)))
+  end : a * 2 ^ 64 ≤ 708 * 2 ^ 64 * b
+  end = le-trans (mul-le-mul-right (2 ^ 64) most) (le-of-eq (go b))
     where
       go : (b : ℕ) → 708 * b * 2 ^ 64 ≡ 708 * 2 ^ 64 * b
       go b = omega arith
 
+  g-in-range : g ≤ 708 * 2 ^ 64
+  g-in-range = g-most (708 * 2 ^ 64) end
+
   down-range-of : (n : ℕ) → n ≤ 708 * 2 ^ 64 → InRange ((home * 2048 - n) / 2048)
   down-range-of n h = record { from = omega arith; to = omega arith }
 
-  pub down-range : InRange (moved true a b / 2048)
-  unfolding moved g
+  pub down-range : InRange (raised true a b / 2048)
+  unfolding raised g
   down-range = down-range-of g g-in-range
 
   sum-is : home * 2048 - g + g ≡ home * 2048
@@ -277,10 +263,10 @@ module _ (a b : ℕ) (bp : 0 < b) (most : a ≤ 708 * b) where
       go (low l) (inl z) = at-whole 0 (ap (λ (x : ℕ). x * 2 ^ 53) z ∙ sym (zero-mul b))
       go (low l) (inr p) = known 1023 (less _ _ _ taken (mul-pos p den-pos)) (room (border 1023) g border-before-home (g-most (2 ^ 63) (half l)))
 
-  pub down-found : Fine a b → Found b (moved true a b) (1024 * thirdNum * b - a * thirdDen)
-  unfolding moved g
+  pub down-found : Fine a b → Placed b (raised true a b) (1024 * thirdNum * b - a * thirdDen)
+  unfolding raised g
   down-found fine =
       found b (home * 2048 - g) (1024 * thirdNum * b - a * thirdDen) bp down-range
-      (down-not-above thirdNum thirdDen b (2 ^ 64) excess (home * 2048) a (home * 2048 - g) (1024 * thirdNum * b - a * thirdDen) g excess-is sum-is taken g-reaches)
-      (down-not-below thirdNum thirdDen b (2 ^ 64) excess (home * 2048) a (home * 2048 - g) (1024 * thirdNum * b - a * thirdDen) g excess-is sum-is taken g-below)
+      (down-not-above thirdNum thirdDen b (2 ^ 64) excess (home * 2048) a (home * 2048 - g) (1024 * thirdNum * b - a * thirdDen) g excess-is sum-is taken (up-reaches (708 * 2 ^ 64) b (a * 2 ^ 64) bp end))
+      (down-not-below thirdNum thirdDen b (2 ^ 64) excess (home * 2048) a (home * 2048 - g) (1024 * thirdNum * b - a * thirdDen) g excess-is sum-is taken (le-of-lt (up-below (708 * 2 ^ 64) b (a * 2 ^ 64) bp end)))
       (kept-down fine)

@@ -1,8 +1,8 @@
 -- The place is the floor of x/S(1/3), and what is left over it is the rest of x, to three units of 2^-64. Assumes nothing.
--- In whole numbers: S(1/3) = N / D, x + 1024·S(1/3) = U / (D·b), and w is that in units of 1 / Z, moved by `off` and rounded down.
-use mathlib.Core.Path.{_≡_, refl, sym, ap, _∙_, subst}
-use Prim.Native.Nat.{ℕ, zero, suc, _+_, _-_, _*_, _/_, _≤_, _<_}
-use native.Mathlib.Nat.{le-trans, le-of-eq, mul-le-mul-right, le-of-mul-le-mul-right, lt-of-mul-lt-mul-right, lt-of-lt-of-le, lt-of-le-of-lt, mul-lt-mul-of-pos-right}
+-- In whole numbers: S(1/3) = N / D, x + 1024·S(1/3) = U / (D·b), and w is that in units of 1 / Z, with `off` for what home is rounded up by, and rounded down.
+use mathlib.Core.Path.{_≡_, ap}
+use Prim.Native.Nat.{ℕ, _+_, _*_, _≤_, _<_}
+use native.Mathlib.Nat.{mul-le-mul-right, le-of-mul-le-mul-right, lt-of-mul-lt-mul-right, lt-of-lt-of-le, lt-of-le-of-lt, mul-lt-mul-of-pos-right}
 use native.Mathlib.Omega.{arith}
 
 -- ---- a place k with the border B and the gap g
@@ -28,7 +28,7 @@ module _ (N D b Z off k B w U : ℕ) where
   floor-below bp h l u =
       lt-of-mul-lt-mul-right Z (omega (arith, mul-lt-mul-of-pos-right h bp, mul-le-mul-right (D * b) l, u))
 
--- ---- x to w: f is a·Z/b, rounded down for x = a / b and up for x = - a / b; H is where 0 is moved to
+-- ---- x to w: f is a·Z/b, rounded down for x = a / b and up for x = - a / b; H is where 0 is raised to
 
 module _ (N D b Z off H a w U f : ℕ) (hoff : off + 1024 * N * Z ≡ H * D) where
   pub up-not-above : w ≡ H + f → U ≡ 1024 * N * b + a * D → f * b ≤ a * Z → w * (D * b) ≤ off * b + U * Z

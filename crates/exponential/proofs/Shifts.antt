@@ -1,8 +1,8 @@
 -- What `locate` does by shifts: the size of a normal number in units of 2^-64, rounded down or up, as a point. Assumes nothing.
-use mathlib.Core.Path.{_≡_, refl, sym, ap, ap₂, _∙_, subst}
+use mathlib.Core.Path.{_≡_, sym, ap, ap₂, _∙_}
 use mathlib.Core.Bool.{Bool, true, false, cond}
 use Prim.Native.Nat.{ℕ, zero, suc, _+_, _-_, _*_, _/_, _%_, _^_, _≤_, _<_}
-use native.Mathlib.Nat.{le-trans, le-refl, le-of-eq, not-suc-le-zero, not-le-of-lt, lt-of-not-le, mul-assoc, mul-le-mul, mul-le-mul-right, le-of-mul-le-mul-right, le-add-right, mul-div-mul-right, mul-div-cancel, div-eq-of-lt, lt-of-lt-of-le}
+use native.Mathlib.Nat.{le-trans, le-of-eq, not-suc-le-zero, not-le-of-lt, lt-of-not-le, mul-assoc, mul-le-mul, mul-le-mul-right, le-of-mul-le-mul-right, le-add-right, mul-div-mul-right, mul-div-cancel, div-eq-of-lt, lt-of-lt-of-le}
 use native.Mathlib.Decide.{decLe}
 use native.Mathlib.Omega.{arith}
 use lib.Dec.{lit<, lit≤}
@@ -10,8 +10,7 @@ use lib.Arith.{digits-div}
 use lib.Pow.{pow-pos, pow-add, pow-mono, shl-exact}
 use Rattle.arith.proofs.Quotients.{up-of-factor, up-of-positive}
 use Rattle.double.specs.Fields.{mag}
-use Rattle.exponential.specs.declared.place.Point.{Point}
-use Rattle.exponential.specs.Steps.{home, moved, pointOf, Normal}
+use Rattle.exponential.specs.Steps.{home, raised, pointOf, NormalFields}
 
 -- ---- shifts
 
@@ -80,7 +79,7 @@ end-of : (s : Bool) → cond s 708 709 ≤ 709
 end-of true = lit≤ tt
 end-of false = lit≤ tt
 
-pub field-of-normal : (s : Bool) (f t : ℕ) → Normal s f t → f ≤ 1032
+pub field-of-normal : (s : Bool) (f t : ℕ) → NormalFields s f t → f ≤ 1032
 field-of-normal s f t h = field-most f t (cond s 708 709) (end-of s) (h .most)
 
 -- nothing is shifted out at the top
@@ -125,20 +124,20 @@ down-whole-point n h = ap₂ (λ (x y : ℕ). record { whole = x; part = y }) (o
 -- ---- the four answers of `locate`
 
 pub low-positive : (f t s : ℕ) → 1 ≤ f → f < 1022 → s ≡ (2 ^ 52 + t) * 2048 / 2 ^ (1022 - f)
-    → record { whole = home + s / 2048; part = s % 2048 } ≡ pointOf (moved false (mag f t) (2 ^ 1074))
-unfolding moved
+    → record { whole = home + s / 2048; part = s % 2048 } ≡ pointOf (raised false (mag f t) (2 ^ 1074))
+unfolding raised
 low-positive zero t s l h e = absurd (not-suc-le-zero l)
 low-positive (suc j) t s l h e = up-point s ∙ ap (λ (x : ℕ). pointOf (home * 2048 + x)) (e ∙ down j t h)
 
 pub low-negative : (f t s : ℕ) → 1 ≤ f → f < 1022 → s < 2 ^ 64 → s ≡ ((2 ^ 52 + t) * 2048 - 1) / 2 ^ (1022 - f)
-    → record { whole = home - 1 - s / 2048; part = 2047 - s % 2048 } ≡ pointOf (moved true (mag f t) (2 ^ 1074))
-unfolding moved
+    → record { whole = home - 1 - s / 2048; part = 2047 - s % 2048 } ≡ pointOf (raised true (mag f t) (2 ^ 1074))
+unfolding raised
 low-negative zero t s l h b e = absurd (not-suc-le-zero l)
 low-negative (suc j) t s l h b e = down-point s b ∙ ap (λ (x : ℕ). pointOf (home * 2048 - x)) (ap (λ (x : ℕ). x + 1) e ∙ up j t h)
 
 pub high-positive : (f t n : ℕ) → 1022 ≤ f → n ≡ (2 ^ 52 + t) * 2 ^ (f - 1022)
-    → record { whole = home + n; part = 0 } ≡ pointOf (moved false (mag f t) (2 ^ 1074))
-unfolding moved
+    → record { whole = home + n; part = 0 } ≡ pointOf (raised false (mag f t) (2 ^ 1074))
+unfolding raised
 high-positive zero t n l e = absurd (not-suc-le-zero l)
 high-positive (suc j) t n l e =
     up-whole-point n
@@ -146,8 +145,8 @@ high-positive (suc j) t n l e =
     (ap (λ (x : ℕ). x * 2048) e ∙ sym (ap (λ (x : ℕ). x / 2 ^ 1074) (whole-units j t l) ∙ mul-div-cancel ((2 ^ 52 + t) * 2 ^ (suc j - 1022) * 2048) (pow-pos 1074)))
 
 pub high-negative : (f t n : ℕ) → 1022 ≤ f → n ≤ home → n ≡ (2 ^ 52 + t) * 2 ^ (f - 1022)
-    → record { whole = home - n; part = 0 } ≡ pointOf (moved true (mag f t) (2 ^ 1074))
-unfolding moved
+    → record { whole = home - n; part = 0 } ≡ pointOf (raised true (mag f t) (2 ^ 1074))
+unfolding raised
 high-negative zero t n l h e = absurd (not-suc-le-zero l)
 high-negative (suc j) t n l h e =
     down-whole-point n h

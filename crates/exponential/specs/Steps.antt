@@ -1,5 +1,5 @@
 -- What the code of the exponential computes, for every double. Definitions only.
--- Everything is moved up by 1024·S(1/3), so that no number is below 0; a place k stands for j = k - 1024.
+-- Every x is raised by 1024·S(1/3), so that no number is below 0; a place k stands for j = k - 1024.
 use Prim.Native.Nat.{ℕ, zero, suc, _+_, _-_, _*_, _/_, _%_, _^_, _≤_, _<_}
 use mathlib.Core.Bool.{Bool, true, false, cond}
 use lib.Dec.{leb}
@@ -13,49 +13,53 @@ use Rattle.exponential.specs.declared.place.Point.{Point}
 -- ---- the places
 
 -- S(1/3) in units of 2^-53, rounded down, and the next 40 binary digits of it
-abbrev pub turn : ℕ
-turn = 6243314768165359
+abbrev pub thirdIn53 : ℕ
+thirdIn53 = 6243314768165359
 
-abbrev pub turnRest : ℕ
-turnRest = 229667272307
+abbrev pub thirdRest : ℕ
+thirdRest = 229667272307
 
--- 1024·S(1/3) in units of 2^-53, rounded up: where x = 0 is moved to
+-- 1024·S(1/3) in units of 2^-53, rounded up: where 0 is raised to
 abbrev pub home : ℕ
 home = 6393154322601327830
 
--- What k·S(1/3) - 1024·S(1/3) + home has below one unit of 2^-53, in units of 2^-93. 116201501695 makes it right at k = 0.
-abbrev pub fraction : ℕ → ℕ
-fraction k = k * turnRest + 116201501695
+-- what home is over 1024·S(1/3), in units of 2^-93, rounded up
+abbrev pub homeRest : ℕ
+homeRest = 116201501695
 
--- the first whole number of units of 2^-53 that belongs to the place k: (k - 1024)·S(1/3), rounded up, moved
+-- What (k - 1024)·S(1/3), raised, has over k times thirdIn53, in units of 2^-93. That it is near enough at every k is computed: proofs/Borders.
+abbrev pub fraction : ℕ → ℕ
+fraction k = k * thirdRest + homeRest
+
+-- the first whole number of units of 2^-53 that belongs to the place k: (k - 1024)·S(1/3), raised, rounded up
 unfoldable pub border : ℕ → ℕ
-border k = k * turn + fraction k / 2 ^ 40 + 1
+border k = k * thirdIn53 + fraction k / 2 ^ 40 + 1
 
 -- how far the border of k lies over (k - 1024)·S(1/3), in units of 2^-64, rounded down
 unfoldable pub gap : ℕ → ℕ
 gap k = 2047 - fraction k / 2 ^ 29 % 2048
 
--- The place of y: the k with border k ≤ y < border (k + 1). A division by one more than the turn finds it or the one below.
+-- The place of y: the k with border k ≤ y < border (k + 1). The quotient by a little more than S(1/3) is that k or the one below.
 unfoldable pub placeOf : ℕ → ℕ
 unfolding border
-placeOf y = let k = y / (turn + 1) in cond (leb (border (k + 1)) y) (k + 1) k
+placeOf y = let k = y / (thirdIn53 + 1) in cond (leb (border (k + 1)) y) (k + 1) k
 
--- 2^64·x rounded down, moved; x is a / b, negative where s is true
-unfoldable pub moved : Bool → ℕ → ℕ → ℕ
-moved false a b = home * 2048 + a * 2 ^ 64 / b
-moved true a b = home * 2048 - (a * 2 ^ 64 + (b - 1)) / b
+-- x raised, in units of 2^-64, rounded down; x is a / b, negative where s is true
+unfoldable pub raised : Bool → ℕ → ℕ → ℕ
+raised false a b = home * 2048 + a * 2 ^ 64 / b
+raised true a b = home * 2048 - (a * 2 ^ 64 + (b - 1)) / b
 
 -- w by its whole units of 2^-53 and the parts of 2048 over them: 2^64·709 does not fit 64 bits
 unfoldable pub pointOf : ℕ → Point
 pointOf w = record { whole = w / 2048; part = w % 2048 }
 
 -- the fields of a normal number from -708 to 709
-pub record Normal (s : Bool) (f t : ℕ) : Type 0 where
+pub record NormalFields (s : Bool) (f t : ℕ) : Type 0 where
   pub first : 1 ≤ f
   pub digits : t < 2 ^ 52
   pub most : mag f t ≤ cond s 708 709 * 2 ^ 1074
 
--- Where x from -708 to 709 is moved to.
+-- whole units of 2^-53 to which an x from -708 to 709 is raised
 pub record InRange (y : ℕ) : Type 0 where
   pub from : home ≤ y + 708 * 2 ^ 53
   pub to : y ≤ home + 709 * 2 ^ 53
@@ -92,18 +96,18 @@ horner r (suc d) = coefficient (38 - d) + r * horner r d / 2 ^ 64
 -- ---- the answer
 
 -- A place k and a sum v become a double: v is rounded to 53 digits, whose leading one counts as one more in the field.
-unfoldable pub packed : ℕ → ℕ → Float
+unfoldable pub composed : ℕ → ℕ → Float
 unfolding ofBits
-packed k v = ofBits binary64 ((k - 2) * 2 ^ 52 + (v + 512) / 1024)
+composed k v = ofBits binary64 ((k - 2) * 2 ^ 52 + (v + 512) / 1024)
 
 unfoldable pub expAt : ℕ → Float
-unfolding placeOf rest horner packed
-expAt w = let k = placeOf (w / 2048) in packed k (horner (rest w k) 39)
+unfolding placeOf rest horner composed
+expAt w = let k = placeOf (w / 2048) in composed k (horner (rest w k) 39)
 
 -- 01, exp: "above 709 gives +infinity, below -708 gives +0, NaN gives NaN, exp 0 is 1". Between, the steps above.
 unfoldable pub expOf : Float → Float
-unfolding ne toBits moved mag expAt
+unfolding ne toBits raised mag expAt
 expOf x =
     let b = toBits binary64 x in
     cond (ne x x) nan
-    (cond (#709 ≺ x) (inf false) (cond (x ≺ neg #708) #0 (expAt (moved (signOf b) (mag (fieldOf b) (digitsOf b)) (2 ^ 1074)))))
+    (cond (#709 ≺ x) (inf false) (cond (x ≺ neg #708) #0 (expAt (raised (signOf b) (mag (fieldOf b) (digitsOf b)) (2 ^ 1074)))))

@@ -2,7 +2,7 @@
 use Prim.Native.Nat.{ℕ, zero, suc, _+_, _-_, _*_, _/_, _^_}
 use Rattle.series.specs.Series.{sum, oddProduct, term, sNum, sDen}
 
--- 01: "j the floor of x/S(1/3)". S(1/3), which is log 2 but for 2^-130, is the fraction thirdNum / thirdDen
+-- 01: "j the floor of x/S(1/3)". S(1/3), which is log 2 but for less than 2^-133, is the fraction thirdNum / thirdDen
 unfoldable pub thirdNum : ℕ
 unfolding sNum sum term oddProduct
 thirdNum = sNum 1 3

@@ -1,40 +1,35 @@
 // The exponential: 2^j times a sum, with x = j·S(1/3) + r. The rest r is kept to 2^-64 and the sum to 2^-62, in whole numbers; the answer is rounded once, at the end.
 ghost use mathlib.Core.Path.{_≡_};
 ghost use Prim.Native.Nat.{_+_, _*_, _^_, _≤_, _<_};
-ghost use Rattle.exponential.specs.Steps.{packed, expAt, expOf, InRange};
-use double::nan;
-use double::to_bits;
+ghost use Rattle.exponential.specs.Steps.{composed, expAt, expOf, InRange};
 use place::Point;
-use place::locate;
-use place::place;
-use place::rest;
-use sum::sum;
 
 pub mod place;
 pub mod sum;
 
 // The double of the sum v, in units of 2^-62, at the place k. A sum that is rounded up to 2 carries into the field, and that is right.
-fn packed(k: u64, v: u64) -> f64
+fn composed(k: u64, v: u64) -> f64
     requires { ⌜ (2 ≤ k) × (k ≤ 2046) × (2 ^ 62 ≤ v) × (v ≤ 2 ^ 63 + 1024) ⌝ }
-    ensures { λ r. ⌜ r ≡ packed k v ⌝ }
+    ensures { λ r. ⌜ r ≡ composed k v ⌝ }
 {
     f64::from_bits((k - 2) * 0x10_0000_0000_0000 + (v + 512) / 1024)
 }
 
-// The exponential at a point that is moved up.
+// The exponential of a number that is raised to p.
 fn exp_at(p: Point) -> f64
     requires { ⌜ InRange (p .whole) × (p .part < 2048) ⌝ }
     ensures { λ r. ⌜ r ≡ expAt (p .whole * 2048 + p .part) ⌝ }
 {
-    let k = place(p.whole);
-    packed(k, sum(rest(p.whole, p.part, k)))
+    let k = place::place(p.whole);
+    composed(k, sum::sum(place::rest(p.whole, p.part, k)))
 }
 
-// 01, exp: "above 709 gives +infinity, below -708 gives +0, NaN gives NaN, exp 0 is 1", and for a subnormal number 1 is as near as a double can be.
+// The exponential, for every double. 01: "above 709 gives +infinity, below -708 gives +0, NaN gives NaN, exp 0 is 1".
+// A subnormal number is so near 0 that no other double is as near. The field 2047 has the infinities and NaN, which is neither above 0 nor below.
 pub fn exp(x: f64) -> f64
     ensures { λ r. ⌜ r ≡ expOf x ⌝ }
 {
-    let b = to_bits(x);
+    let b = double::to_bits(x);
     let f = b / 0x10_0000_0000_0000 % 2048;
     match f {
         0 => 1.0,
@@ -45,7 +40,7 @@ pub fn exp(x: f64) -> f64
             if x < -708.0 {
                 return 0.0;
             }
-            exp_at(locate(b >= 0x8000_0000_0000_0000, f, b % 0x10_0000_0000_0000))
+            exp_at(place::locate(b >= 0x8000_0000_0000_0000, f, b % 0x10_0000_0000_0000))
         }
         _ => {
             if x > 0.0 {
@@ -54,7 +49,7 @@ pub fn exp(x: f64) -> f64
             if x < 0.0 {
                 return 0.0;
             }
-            nan()
+            double::nan()
         }
     }
 }

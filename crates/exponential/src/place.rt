@@ -1,19 +1,20 @@
-// Which multiple of S(1/3) a number lies over, and by how much. All is moved up by 1024·S(1/3), so that nothing is below 0.
+// Which multiple of S(1/3) a number lies over, and by how much. All is raised by 1024·S(1/3), so that nothing is below 0.
 ghost use mathlib.Core.Path.{_≡_};
 ghost use mathlib.Core.Bool.{Bool};
 ghost use Prim.Native.Nat.{_+_, _*_, _^_, _/_, _≤_, _<_};
 ghost use Rattle.double.specs.Fields.{mag};
-ghost use Rattle.exponential.specs.Steps.{border, placeOf, rest, moved, pointOf, InRange, AtPlace, Normal};
+ghost use Rattle.exponential.specs.Steps.{border, placeOf, rest, raised, pointOf, InRange, AtPlace, NormalFields};
 
-// S(1/3) in units of 2^-53, rounded down, the next 40 binary digits of it, and what the sum of those starts from.
-const TURN: u64 = 6243314768165359;
+// S(1/3) in units of 2^-53, rounded down, and the next 40 binary digits of it.
+const THIRD: u64 = 6243314768165359;
 
-const TURN_REST: u64 = 229667272307;
+const THIRD_REST: u64 = 229667272307;
 
-const FIRST_REST: u64 = 116201501695;
-
-// 1024·S(1/3) in units of 2^-53, rounded up: where 0 is moved to.
+// 1024·S(1/3) in units of 2^-53, rounded up: where 0 is raised to.
 const HOME: u64 = 6393154322601327830;
+
+// What HOME is over 1024·S(1/3), in units of 2^-93, rounded up.
+const HOME_REST: u64 = 116201501695;
 
 // Whole units of 2^-53, and parts of 2048 of a unit: 2^64·709 does not fit 64 bits.
 pub struct Point {
@@ -31,10 +32,10 @@ fn shifted(m: u64, n: u64) -> u64
     0
 }
 
-// Where the number with these fields is moved to, rounded down: a negative one away from 0. From ½ on it is a whole number of units.
+// Where the number with these fields is raised to, rounded down: a negative one away from 0. From ½ on it is a whole number of units.
 pub fn locate(negative: bool, f: u64, t: u64) -> Point
-    requires { ⌜ Normal negative f t ⌝ }
-    ensures { λ r. ⌜ r ≡ pointOf (moved negative (mag f t) (2 ^ 1074)) ⌝ }
+    requires { ⌜ NormalFields negative f t ⌝ }
+    ensures { λ r. ⌜ r ≡ pointOf (raised negative (mag f t) (2 ^ 1074)) ⌝ }
 {
     let m = 0x10_0000_0000_0000 + t;
     if f < 1022 {
@@ -64,19 +65,20 @@ pub fn locate(negative: bool, f: u64, t: u64) -> Point
     }
 }
 
+// Where the place k begins.
 fn border(k: u64) -> u64
     requires { ⌜ k ≤ 2047 ⌝ }
     ensures { λ r. ⌜ r ≡ border k ⌝ }
 {
-    k * TURN + (k * TURN_REST + FIRST_REST) / 0x100_0000_0000 + 1
+    k * THIRD + (k * THIRD_REST + HOME_REST) / 0x100_0000_0000 + 1
 }
 
-// The place of y. The quotient by one more than the turn is the place or one less.
+// The place of y. The quotient by a little more than S(1/3) is the place or one less.
 pub fn place(y: u64) -> u64
     requires { ⌜ InRange y ⌝ }
     ensures { λ r. ⌜ r ≡ placeOf y ⌝ }
 {
-    let k = y / (TURN + 1);
+    let k = y / (THIRD + 1);
     if border(k + 1) <= y {
         return k + 1;
     }
@@ -88,6 +90,6 @@ pub fn rest(y: u64, part: u64, k: u64) -> u64
     requires { ⌜ AtPlace y k × (part < 2048) ⌝ }
     ensures { λ r. ⌜ r ≡ rest (y * 2048 + part) k ⌝ }
 {
-    let gap = 2047 - (k * TURN_REST + FIRST_REST) / 0x2000_0000 % 2048;
+    let gap = 2047 - (k * THIRD_REST + HOME_REST) / 0x2000_0000 % 2048;
     (y - border(k)) * 2048 + gap + part
 }

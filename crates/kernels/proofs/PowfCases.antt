@@ -1,6 +1,6 @@
 -- The power by the cases of document 01. Assumes nothing.
-use mathlib.Core.Path.{_≡_, refl, sym, ap, _∙_}
-use mathlib.Core.Bool.{Bool, true, false, cond}
+use mathlib.Core.Path.{_≡_, refl, sym, ap}
+use mathlib.Core.Bool.{Bool, true, false}
 use lib.Ieee.{Float, nan, eq, ne, mul}
 use Rattle.double.specs.Operators.{_⊗_, _≺_}
 use Rattle.double.specs.Numbers.{#0, #1, #2}

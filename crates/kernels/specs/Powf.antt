@@ -1,5 +1,5 @@
 -- The power x^y of two doubles. Definitions only.
-use mathlib.Core.Bool.{Bool, cond}
+use mathlib.Core.Bool.{cond}
 use lib.Ieee.{Float, nan, eq, ne}
 use Rattle.double.specs.Operators.{_⊗_, _≺_}
 use Rattle.double.specs.Numbers.{#0, #1, #2}

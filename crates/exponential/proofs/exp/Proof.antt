@@ -1,17 +1,14 @@
 -- `exp` meets its contract: each class of the exponent field by its case of the definition. Assumes nothing.
-use mathlib.Core.Path.{_≡_, refl, sym, ap, _∙_, subst}
-use mathlib.Core.Bool.{Bool, true, false, cond}
+use mathlib.Core.Path.{_≡_, sym, ap, _∙_, subst}
 use Prim.Native.Nat.{ℕ, _+_, _*_, _/_, _%_, _^_, _≤_, _<_}
 use native.Mathlib.Nat.{div-add-mod'}
 use native.Mathlib.Omega.{arith}
 use borrow.Author.Needs.{needs}
 use lib.Dec.{T}
-use lib.Ieee.{Float, binary64, fits, ofBits, toBits, neg, ne, div}
-use Rattle.double.specs.Operators.{_≺_}
-use Rattle.double.specs.Numbers.{#708, #709}
+use lib.Ieee.{Float, binary64, fits, ofBits, toBits, div}
 use Rattle.double.specs.Fields.{signOf, fieldOf, digitsOf, mag}
 use Rattle.exponential.specs.declared.place.Point.{Point}
-use Rattle.exponential.specs.Steps.{moved, pointOf, expAt, expOf, InRange, Normal}
+use Rattle.exponential.specs.Steps.{raised, pointOf, expAt, InRange, NormalFields}
 use Rattle.exponential.specs.Bound.{Between}
 use Rattle.exponential.proofs.Cases.{class-0, above-709, below-708, between, number-of-class, top-positive, top-negative, top-else}
 use Rattle.exponential.proofs.Fractions.{normal-of, range-of-normal}
@@ -57,15 +54,15 @@ module _ (c : tie.Else3) where
     not-under = c .if3 .left;
   }
 
-  normal : Normal (signOf b) (fieldOf b) (digitsOf b)
+  normal : NormalFields (signOf b) (fieldOf b) (digitsOf b)
   normal =
-      subst (λ (p : ℕ). Normal (signOf p) (fieldOf p) (digitsOf p)) (sym (c .before .before .before .before .to-bits .ensures))
+      subst (λ (p : ℕ). NormalFields (signOf p) (fieldOf p) (digitsOf p)) (sym (c .before .before .before .before .to-bits .ensures))
       (normal-of x is (subst (λ (f : ℕ). 1 ≤ f) (field-is (c .before .before .before .before)) (go _ (c .before .before .before .match .rest .1))))
     where
       go : (f : ℕ) → (f ≡ 0 → ⊥) → 1 ≤ f
       go f n = omega arith
 
-  range : InRange (moved (signOf b) (mag (fieldOf b) (digitsOf b)) (2 ^ 1074) / 2048)
+  range : InRange (raised (signOf b) (mag (fieldOf b) (digitsOf b)) (2 ^ 1074) / 2048)
   range = range-of-normal (signOf b) (fieldOf b) (digitsOf b) normal
 
 to-bits-requires : tie.Need-to-bits-requires
@@ -108,7 +105,7 @@ returns-5 c = class-0 _ (held (c .before .before)) (class-of-zero c)
 returns-6 : tie.Need-returns-6
 returns-6 c =
     c .exp-at .ensures ∙ exp-at-point _ _ (c .before .locate .ensures)
-    ∙ ap (λ (p : ℕ). expAt (moved (signOf p) (mag (fieldOf p) (digitsOf p)) (2 ^ 1074))) (c .before .before .before .before .before .before .to-bits .ensures)
+    ∙ ap (λ (p : ℕ). expAt (raised (signOf p) (mag (fieldOf p) (digitsOf p)) (2 ^ 1074))) (c .before .before .before .before .before .before .to-bits .ensures)
     ∙ between _ (is (c .before .before) .number) (is (c .before .before) .not-over) (is (c .before .before) .not-under)
 
 returns-7 : tie.Need-returns-7

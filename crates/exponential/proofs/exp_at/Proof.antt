@@ -4,8 +4,7 @@ use Prim.Native.Nat.{ℕ, _+_, _*_, _/_, _^_, _≤_, _<_}
 use native.Mathlib.Omega.{arith}
 use borrow.Author.Needs.{needs}
 use lib.Dec.{lit<}
-use lib.Ieee.{Float}
-use Rattle.exponential.specs.Steps.{placeOf, rest, horner, packed, thirdIn64, expAt, AtPlace}
+use Rattle.exponential.specs.Steps.{placeOf, rest, horner, composed, thirdIn64, expAt, AtPlace}
 use Rattle.exponential.proofs.Horner.{horner-most, horner-from-one}
 use Rattle.exponential.proofs.Borders.{at-place, rest-small}
 use Rattle.exponential.proofs.exp_at.Statement.{statement}
@@ -30,8 +29,8 @@ rest-requires c κs = (at-known c, c .before .pre .1)
 sum-requires : tie.Need-sum-requires
 sum-requires c κs = rest-known c
 
-packed-requires : tie.Need-packed-requires
-packed-requires c κs =
+composed-requires : tie.Need-composed-requires
+composed-requires c κs =
     let r = c .before .rest .result in (
       at-known (c .before .before) .low,
       at-known (c .before .before) .high,
@@ -40,18 +39,18 @@ packed-requires c κs =
     )
 
 -- the steps put together, with the place written as the definition has it
-steps : (y part k r v : ℕ) → part < 2048 → k ≡ placeOf y → r ≡ rest (y * 2048 + part) k → v ≡ horner r 39 → packed k v ≡ expAt (y * 2048 + part)
+steps : (y part k r v : ℕ) → part < 2048 → k ≡ placeOf y → r ≡ rest (y * 2048 + part) k → v ≡ horner r 39 → composed k v ≡ expAt (y * 2048 + part)
 unfolding expAt
 steps y part k r v l ek er ev =
     let w : ℕ = y * 2048 + part in
     let whole : y ≡ w / 2048 = omega arith in
-    ap (packed k) (ev ∙ ap (λ (x : ℕ). horner x 39) er) ∙ ap (λ (x : ℕ). packed x (horner (rest w x) 39)) (ek ∙ ap placeOf whole)
+    ap (composed k) (ev ∙ ap (λ (x : ℕ). horner x 39) er) ∙ ap (λ (x : ℕ). composed x (horner (rest w x) 39)) (ek ∙ ap placeOf whole)
 
 returns : tie.Need-returns
 returns c =
     let p = c .before .before .before .before .args .p in
-    c .packed .ensures
+    c .composed .ensures
     ∙ steps (p .whole) (p .part) _ _ _ (c .before .before .before .before .pre .1) (c .before .before .before .place .ensures) (c .before .before .rest .ensures) (c .before .sum .ensures)
 
 pub exp-at-spec : {M : Type 1} → statement M
-exp-at-spec = tie.close (tie.spec place-requires rest-requires sum-requires packed-requires returns)
+exp-at-spec = tie.close (tie.spec place-requires rest-requires sum-requires composed-requires returns)

@@ -1,5 +1,5 @@
 -- `powf` meets its contract: each return is one of the cases. Assumes nothing.
-use mathlib.Core.Path.{_≡_, ap, _∙_}
+use mathlib.Core.Path.{ap, _∙_}
 use lib.Ieee.{Float}
 use borrow.Author.Needs.{needs}
 use Rattle.double.specs.Operators.{_⊗_}

@@ -1,16 +1,16 @@
 -- `border` meets its contract: the borders of all places fit 64 bits. Assumes nothing.
-use mathlib.Core.Path.{_≡_, refl}
+use mathlib.Core.Path.{refl}
 use Prim.Native.Nat.{ℕ, _+_, _*_, _/_, _^_, _<_, _≤_}
 use native.Mathlib.Omega.{arith}
 use borrow.Author.Needs.{needs}
-use Rattle.exponential.specs.Steps.{turn, fraction, border}
+use Rattle.exponential.specs.Steps.{thirdIn53, fraction, border}
 use Rattle.exponential.proofs.Borders.{border-fits}
 use Rattle.exponential.proofs.place.border.Statement.{statement}
 use Rattle.exponential.proofs.place.border.Tie as tie
 
-one-less-fits : (k : ℕ) → k ≤ 2047 → k * turn + fraction k / 2 ^ 40 < 2 ^ 64
+one-less-fits : (k : ℕ) → k ≤ 2047 → k * thirdIn53 + fraction k / 2 ^ 40 < 2 ^ 64
 unfolding border
-one-less-fits k h = go (k * turn + fraction k / 2 ^ 40) (border-fits k h)
+one-less-fits k h = go (k * thirdIn53 + fraction k / 2 ^ 40) (border-fits k h)
   where
     go : (b : ℕ) → b + 1 < 2 ^ 64 → b < 2 ^ 64
     go b e = omega arith

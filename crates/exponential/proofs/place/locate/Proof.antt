@@ -5,15 +5,15 @@ use Prim.Native.Nat.{ℕ, _+_, _-_, _*_, _%_, _^_, _≤_, _<_}
 use native.Mathlib.Omega.{arith}
 use borrow.Author.Needs.{needs}
 use Rattle.double.specs.Fields.{mag}
-use Rattle.exponential.specs.Steps.{home, moved, pointOf, Normal}
+use Rattle.exponential.specs.Steps.{home, raised, pointOf}
 use Rattle.exponential.specs.declared.place.Point.{Point}
 use Rattle.exponential.proofs.Shifts.{low-positive, low-negative, high-positive, high-negative, field-of-normal, shift-fits, units-most}
 use Rattle.exponential.proofs.place.locate.Statement.{statement}
 use Rattle.exponential.proofs.place.locate.Tie as tie
 
 -- the answer at the sign that a test has found
-by-sign : {p : Point} {r s : Bool} (a : ℕ) → r ≡ s → p ≡ pointOf (moved s a (2 ^ 1074)) → p ≡ pointOf (moved r a (2 ^ 1074))
-by-sign a e h = h ∙ ap (λ (z : Bool). pointOf (moved z a (2 ^ 1074))) (sym e)
+by-sign : {p : Point} {r s : Bool} (a : ℕ) → r ≡ s → p ≡ pointOf (raised s a (2 ^ 1074)) → p ≡ pointOf (raised r a (2 ^ 1074))
+by-sign a e h = h ∙ ap (λ (z : Bool). pointOf (raised z a (2 ^ 1074))) (sym e)
 
 down-fits : (n : ℕ) → n ≤ 708 * 2 ^ 53 → n ≤ home
 down-fits n h = omega arith

@@ -1,5 +1,4 @@
 -- `shifted` meets its contract: a shift by 64 or more leaves nothing. Assumes nothing.
-use native.Mathlib.Omega.{arith}
 use borrow.Author.Needs.{needs}
 use Rattle.exponential.proofs.Shifts.{shifted-out}
 use Rattle.exponential.proofs.place.shifted.Statement.{statement}

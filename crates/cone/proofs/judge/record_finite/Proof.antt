@@ -1,0 +1,24 @@
+-- `record_finite` judges the part that the kind uses. Assumes nothing.
+use borrow.Author.Tests.{eq-eqb, ne-eqb}
+use Rattle.cone.specs.Judges.{recordFinite}
+use borrow.Author.Needs.{needs}
+use Rattle.cone.proofs.judge.record_finite.Statement.{statement}
+use Rattle.cone.proofs.judge.record_finite.Tie as tie
+
+wide-finite-requires : tie.Need-wide-finite-requires
+wide-finite-requires c κs = search needs
+
+returns : tie.Need-returns
+unfolding recordFinite
+returns c = simp (eq-eqb _ _ (c .before .before .if1 .taken)) (c .wide-finite .ensures)
+
+three-finite-requires : tie.Need-three-finite-requires
+three-finite-requires c κs = search needs
+
+returns-2 : tie.Need-returns-2
+unfolding recordFinite
+returns-2 c = simp (ne-eqb _ _ (c .before .before .if1 .left)) (c .three-finite .ensures)
+
+pub record-finite-spec : {M : Type 1} → statement M
+record-finite-spec =
+    tie.close (tie.spec wide-finite-requires returns three-finite-requires returns-2)

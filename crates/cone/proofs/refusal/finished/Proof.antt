@@ -1,0 +1,20 @@
+-- `finished` branches as its definition does. Assumes nothing.
+use mathlib.Core.Path.{_∙_, sym}
+use Rattle.cone.specs.Refusals.{numberOf}
+use borrow.Author.Needs.{needs}
+use Rattle.cone.proofs.refusal.finished.Statement.{statement}
+use Rattle.cone.proofs.refusal.finished.Tie as tie
+
+is-finite-requires : tie.Need-is-finite-requires
+is-finite-requires c κs = search needs
+
+returns : tie.Need-returns
+unfolding numberOf
+returns c = simp (sym (c .before .is-finite .ensures) ∙ c .if1 .taken)
+
+returns-2 : tie.Need-returns-2
+unfolding numberOf
+returns-2 c = simp (sym (c .before .is-finite .ensures) ∙ c .if1 .left)
+
+pub finished-spec : {M : Type 1} → statement M
+finished-spec = tie.close (tie.spec is-finite-requires returns returns-2)

@@ -1,0 +1,29 @@
+-- `publish` stores what is finite, and leaves with 7 otherwise. Assumes nothing.
+use mathlib.Core.Path.{_∙_, sym, ap}
+use mathlib.Core.List.{List}
+use lib.Ieee.{Float}
+use Rattle.cone.specs.Refusals.{publishOf}
+use borrow.Author.Needs.{needs}
+use Rattle.cone.proofs.refusal.publish.Statement.{statement}
+use Rattle.cone.proofs.refusal.publish.Tie as tie
+
+all-finite-requires : tie.Need-all-finite-requires
+all-finite-requires c κs = search needs
+
+store-requires : tie.Need-store-requires
+store-requires c κs = search needs
+
+same-length : tie.Need-same-length
+same-length c = search needs
+
+returns : tie.Need-returns
+unfolding publishOf
+returns c = simp (sym (c .before .before .before .before .before .all-finite .ensures) ∙ c .before .before .before .before .if1 .taken) (ap (λ (l : List Float). record { answer = 0; slice = l }) (c .before .before .store .ensures))
+
+returns-2 : tie.Need-returns-2
+unfolding publishOf
+returns-2 c = simp (sym (c .before .all-finite .ensures) ∙ c .if1 .left)
+
+pub publish-spec : {M : Type 1} → statement M
+publish-spec =
+    tie.close (tie.spec all-finite-requires store-requires same-length returns returns-2)

@@ -1,0 +1,90 @@
+-- What the table of document 01 asks of a call's arguments, one definition for each question. Definitions only.
+use Prim.Native.Nat.{ℕ, _+_}
+use mathlib.Core.Bool.{Bool, true, false, cond, _&&_, _||_}
+use mathlib.Core.List.{List, [], _∷_}
+use lib.Dec.{eqb, leb}
+use lib.ListN.{take}
+use lib.Ieee.{Float, neg}
+use lib.Ieee.Scale.{finite}
+use Rattle.double.specs.Operators.{_⊖_, _≺_, _≼_, at}
+use Rattle.double.specs.Numbers.{#0, #1, #tolerance, #largestStep, #smallestNormal}
+use Rattle.algebra.specs.Vectors.{sumOf}
+use Rattle.cone.specs.declared.Cone.{Cone}
+use Rattle.cone.specs.declared.Settings.{Settings}
+use Rattle.cone.specs.declared.Three.{Three}
+use Rattle.cone.specs.declared.Wide.{Wide}
+use Rattle.cone.specs.declared.Scaling.{Scaling}
+
+-- every element passes the test
+unfoldable pub allOf : (Float → Bool) → List Float → Bool
+allOf p [] = true
+allOf p (x ∷ xs) = p x && allOf p xs
+
+-- ---- number 1: the cone
+
+-- the choice by a cone's kind: 1 exponential, 2 power, 3 generalized, and what stands for no kind
+abbrev pub byKind : {A : Type 0} → ℕ → A → A → A → A → A
+byKind kind one two three none = cond (eqb kind 1) one (cond (eqb kind 2) two (cond (eqb kind 3) three none))
+
+-- 01: "power exponent not above 0 and below 1". A NaN is neither
+abbrev pub powerOk : Float → Bool
+powerOk α = #0 ≺ α && α ≺ #1
+
+-- 01: "generalized exponent not above 0 and at most 1"
+abbrev pub exponentOk : Float → Bool
+exponentOk α = #0 ≺ α && α ≼ #1
+
+-- 01: "its computed exponent sum more than 2^-40 from 1"
+abbrev pub sumOk : List Float → Float → Bool
+sumOk α tolerance = sumOf α ⊖ #1 ≼ tolerance && neg tolerance ≼ sumOf α ⊖ #1
+
+-- 01: "its dim1 or dim2 not 1..32"; the first dim1 exponent places are used
+unfoldable pub wideOk : ℕ → ℕ → List Float → Bool
+wideOk dim1 dim2 exps = leb 1 dim1 && leb dim1 32 && leb 1 dim2 && leb dim2 32 && allOf exponentOk (take dim1 exps) && sumOk (take dim1 exps) #tolerance
+
+-- 01: "bad cone: kind is not 1 (exponential), 2 (power), 3 (generalized)"
+unfoldable pub coneOk : Cone → Bool
+coneOk c = byKind (c .kind) true (powerOk (at (c .exps) 0)) (wideOk (c .dim1) (c .dim2) (c .exps)) false
+
+-- ---- number 2: lengths. 01: "(3, 6 for a packed block, or dim1+dim2)"
+
+unfoldable pub numelOf : Cone → ℕ
+numelOf c = cond (eqb (c .kind) 3) (c .dim1 + c .dim2) 3
+
+unfoldable pub blockOf : Cone → ℕ
+blockOf c = cond (eqb (c .kind) 3) (c .dim1 + c .dim2) 6
+
+-- ---- number 3: numbers that are neither NaN nor infinite
+
+abbrev pub allFinite : List Float → Bool
+allFinite xs = allOf finite xs
+
+abbrev pub settingsFinite : Settings → Bool
+settingsFinite s = finite (s .start) && finite (s .step) && finite (s .smallest)
+
+-- kinds 1 and 2 keep "z, the gradient and both packed blocks"
+unfoldable pub threeFinite : Three → Bool
+threeFinite t = allFinite (t .z) && allFinite (t .grad) && allFinite (t .hdual) && allFinite (t .hs)
+
+-- kind 3 keeps "z, μ, gradient, p, q, r, d1, d2", each in the places that its dims use
+unfoldable pub wideFinite : Wide → ℕ → ℕ → Bool
+wideFinite w n₁ n₂ =
+    allFinite (take (n₁ + n₂) (w .z)) && finite (w .mu) && allFinite (take (n₁ + n₂) (w .grad)) && allFinite (take (n₁ + n₂) (w .p))
+    && allFinite (take n₁ (w .q))
+    && allFinite (take n₂ (w .r))
+    && allFinite (take n₁ (w .d1))
+    && finite (w .d2)
+
+-- 01: "a passed record's numbers under 3 included"; "Places that a kind does not use are neither read nor judged"
+unfoldable pub recordFinite : Scaling → Bool
+recordFinite s = cond (eqb (s .cone .kind) 3) (wideFinite (s .wide) (s .cone .dim1) (s .cone .dim2)) (threeFinite (s .three))
+
+-- ---- number 4
+
+-- 01: "search start not above 0; step not above 0 or more than 0.99; smallest step not a positive normal number"
+abbrev pub settingsOk : Settings → Bool
+settingsOk s = #0 ≺ s .start && #0 ≺ s .step && s .step ≼ #largestStep && #smallestNormal ≼ s .smallest
+
+-- 01: "strategy code neither 1 (dual) nor 2 (primal-dual)"
+abbrev pub strategyOk : ℕ → Bool
+strategyOk k = eqb k 1 || eqb k 2

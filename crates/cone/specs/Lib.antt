@@ -1,0 +1,4 @@
+pub mod Fresh
+pub mod Points
+pub mod Judges
+pub mod Refusals

@@ -1,0 +1,93 @@
+-- The table of document 01, row by row, and what a refused call leaves. Definitions only.
+use Prim.Native.Nat.{ℕ, zero, suc}
+use mathlib.Core.Bool.{Bool, cond, not, _&&_, _||_}
+use mathlib.Core.List.{List}
+use lib.Dec.{eqb}
+use lib.Ieee.{Float}
+use lib.Ieee.Scale.{finite}
+use lib.ListN.{length}
+use Rattle.double.specs.Numbers.{#0}
+use Rattle.cone.specs.declared.Cone.{Cone}
+use Rattle.cone.specs.declared.Settings.{Settings}
+use Rattle.cone.specs.declared.Scaling.{Scaling}
+use Rattle.cone.specs.declared.Number.{Number}
+use Rattle.cone.specs.declared.Attempt.{Attempt}
+use Rattle.cone.specs.Judges.{coneOk, allFinite, recordFinite, settingsFinite, settingsOk, strategyOk}
+
+-- 01: "Only the first in this order is given." A row gives its number where it applies, and else what the rows below it give.
+-- An entry's rows end in 0, "done".
+unfoldable pub row : Bool → ℕ → ℕ → ℕ
+row bad number rest = cond bad number rest
+
+-- ---- the rows' tests
+
+-- 1: "bad cone: kind is not 1 (exponential), 2 (power), 3 (generalized)" and what follows there
+abbrev pub badCone : Cone → Bool
+badCone c = not (coneOk c)
+
+-- 1: "or is 3 in a correction or combined shift"
+abbrev pub badCone3D : Cone → Bool
+badCone3D c = not (coneOk c) || eqb (c .kind) 3
+
+-- 2: "a lent slice has another length than needed (3, 6 for a packed block, or dim1+dim2)"
+abbrev pub otherLength : ℕ → List Float → Bool
+otherLength n xs = not (eqb (length xs) n)
+
+-- 3: "an input number is NaN or infinite"
+abbrev pub notFinite : List Float → Bool
+notFinite xs = not (allFinite xs)
+
+-- 4: "search start not above 0; step not above 0 or more than 0.99; smallest step not a positive normal number"
+abbrev pub badSettings : Settings → Bool
+badSettings s = not (settingsOk s)
+
+-- 4: "strategy code neither 1 (dual) nor 2 (primal-dual)"
+abbrev pub badStrategy : ℕ → Bool
+badStrategy k = not (strategyOk k)
+
+-- 5: "record never scaled"
+abbrev pub neverScaled : Scaling → Bool
+neverScaled s = not (s .scaled)
+
+-- ---- what a call leaves
+
+-- its answer, and the slice that it was lent to write
+pub record Lent (A : Type 0) : Type 0 where
+  pub answer : A
+  pub slice : List Float
+
+pub record LentTwo (A : Type 0) : Type 0 where
+  pub answer : A
+  pub first : List Float
+  pub second : List Float
+
+-- A call whose rows give k: where that is 0 it goes on, and else it is refused with k.
+unfoldable pub settle : {A : Type 0} → ℕ → A → (ℕ → A) → A
+settle zero done refuse = done
+settle (suc k) done refuse = refuse (suc k)
+
+-- 01: "A refusal returns zeros for all numbers and no for a yes or no, changes no lent buffer". Of a call whose answer is its number alone
+abbrev pub refuse : List Float → ℕ → Lent ℕ
+refuse old k = record { answer = k; slice = old }
+
+abbrev pub refuseTwo : List Float → List Float → ℕ → LentTwo ℕ
+refuseTwo x y k = record { answer = k; first = x; second = y }
+
+abbrev pub refuseNumber : ℕ → Number
+refuseNumber k = record { code = k; value = #0 }
+
+-- ---- 6: "the Rust would panic: Wright omega argument below 0, or ζ not above 0 in the generalized `update_dual_grad_H`"
+-- ---- 7: "the finished answer holds a NaN or an infinity"
+
+-- 01: "In an update, 7 looks at all new record numbers"
+unfoldable pub lastRows : Attempt → ℕ
+lastRows a = row (a .panics) 6 (row (not (recordFinite (a .scaling))) 7 0)
+
+unfoldable pub publishOf : List Float → List Float → Lent ℕ
+publishOf old ans = cond (allFinite ans) (record { answer = 0; slice = ans }) (refuse old 7)
+
+unfoldable pub publishTwoOf : List Float → List Float → List Float → List Float → LentTwo ℕ
+publishTwoOf x y a b = cond (allFinite a && allFinite b) (record { answer = 0; first = a; second = b }) (refuseTwo x y 7)
+
+unfoldable pub numberOf : Float → Number
+numberOf value = cond (finite value) (record { code = 0; value = value }) (refuseNumber 7)

@@ -1,0 +1,199 @@
+// The judges: each asks one thing of a call's arguments. The rows of the table, in refusal.rt, put them in order.
+ghost use mathlib.Core.Path.{_≡_};
+ghost use lib.ListN.{take};
+ghost use lib.Ieee.Scale.{finite};
+ghost use Rattle.cone.specs.Judges.{allOf, powerOk, exponentOk, sumOk, wideOk, coneOk, numelOf, blockOf, settingsOk, settingsFinite, strategyOk, threeFinite, wideFinite, recordFinite};
+use crate::Cone;
+use crate::Scaling;
+use crate::Settings;
+use crate::Three;
+use crate::Wide;
+use algebra::vector::head;
+use algebra::vector::sum;
+use double::is_finite;
+
+// 2^-40: how far from 1 the exponents of a generalized cone may sum up.
+pub const TOLERANCE: f64 = 9.094947017729282379150390625e-13;
+
+// Whether no place holds a NaN or an infinity.
+pub fn all_finite(xs: &[f64]) -> bool
+    ensures { λ r. ⌜ r ≡ allOf finite (now (xs .entry)) ⌝ }
+{
+    for i in 0..xs.len() {
+        if !is_finite(xs[i]) {
+            return false;
+        }
+    }
+    true
+}
+
+// The same of an array, or of its first n places.
+pub fn finite3(a: [f64; 3]) -> bool
+    ensures { λ r. ⌜ r ≡ allOf finite a ⌝ }
+{
+    all_finite(&a)
+}
+
+pub fn finite6(a: [f64; 6]) -> bool
+    ensures { λ r. ⌜ r ≡ allOf finite a ⌝ }
+{
+    all_finite(&a)
+}
+
+pub fn finite32(a: [f64; 32], n: usize) -> bool
+    ensures { λ r. ⌜ r ≡ allOf finite (take n a) ⌝ }
+{
+    all_finite(head(&a, n))
+}
+
+pub fn finite64(a: [f64; 64], n: usize) -> bool
+    ensures { λ r. ⌜ r ≡ allOf finite (take n a) ⌝ }
+{
+    all_finite(head(&a, n))
+}
+
+// ---- the cone
+
+fn power_ok(a: f64) -> bool
+    ensures { λ r. ⌜ r ≡ powerOk a ⌝ }
+{
+    (a > 0.0) & (a < 1.0)
+}
+
+fn exponent_ok(a: f64) -> bool
+    ensures { λ r. ⌜ r ≡ exponentOk a ⌝ }
+{
+    (a > 0.0) & (a <= 1.0)
+}
+
+fn all_exponents(xs: &[f64]) -> bool
+    ensures { λ r. ⌜ r ≡ allOf exponentOk (now (xs .entry)) ⌝ }
+{
+    for i in 0..xs.len() {
+        if !exponent_ok(xs[i]) {
+            return false;
+        }
+    }
+    true
+}
+
+// The difference is exact where it matters: a sum between 1/2 and 2 less 1 is a double.
+fn sum_ok(xs: &[f64], tolerance: f64) -> bool
+    ensures { λ r. ⌜ r ≡ sumOk (now (xs .entry)) tolerance ⌝ }
+{
+    let d = sum(xs) - 1.0;
+    (d <= tolerance) & (-tolerance <= d)
+}
+
+fn wide_ok(dim1: u32, dim2: u32, exps: &[f64]) -> bool
+    ensures { λ r. ⌜ r ≡ wideOk dim1 dim2 (now (exps .entry)) ⌝ }
+{
+    let used = head(exps, dim1 as usize);
+    (1 <= dim1)
+        & (dim1 <= 32)
+        & (1 <= dim2)
+        & (dim2 <= 32)
+        & all_exponents(used)
+        & sum_ok(used, TOLERANCE)
+}
+
+pub fn cone_ok(cone: Cone) -> bool
+    ensures { λ r. ⌜ r ≡ coneOk cone ⌝ }
+{
+    let kind = cone.kind;
+    let exps = cone.exps;
+    match kind {
+        1 => true,
+        2 => power_ok(exps[0]),
+        3 => wide_ok(cone.dim1, cone.dim2, &exps),
+        _ => false,
+    }
+}
+
+// ---- lengths
+
+// How many numbers a point of the cone has.
+pub fn numel(cone: Cone) -> usize
+    ensures { λ r. ⌜ r ≡ numelOf cone ⌝ }
+{
+    let kind = cone.kind;
+    if kind == 3 {
+        return (cone.dim1 as usize) + (cone.dim2 as usize);
+    }
+    3
+}
+
+// How many numbers get_hs writes.
+pub fn block_len(cone: Cone) -> usize
+    ensures { λ r. ⌜ r ≡ blockOf cone ⌝ }
+{
+    let kind = cone.kind;
+    if kind == 3 {
+        return (cone.dim1 as usize) + (cone.dim2 as usize);
+    }
+    6
+}
+
+// ---- the numbers of the settings and of a record
+
+pub fn settings_finite(s: Settings) -> bool
+    ensures { λ r. ⌜ r ≡ settingsFinite s ⌝ }
+{
+    is_finite(s.start) & is_finite(s.step) & is_finite(s.smallest)
+}
+
+pub fn settings_ok(s: Settings) -> bool
+    ensures { λ r. ⌜ r ≡ settingsOk s ⌝ }
+{
+    (s.start > 0.0) & (s.step > 0.0) & (s.step <= 0.99) & (s.smallest >= 2.2250738585072014e-308)
+}
+
+pub fn strategy_ok(strategy: u32) -> bool
+    ensures { λ r. ⌜ r ≡ strategyOk strategy ⌝ }
+{
+    (strategy == 1) | (strategy == 2)
+}
+
+pub fn three_finite(t: Three) -> bool
+    ensures { λ r. ⌜ r ≡ threeFinite t ⌝ }
+{
+    let z = t.z;
+    let grad = t.grad;
+    let hdual = t.hdual;
+    let hs = t.hs;
+    finite3(z) & finite3(grad) & finite6(hdual) & finite6(hs)
+}
+
+pub fn wide_finite(w: Wide, dim1: u32, dim2: u32) -> bool
+    ensures { λ r. ⌜ r ≡ wideFinite w dim1 dim2 ⌝ }
+{
+    let n1 = dim1 as usize;
+    let n2 = dim2 as usize;
+    let z = w.z;
+    let grad = w.grad;
+    let p = w.p;
+    let q = w.q;
+    let r = w.r;
+    let d1 = w.d1;
+    finite64(z, n1 + n2)
+        & is_finite(w.mu)
+        & finite64(grad, n1 + n2)
+        & finite64(p, n1 + n2)
+        & finite32(q, n1)
+        & finite32(r, n2)
+        & finite32(d1, n1)
+        & is_finite(w.d2)
+}
+
+pub fn record_finite(scaling: Scaling) -> bool
+    ensures { λ r. ⌜ r ≡ recordFinite scaling ⌝ }
+{
+    let cone = scaling.cone;
+    let kind = cone.kind;
+    if kind == 3 {
+        let wide = scaling.wide;
+        return wide_finite(wide, cone.dim1, cone.dim2);
+    }
+    let three = scaling.three;
+    three_finite(three)
+}

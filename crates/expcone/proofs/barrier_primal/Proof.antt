@@ -1,0 +1,71 @@
+-- `barrier_primal` meets its contract: omega's flag picks the definition's branch. Assumes nothing.
+use mathlib.Core.Path.{_≡_, refl, ap, _∙_}
+use lib.Ieee.{Float}
+use Rattle.arith.proofs.Branches.{taken, left}
+use Rattle.double.specs.Operators.{at}
+use Rattle.expcone.specs.Omega.{omegaOf, omegaArg, omegaAt}
+use mathlib.Core.List.{List}
+use Rattle.expcone.specs.Barriers.{barrierPrimalOf, barrierPrimalAt}
+use borrow.Author.Needs.{needs}
+use Rattle.expcone.proofs.barrier_primal.Statement.{statement}
+use Rattle.expcone.proofs.barrier_primal.Tie as tie
+
+abbrev point : tie.After-wright-omega → List Float
+point w = w .before .before .args .t1
+
+-- what was called is omega at the point
+omega-told : (w : tie.After-wright-omega) → w .wright-omega .result ≡ omegaAt (point w)
+unfolding omegaAt omegaArg
+omega-told w = w .wright-omega .ensures ∙ ap (λ (l : Float). omegaOf (omegaArg (at (point w) 0) (at (point w) 1) l)) (w .before .log .ensures)
+
+array-read-s0 : tie.Need-array-read-s0
+array-read-s0 c = search needs
+
+array-read-s1 : tie.Need-array-read-s1
+array-read-s1 c = search needs
+
+array-read-s2 : tie.Need-array-read-s2
+array-read-s2 c = search needs
+
+log-requires : tie.Need-log-requires
+log-requires c κs = search needs
+
+wright-omega-requires : tie.Need-wright-omega-requires
+wright-omega-requires c κs = search needs
+
+returns : tie.Need-returns
+unfolding barrierPrimalOf barrierPrimalAt
+returns c =
+    let w = c .before in
+    taken _ (c .if1 .taken) refl ∙ ap (barrierPrimalAt (at (point w) 1) (at (point w) 2)) (omega-told w)
+
+log-requires-2 : tie.Need-log-requires-2
+log-requires-2 c κs = search needs
+
+log-requires-3 : tie.Need-log-requires-3
+log-requires-3 c κs = search needs
+
+log-requires-4 : tie.Need-log-requires-4
+log-requires-4 c κs = search needs
+
+returns-2 : tie.Need-returns-2
+unfolding barrierPrimalOf barrierPrimalAt
+returns-2 c =
+    let w = c .before .before .before .before in
+    left _ (c .before .before .before .if1 .left) (rw (c .log4 .ensures, c .before .log3 .ensures, c .before .before .log2 .ensures))
+    ∙ ap (barrierPrimalAt (at (point w) 1) (at (point w) 2)) (omega-told w)
+
+pub barrier-primal-spec : {M : Type 1} → statement M
+barrier-primal-spec =
+    tie.close
+    (tie.spec
+    array-read-s0
+    array-read-s1
+    array-read-s2
+    log-requires
+    wright-omega-requires
+    returns
+    log-requires-2
+    log-requires-3
+    log-requires-4
+    returns-2)

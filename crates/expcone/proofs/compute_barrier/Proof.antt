@@ -1,0 +1,54 @@
+-- `compute_barrier` meets its contract: the primal barrier's flag picks the definition's branch. Assumes nothing.
+use mathlib.Core.Path.{_≡_, refl, ap, ap₂, _∙_}
+use Rattle.arith.proofs.Branches.{taken, left}
+use Rattle.algebra.specs.Vectors.{movedOf}
+use Rattle.expcone.specs.Barriers.{barrierPrimalOf, barrierDualOf, computeBarrierOf, computeBarrierAt}
+use borrow.Author.Needs.{needs}
+use Rattle.expcone.proofs.compute_barrier.Statement.{statement}
+use Rattle.expcone.proofs.compute_barrier.Tie as tie
+
+abbrev start : tie.After-barrier-primal → tie.Start
+start p = p .before .before .before .before
+
+dual-told
+    : (p : tie.After-barrier-primal)
+    → p .before .barrier-dual .result ≡ barrierDualOf (movedOf (start p .args .z) (start p .args .alpha) (start p .args .dz))
+dual-told p = p .before .barrier-dual .ensures ∙ ap barrierDualOf (p .before .before .before .moved3 .ensures)
+
+primal-told
+    : (p : tie.After-barrier-primal)
+    → p .barrier-primal .result ≡ barrierPrimalOf (movedOf (start p .args .s) (start p .args .alpha) (start p .args .ds))
+primal-told p = p .barrier-primal .ensures ∙ ap barrierPrimalOf (p .before .before .moved32 .ensures)
+
+moved3-requires : tie.Need-moved3-requires
+moved3-requires c κs = search needs
+
+moved3-requires-2 : tie.Need-moved3-requires-2
+moved3-requires-2 c κs = search needs
+
+barrier-dual-requires : tie.Need-barrier-dual-requires
+barrier-dual-requires c κs = search needs
+
+barrier-primal-requires : tie.Need-barrier-primal-requires
+barrier-primal-requires c κs = search needs
+
+returns : tie.Need-returns
+unfolding computeBarrierOf computeBarrierAt
+returns c = taken _ (c .if1 .taken) refl ∙ ap₂ computeBarrierAt (dual-told (c .before)) (primal-told (c .before))
+
+returns-2 : tie.Need-returns-2
+unfolding computeBarrierOf computeBarrierAt
+returns-2 c =
+    let p = c .before .before in
+    left _ (c .before .if1 .left) refl ∙ ap₂ computeBarrierAt (dual-told p) (primal-told p)
+
+pub compute-barrier-spec : {M : Type 1} → statement M
+compute-barrier-spec =
+    tie.close
+    (tie.spec
+    moved3-requires
+    moved3-requires-2
+    barrier-dual-requires
+    barrier-primal-requires
+    returns
+    returns-2)

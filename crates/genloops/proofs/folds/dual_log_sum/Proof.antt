@@ -1,0 +1,72 @@
+-- `dual_log_sum` meets its contract: after i turns the loop holds the first i terms' sum. The measure is what is left of the shorter length. Assumes nothing.
+use Prim.Native.Nat.{_-_, _≤_, min}
+use mathlib.Core.Path.{_≡_}
+use native.Mathlib.Omega.{arith}
+use lib.ListN.{length}
+use borrow.Author.Needs.{needs}
+use Rattle.arith.proofs.Turns.{iter-end, iter-next, iter-none}
+use Rattle.arith.specs.Turns.{iter}
+use Rattle.double.specs.Numbers.{#0}
+use Rattle.genloops.specs.Folds.{dualLogSum, dualLogTurn}
+use Rattle.genloops.proofs.folds.dual_log_sum.Statement.{statement}
+use Rattle.genloops.proofs.folds.dual_log_sum.Tie as tie
+
+abbrev Inv-loop : tie.InvT-loop
+Inv-loop alpha z n res₀ i₀ res i = (n ≡ min (length alpha) (length z)) × (i ≤ n) × (res ≡ iter (dualLogTurn alpha z) #0 i)
+
+abbrev μ-loop : tie.MeasureT-loop
+μ-loop alpha z n res₀ i₀ res i = n - i
+
+shorter-requires : tie.Need-shorter-requires Inv-loop μ-loop
+shorter-requires c κs = search needs
+
+loop-holds : tie.Need-loop-holds Inv-loop μ-loop
+loop-holds c = (c .shorter .ensures, omega arith, iter-none _ _)
+
+mul-ai : tie.Need-mul-ai Inv-loop μ-loop
+mul-ai c = omega arith
+
+shared-slice-read-ai : tie.Need-shared-slice-read-ai Inv-loop μ-loop
+shared-slice-read-ai c = omega arith
+
+mul-log : tie.Need-mul-log Inv-loop μ-loop
+mul-log c = omega arith
+
+shared-slice-read-log : tie.Need-shared-slice-read-log Inv-loop μ-loop
+shared-slice-read-log c = omega arith
+
+log-requires : tie.Need-log-requires Inv-loop μ-loop
+log-requires c κs = search needs
+
+add-i : tie.Need-add-i Inv-loop μ-loop
+add-i c = omega arith
+
+loop-less : tie.Need-loop-less Inv-loop μ-loop
+loop-less c = omega arith
+
+loop-again : tie.Need-loop-again Inv-loop μ-loop
+loop-again c =
+    let l = c .before .before .before .before .loop in
+    (l .inv .0, omega arith, rw (c .log .ensures) (iter-next _ _ _ (l .inv .2)))
+
+returns : tie.Need-returns Inv-loop μ-loop
+unfolding dualLogSum
+returns c = iter-end _ _ _ _ (c .before .loop .inv .2) (omega arith) (omega arith)
+
+pub dual-log-sum-spec : {M : Type 1} → statement M
+dual-log-sum-spec =
+    tie.close
+    (tie.spec
+    Inv-loop
+    μ-loop
+    shorter-requires
+    loop-holds
+    mul-ai
+    shared-slice-read-ai
+    mul-log
+    shared-slice-read-log
+    log-requires
+    add-i
+    loop-less
+    loop-again
+    returns)

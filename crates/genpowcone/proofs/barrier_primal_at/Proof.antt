@@ -1,0 +1,52 @@
+-- `barrier_primal_at` is its definition: the calls are replaced by what they promise, the last first. Assumes nothing.
+use native.Mathlib.Omega.{arith}
+use lib.ListN.{length-take}
+use borrow.Author.Needs.{needs}
+use Rattle.genpowcone.specs.Barriers.{barrierPrimalAt}
+use Rattle.genpowcone.proofs.barrier_primal_at.Statement.{statement}
+use Rattle.genpowcone.proofs.barrier_primal_at.Tie as tie
+
+slice-aggregate-head : tie.Need-slice-aggregate-head
+slice-aggregate-head c = search needs
+
+head-requires : tie.Need-head-requires
+head-requires c κs = search needs
+
+negated-requires : tie.Need-negated-requires
+negated-requires c κs = rw (c .head .ensures) (simp length-take (omega arith))
+
+slice-aggregate-head-2 : tie.Need-slice-aggregate-head-2
+slice-aggregate-head-2 c = search needs
+
+head-requires-2 : tie.Need-head-requires-2
+head-requires-2 c κs = search needs
+
+barrier-dual-requires : tie.Need-barrier-dual-requires
+barrier-dual-requires c κs = search needs
+
+add-degree : tie.Need-add-degree
+add-degree c = search needs
+
+nearest-u64-to-f64-requires : tie.Need-nearest-u64-to-f64-requires
+nearest-u64-to-f64-requires c κs = search needs
+
+returns : tie.Need-returns
+unfolding barrierPrimalAt
+returns c =
+    let dual = c .before in
+    let minus = dual .before .before .before in
+    rw (c .nearest-u64-to-f64 .ensures, dual .barrier-dual .ensures, dual .before .head2 .ensures, minus .negated .ensures, minus .before .head .ensures)
+
+pub barrier-primal-at-spec : {M : Type 1} → statement M
+barrier-primal-at-spec =
+    tie.close
+    (tie.spec
+    slice-aggregate-head
+    head-requires
+    negated-requires
+    slice-aggregate-head-2
+    head-requires-2
+    barrier-dual-requires
+    add-degree
+    nearest-u64-to-f64-requires
+    returns)

@@ -1,0 +1,43 @@
+-- `is_dual_feasible` is its definition, whichever test fails first. Assumes nothing.
+use borrow.Author.Needs.{needs}
+use Rattle.genpowcone.specs.Feasible.{dualFeasible}
+use Rattle.genpowcone.proofs.is_dual_feasible.Statement.{statement}
+use Rattle.genpowcone.proofs.is_dual_feasible.Tie as tie
+
+head-requires : tie.Need-head-requires
+head-requires c κs = search needs
+
+all-above-zero-requires : tie.Need-all-above-zero-requires
+all-above-zero-requires c κs = search needs
+
+dual-residue-requires : tie.Need-dual-residue-requires
+dual-residue-requires c κs = search needs
+
+returns : tie.Need-returns
+unfolding dualFeasible
+returns c =
+    let tested = c .before .before .before in
+    let heads = tested .before in
+    simp (← heads .before .head .ensures, ← heads .all-above-zero .ensures, tested .if1 .taken, ← c .before .before .dual-residue .ensures, c .if2 .taken)
+
+returns-2 : tie.Need-returns-2
+unfolding dualFeasible
+returns-2 c =
+    let tested = c .before .before .before in
+    let heads = tested .before in
+    simp (← heads .before .head .ensures, ← heads .all-above-zero .ensures, tested .if1 .taken, ← c .before .before .dual-residue .ensures, c .if2 .left)
+
+returns-3 : tie.Need-returns-3
+unfolding dualFeasible
+returns-3 c = simp (← c .before .before .head .ensures, ← c .before .all-above-zero .ensures, c .if1 .left)
+
+pub is-dual-feasible-spec : {M : Type 1} → statement M
+is-dual-feasible-spec =
+    tie.close
+    (tie.spec
+    head-requires
+    all-above-zero-requires
+    dual-residue-requires
+    returns
+    returns-2
+    returns-3)

@@ -1,0 +1,64 @@
+-- `mul_hs` is its definition: the calls are replaced by what they promise, the last first. Assumes nothing.
+use native.Mathlib.Omega.{arith}
+use lib.ListN.{length-drop, length-take}
+use borrow.Author.Needs.{needs}
+use Rattle.genpowcone.specs.Rank3.{mulHsOf}
+use Rattle.genpowcone.proofs.mul_hs.Statement.{statement}
+use Rattle.genpowcone.proofs.mul_hs.Tie as tie
+
+head-requires : tie.Need-head-requires
+head-requires c κs = search needs
+
+tail-requires : tie.Need-tail-requires
+tail-requires c κs = search needs
+
+slice-aggregate-dot : tie.Need-slice-aggregate-dot
+slice-aggregate-dot c = search needs
+
+dot-requires : tie.Need-dot-requires
+dot-requires c κs = search needs
+
+slice-aggregate-dot-2 : tie.Need-slice-aggregate-dot-2
+slice-aggregate-dot-2 c = search needs
+
+dot-requires-2 : tie.Need-dot-requires-2
+dot-requires-2 c κs = search needs
+
+slice-aggregate-dot-3 : tie.Need-slice-aggregate-dot-3
+slice-aggregate-dot-3 c = search needs
+
+dot-requires-3 : tie.Need-dot-requires-3
+dot-requires-3 c κs = search needs
+
+product-head-requires : tie.Need-product-head-requires
+product-head-requires c κs = rw (c .before .before .before .before .before .before .before .head .ensures) (simp length-take (omega arith))
+
+product-tail-requires : tie.Need-product-tail-requires
+product-tail-requires c κs = rw (c .before .before .before .before .before .before .before .tail .ensures) (simp length-drop (omega arith, omega arith))
+
+product-finished-requires : tie.Need-product-finished-requires
+product-finished-requires c κs = omega arith
+
+returns : tie.Need-returns
+unfolding mulHsOf
+returns c =
+    let dots = c .before .before .before in
+    let halves = c .before .before .before .before .before .before .before .before .before in
+    simp (c .product-finished .ensures, c .before .product-tail .ensures, c .before .before .product-head .ensures, dots .dot3 .ensures, dots .before .before .dot2 .ensures, dots .before .before .before .before .dot .ensures, halves .tail .ensures, halves .before .head .ensures)
+
+pub mul-hs-spec : {M : Type 1} → statement M
+mul-hs-spec =
+    tie.close
+    (tie.spec
+    head-requires
+    tail-requires
+    slice-aggregate-dot
+    dot-requires
+    slice-aggregate-dot-2
+    dot-requires-2
+    slice-aggregate-dot-3
+    dot-requires-3
+    product-head-requires
+    product-tail-requires
+    product-finished-requires
+    returns)

@@ -1,0 +1,53 @@
+-- `rank3` is its definition: the calls are replaced by what they promise. The tail has at most 32 places, by the cone's dims. Assumes nothing.
+use native.Mathlib.Omega.{arith}
+use lib.ListN.{length-drop}
+use borrow.Author.Needs.{needs}
+use Rattle.genpowcone.specs.Rank3.{rank3At}
+use Rattle.genpowcone.proofs.rank3.Statement.{statement}
+use Rattle.genpowcone.proofs.rank3.Tie as tie
+
+tail-requires : tie.Need-tail-requires
+tail-requires c κs = search needs
+
+tau-and-grad-requires : tie.Need-tau-and-grad-requires
+tau-and-grad-requires c κs = search needs
+
+times-tail-requires : tie.Need-times-tail-requires
+times-tail-requires c κs = rw (c .before .before .before .tail .ensures) (simp length-drop (omega arith))
+
+coefficients-of-requires : tie.Need-coefficients-of-requires
+coefficients-of-requires c κs = search needs
+
+diagonal-requires : tie.Need-diagonal-requires
+diagonal-requires c κs = search needs
+
+p-of-requires : tie.Need-p-of-requires
+p-of-requires c κs = rw (c .before .before .before .before .before .before .before .before .tail .ensures) (simp length-drop (omega arith))
+
+q-of-requires : tie.Need-q-of-requires
+q-of-requires c κs = search needs
+
+times32-requires : tie.Need-times32-requires
+times32-requires c κs = rw (c .before .before .before .before .before .before .before .before .before .before .before .before .tail .ensures) (simp length-drop (omega (arith, c .before .before .before .before .before .before .before .before .before .before .before .before .before .before .before .pre .1)))
+
+returns : tie.Need-returns
+unfolding rank3At
+returns c =
+    let p = c .before .before .before .before in
+    let coefficients = c .before .before .before .before .before .before .before .before in
+    let heads = c .before .before .before .before .before .before .before .before .before .before .before .before in
+    simp (c .times32 .ensures, c .before .before .q-of .ensures, p .p-of .ensures, p .before .before .before .diagonal .ensures, coefficients .coefficients-of .ensures, coefficients .before .times-tail .ensures, heads .tau-and-grad .ensures, heads .before .tail .ensures)
+
+pub rank3-spec : {M : Type 1} → statement M
+rank3-spec =
+    tie.close
+    (tie.spec
+    tail-requires
+    tau-and-grad-requires
+    times-tail-requires
+    coefficients-of-requires
+    diagonal-requires
+    p-of-requires
+    q-of-requires
+    times32-requires
+    returns)

@@ -1,0 +1,5 @@
+pub mod Feasible
+pub mod PrimalGradient
+pub mod Barriers
+pub mod Rank3
+pub mod DualGradient

@@ -1,0 +1,359 @@
+// The generalized power cone of 002, as functions on values.
+//
+// Primal: s_1^{α_1} .. s_d^{α_d} ≥ |w|, s_1, .., s_d ≥ 0, where d is dim1 and w is the tail of dim2 numbers
+// Dual: (z_1/α_1)^{α_1} .. (z_d/α_d)^{α_d} ≥ |w|, z_1, .., z_d ≥ 0
+//
+// `alpha` is the slice of the exponents in use, so dim1 is its length. Arrays that are handed back have 64 or 32 places; those behind
+// the used ones are +0.
+ghost use mathlib.Core.Path.{_≡_};
+ghost use Prim.Native.Nat.{_+_, _≤_};
+ghost use lib.ListN.{length};
+ghost use Rattle.genpowcone.specs.Feasible.{residueAt, primalResidue, dualResidue, primalFeasible, dualFeasible};
+ghost use Rattle.genpowcone.specs.PrimalGradient.{unitInitializationOf, newtonRaphsonGenpowconeOf, gradientAt, gradientPrimalOf};
+ghost use Rattle.genpowcone.specs.Barriers.{barrierDualOf, barrierPrimalAt, barrierPrimalOf, computeBarrierOf};
+ghost use Rattle.genpowcone.specs.DualGradient.{updateDualGradHOf};
+ghost use Rattle.genpowcone.specs.Rank3.{getHsOf, mulHsOf, coefficientsOf, pOf, qOf, rank3At};
+use algebra::vector::dot;
+use algebra::vector::head;
+use algebra::vector::norm;
+use algebra::vector::sumsq;
+use algebra::vector::tail;
+use cone::Wide;
+use cone::no_wide;
+use genloops::folds::all_above_zero;
+use genloops::folds::dual_log_sum;
+use genloops::folds::dual_phi;
+use genloops::folds::less_logs;
+use genloops::folds::primal_log_sum;
+use genloops::folds::primal_phi;
+use genloops::places::diagonal;
+use genloops::places::gradient_flat_head;
+use genloops::places::gradient_head;
+use genloops::places::moved;
+use genloops::places::negated;
+use genloops::places::product_finished;
+use genloops::places::product_head;
+use genloops::places::product_tail;
+use genloops::places::scale32;
+use genloops::places::set_tail;
+use genloops::places::tau_and_grad;
+use genloops::places::times_tail;
+use genloops::places::times32;
+use genloops::places::times64;
+use genloops::places::unit_head;
+use kernels::exp;
+use kernels::log;
+use kernels::sqrt;
+use newton::Equation;
+use newton::Found;
+use newton::newton_raphson_onesided;
+
+const EPSILON: f64 = 2.220446049250313e-16;
+
+// What a cone test compares, with the two numbers that it is the difference of: res = power - square.
+pub struct Residue {
+    pub res: f64,
+    pub power: f64,
+    pub square: f64,
+}
+
+// The primal gradient, and how many Newton rounds it took; 0 where Newton was not entered.
+pub struct Gradient {
+    pub g: [f64; 64],
+    pub rounds: u32,
+}
+
+// What update_dual_grad_h computes. Where the Rust panics, since ζ is not above 0, all its numbers are +0.
+pub struct GradH {
+    pub panics: bool,
+    pub wide: Wide,
+}
+
+// p0, p1, q0 and r1 of update_dual_grad_h.
+pub struct Coefficients {
+    pub p0: f64,
+    pub p1: f64,
+    pub q0: f64,
+    pub r1: f64,
+}
+
+// s and z alike
+pub fn unit_initialization(alpha: &[f64]) -> [f64; 64]
+    requires { ⌜ length (now alpha) ≤ 64 ⌝ }
+    ensures { λ r. ⌜ r ≡ unitInitializationOf (now (alpha .entry)) ⌝ }
+{
+    unit_head(alpha)
+}
+
+// we are returning here the diagonal D = [d1; d2] block; d1 is the slice of its used places
+pub fn get_hs(mu: f64, d1: &[f64], d2: f64, dim2: usize) -> [f64; 64]
+    requires { ⌜ length (now d1) + dim2 ≤ 64 ⌝ }
+    ensures { λ r. ⌜ r ≡ getHsOf mu (now (d1 .entry)) d2 dim2 ⌝ }
+{
+    let block = times64(mu, d1);
+    set_tail(block, d1.len(), dim2, mu * d2)
+}
+
+// Hs = μ*(D + pp' -qq' -rr')
+pub fn mul_hs(wide: Wide, dim1: usize, x: &[f64]) -> [f64; 64]
+    requires { ⌜ (dim1 ≤ 32) × (length (now x) ≤ dim1 + 32) ⌝ }
+    ensures { λ r. ⌜ r ≡ mulHsOf wide dim1 (now (x .entry)) ⌝ }
+{
+    let p = wide.p;
+    let q = wide.q;
+    let r = wide.r;
+    let d1 = wide.d1;
+    let x1 = head(x, dim1);
+    let x2 = tail(x, dim1);
+
+    let coef_p = dot(&p, x);
+    let coef_q = dot(&q, x1);
+    let coef_r = dot(&r, x2);
+
+    let y1 = product_head(d1, q, coef_q, x1);
+    let y = product_tail(y1, dim1, wide.d2, r, coef_r, x2);
+    product_finished(y, x.len(), coef_p, p, wide.mu)
+}
+
+// step is the Rust's α, the length of the step from z and s; w is the tail that gradient_primal takes.
+pub fn compute_barrier(
+    alpha: &[f64],
+    z: &[f64],
+    s: &[f64],
+    dz: &[f64],
+    ds: &[f64],
+    step: f64,
+    w: &[f64],
+) -> f64
+    requires { ⌜ (length (now alpha) + length (now w) ≤ 64) × (length (now s) ≤ 64) × (length (now z) ≤ 64) ⌝ }
+    ensures { λ r. ⌜ r ≡ computeBarrierOf (now (alpha .entry)) (now (z .entry)) (now (s .entry)) (now (dz .entry)) (now (ds .entry)) step (now (w .entry)) ⌝ }
+{
+    let cur_s = moved(s, step, ds);
+    let primal = barrier_primal(alpha, head(&cur_s, s.len()), w);
+
+    let cur_z = moved(z, step, dz);
+    let dual = barrier_dual(alpha, head(&cur_z, z.len()));
+
+    0.0 + primal + dual
+}
+
+fn residue_at(power: f64, square: f64) -> Residue
+    ensures { λ r. ⌜ r ≡ residueAt power square ⌝ }
+{
+    Residue {
+        res: power - square,
+        power,
+        square,
+    }
+}
+
+// `res` of is_primal_feasible.
+pub fn primal_residue(alpha: &[f64], s: &[f64]) -> Residue
+    ensures { λ r. ⌜ r ≡ primalResidue (now (alpha .entry)) (now (s .entry)) ⌝ }
+{
+    let power = exp(primal_log_sum(alpha, s));
+    let square = sumsq(tail(s, alpha.len()));
+    residue_at(power, square)
+}
+
+// `res` of is_dual_feasible, and what barrier_dual begins with.
+pub fn dual_residue(alpha: &[f64], z: &[f64]) -> Residue
+    ensures { λ r. ⌜ r ≡ dualResidue (now (alpha .entry)) (now (z .entry)) ⌝ }
+{
+    let power = exp(dual_log_sum(alpha, z));
+    let square = sumsq(tail(z, alpha.len()));
+    residue_at(power, square)
+}
+
+// Returns true if s is primal feasible
+pub fn is_primal_feasible(alpha: &[f64], s: &[f64]) -> bool
+    ensures { λ r. ⌜ r ≡ primalFeasible (now (alpha .entry)) (now (s .entry)) ⌝ }
+{
+    if all_above_zero(head(s, alpha.len())) {
+        let r = primal_residue(alpha, s);
+        if r.res > 0.0 {
+            return true;
+        }
+    }
+    false
+}
+
+// Returns true if z is dual feasible
+pub fn is_dual_feasible(alpha: &[f64], z: &[f64]) -> bool
+    ensures { λ r. ⌜ r ≡ dualFeasible (now (alpha .entry)) (now (z .entry)) ⌝ }
+{
+    if all_above_zero(head(z, alpha.len())) {
+        let r = dual_residue(alpha, z);
+        if r.res > 0.0 {
+            return true;
+        }
+    }
+    false
+}
+
+// Primal barrier: f(s) = ⟨s,g(s)⟩ - f*(-g(s))
+// NB: ⟨s,g(s)⟩ = -(dim1(K)+1) = - ν
+pub fn barrier_primal(alpha: &[f64], s: &[f64], w: &[f64]) -> f64
+    requires { ⌜ length (now alpha) + length (now w) ≤ 64 ⌝ }
+    ensures { λ r. ⌜ r ≡ barrierPrimalOf (now (alpha .entry)) (now (s .entry)) (now (w .entry)) ⌝ }
+{
+    let f = gradient_primal(alpha, s, w);
+    let g = f.g;
+    barrier_primal_at(alpha, g, s.len())
+}
+
+// barrier_primal from the gradient on, of which n places are in use
+fn barrier_primal_at(alpha: &[f64], g: [f64; 64], n: usize) -> f64
+    ensures { λ r. ⌜ r ≡ barrierPrimalAt (now (alpha .entry)) g n ⌝ }
+{
+    let minus_g = negated(head(&g, n)); //-g(s)
+    let barrier = barrier_dual(alpha, head(&minus_g, n));
+    let degree = alpha.len() as u64 + 1;
+    -barrier - std::num::nearest_u64_to_f64(degree)
+}
+
+pub fn barrier_dual(alpha: &[f64], z: &[f64]) -> f64
+    ensures { λ r. ⌜ r ≡ barrierDualOf (now (alpha .entry)) (now (z .entry)) ⌝ }
+{
+    let r = dual_residue(alpha, z);
+    less_logs(-log(r.res), alpha, z)
+}
+
+pub fn update_dual_grad_h(alpha: &[f64], z: &[f64]) -> GradH
+    requires { ⌜ (length (now alpha) ≤ 32) × (length (now z) ≤ length (now alpha) + 32) ⌝ }
+    ensures { λ r. ⌜ r ≡ updateDualGradHOf (now (alpha .entry)) (now (z .entry)) ⌝ }
+{
+    let phi = dual_phi(alpha, z);
+
+    let norm2w = sumsq(tail(z, alpha.len()));
+    let zeta = phi - norm2w;
+    // the Rust asserts this; a NaN is not above 0
+    if zeta > 0.0 {
+        let wide = rank3(alpha, z, phi, norm2w);
+        GradH {
+            panics: false,
+            wide,
+        }
+    } else {
+        let wide = no_wide();
+        GradH { panics: true, wide }
+    }
+}
+
+// update_dual_grad_h from ζ on; z and mu are not its to set
+fn rank3(alpha: &[f64], z: &[f64], phi: f64, norm2w: f64) -> Wide
+    requires { ⌜ (length (now alpha) ≤ 32) × (length (now z) ≤ length (now alpha) + 32) ⌝ }
+    ensures { λ r. ⌜ r ≡ rank3At (now (alpha .entry)) (now (z .entry)) phi norm2w ⌝ }
+{
+    let dim1 = alpha.len();
+    let w = tail(z, dim1);
+    let zeta = phi - norm2w;
+
+    // compute the gradient at z
+    let heads = tau_and_grad(alpha, z, phi, zeta);
+    let tau = heads.tau;
+    let grad1 = heads.grad;
+    let grad = times_tail(grad1, dim1, 2.0 / zeta, w);
+
+    // compute Hessian information at z
+    let c = coefficients_of(phi, norm2w);
+
+    // compute the diagonal d1,d2
+    let d1 = diagonal(alpha, z, tau, phi, zeta);
+
+    // compute p, q, r; in the Rust τ shares memory with q
+    let p = p_of(tau, dim1, c.p0 / zeta, w, c.p1 / zeta);
+    let q = q_of(tau, dim1, c.q0 / zeta);
+    let r = times32(c.r1 / zeta, w);
+    Wide {
+        z: [0.0; 64],
+        mu: 0.0,
+        grad,
+        p,
+        q,
+        r,
+        d1,
+        d2: 2.0 / zeta,
+    }
+}
+
+fn coefficients_of(phi: f64, norm2w: f64) -> Coefficients
+    ensures { λ r. ⌜ r ≡ coefficientsOf phi norm2w ⌝ }
+{
+    let zeta = phi - norm2w;
+    let p0 = sqrt(phi * (phi + norm2w) / 2.0);
+    let p1 = -2.0 * phi / p0;
+    let q0 = sqrt(zeta * phi / 2.0);
+    let r1 = 2.0 * sqrt(zeta / (phi + norm2w));
+    Coefficients { p0, p1, q0, r1 }
+}
+
+// c0 times τ, then c1 times the tail w
+fn p_of(tau: [f64; 32], dim1: usize, c0: f64, w: &[f64], c1: f64) -> [f64; 64]
+    requires { ⌜ dim1 + length (now w) ≤ 64 ⌝ }
+    ensures { λ r. ⌜ r ≡ pOf tau dim1 c0 (now (w .entry)) c1 ⌝ }
+{
+    let p = times64(c0, head(&tau, dim1));
+    times_tail(p, dim1, c1, w)
+}
+
+fn q_of(tau: [f64; 32], dim1: usize, c: f64) -> [f64; 32]
+    ensures { λ r. ⌜ r ≡ qOf tau dim1 c ⌝ }
+{
+    scale32(head(&tau, dim1), c)
+}
+
+// Compute the primal gradient of f(s) at s. Its tail is g1/norm_r times w, which is the record's r
+pub fn gradient_primal(alpha: &[f64], s: &[f64], w: &[f64]) -> Gradient
+    requires { ⌜ length (now alpha) + length (now w) ≤ 64 ⌝ }
+    ensures { λ r. ⌜ r ≡ gradientPrimalOf (now (alpha .entry)) (now (s .entry)) (now (w .entry)) ⌝ }
+{
+    // unscaled phi
+    let phi = primal_phi(alpha, s);
+
+    // obtain g1 from the Newton-Raphson method
+    let p = head(s, alpha.len());
+    let norm_r = norm(tail(s, alpha.len()));
+
+    if norm_r > EPSILON {
+        let psi = 1.0 / sumsq(alpha);
+        let found = newton_raphson_genpowcone(norm_r, p, phi, alpha, psi);
+        gradient_from(alpha, p, w, norm_r, found)
+    } else {
+        let g = gradient_flat_head(alpha, p);
+        Gradient { g, rounds: 0 }
+    }
+}
+
+// gradient_primal from Newton's answer on
+fn gradient_from(alpha: &[f64], p: &[f64], w: &[f64], normr: f64, found: Found) -> Gradient
+    requires { ⌜ length (now alpha) + length (now w) ≤ 64 ⌝ }
+    ensures { λ r. ⌜ r ≡ gradientAt (now (alpha .entry)) (now (p .entry)) (now (w .entry)) normr found ⌝ }
+{
+    let g1 = found.x;
+    let gp = gradient_head(alpha, p, g1, normr);
+    let g = times_tail(gp, alpha.len(), g1 / normr, w);
+    Gradient {
+        g,
+        rounds: found.rounds,
+    }
+}
+
+// ----------------------------------------------
+//  internal operations for generalized power cones
+
+// Newton-Raphson method:
+// solve a one-dimensional equation f(x) = 0
+// x(k+1) = x(k) - f(x(k))/f'(x(k))
+// When we initialize x0 such that 0 < x0 < x* and f(x0) > 0,
+// the Newton-Raphson method converges quadratically
+fn newton_raphson_genpowcone(normr: f64, p: &[f64], phi: f64, alpha: &[f64], psi: f64) -> Found
+    ensures { λ r. ⌜ r ≡ newtonRaphsonGenpowconeOf normr (now (p .entry)) phi (now (alpha .entry)) psi ⌝ }
+{
+    // init point x0: f(x0) > 0
+    let x0 = -(1.0 / normr)
+        + (psi * normr + sqrt((phi / normr / normr + psi * psi - 1.0) * phi))
+            / (phi - normr * normr);
+
+    newton_raphson_onesided(x0, Equation::Generalized(normr), alpha, p)
+}

@@ -1,0 +1,2 @@
+pub mod RoundsLeft
+pub mod Counts

@@ -1,0 +1,36 @@
+-- `f0` meets its contract: the equation's variant picks the definition's case. Assumes nothing.
+use Rattle.newton.specs.Equations.{f0Of}
+use borrow.Author.Needs.{needs}
+use Rattle.newton.proofs.f0.Statement.{statement}
+use Rattle.newton.proofs.f0.Tie as tie
+
+enum-known-e : tie.Need-enum-known-e
+enum-known-e c = search needs
+
+powcone-f0-requires : tie.Need-powcone-f0-requires
+powcone-f0-requires c κs = search needs
+
+enum-known-e-2 : tie.Need-enum-known-e-2
+enum-known-e-2 c = search needs
+
+genpowcone-f0-requires : tie.Need-genpowcone-f0-requires
+genpowcone-f0-requires c κs = search needs
+
+returns : tie.Need-returns
+unfolding f0Of
+returns c = rw (c .before .before .e .given .1) (c .powcone-f0 .ensures)
+
+returns-2 : tie.Need-returns-2
+unfolding f0Of
+returns-2 c = rw (c .before .before .e2 .given .1) (c .genpowcone-f0 .ensures)
+
+pub f0-spec : {M : Type 1} → statement M
+f0-spec =
+    tie.close
+    (tie.spec
+    enum-known-e
+    powcone-f0-requires
+    enum-known-e-2
+    genpowcone-f0-requires
+    returns
+    returns-2)

@@ -1,0 +1,36 @@
+-- `f1` meets its contract: the equation's variant picks the definition's case. Assumes nothing.
+use Rattle.newton.specs.Equations.{f1Of}
+use borrow.Author.Needs.{needs}
+use Rattle.newton.proofs.f1.Statement.{statement}
+use Rattle.newton.proofs.f1.Tie as tie
+
+enum-known-e : tie.Need-enum-known-e
+enum-known-e c = search needs
+
+powcone-f1-requires : tie.Need-powcone-f1-requires
+powcone-f1-requires c κs = search needs
+
+enum-known-e-2 : tie.Need-enum-known-e-2
+enum-known-e-2 c = search needs
+
+genpowcone-f1-requires : tie.Need-genpowcone-f1-requires
+genpowcone-f1-requires c κs = search needs
+
+returns : tie.Need-returns
+unfolding f1Of
+returns c = rw (c .before .before .e .given .1) (c .powcone-f1 .ensures)
+
+returns-2 : tie.Need-returns-2
+unfolding f1Of
+returns-2 c = rw (c .before .before .e2 .given .1) (c .genpowcone-f1 .ensures)
+
+pub f1-spec : {M : Type 1} → statement M
+f1-spec =
+    tie.close
+    (tie.spec
+    enum-known-e
+    powcone-f1-requires
+    enum-known-e-2
+    genpowcone-f1-requires
+    returns
+    returns-2)

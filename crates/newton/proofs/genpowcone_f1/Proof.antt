@@ -1,0 +1,52 @@
+-- `genpowcone_f1` meets its contract: after i turns the loop holds the first i terms. The measure is what is left of the length. Assumes nothing.
+use Prim.Native.Nat.{_≤_, _-_}
+use mathlib.Core.Path.{_≡_}
+use lib.ListN.{length}
+use Rattle.arith.specs.Turns.{iter}
+use Rattle.arith.proofs.Turns.{iter-none, iter-next, iter-end}
+use Rattle.newton.specs.Equations.{genF1, genF1Turn}
+use native.Mathlib.Omega.{arith}
+use Rattle.newton.proofs.genpowcone_f1.Statement.{statement}
+use Rattle.newton.proofs.genpowcone_f1.Tie as tie
+
+abbrev Inv-loop : tie.InvT-loop
+Inv-loop normr alpha x finit f₀ i₀ i-end f i = (i ≤ length alpha) × (f ≡ iter (genF1Turn normr alpha x) finit i)
+
+abbrev μ-loop : tie.MeasureT-loop
+μ-loop normr alpha x finit f₀ i₀ i-end f i = length alpha - i
+
+loop-holds : tie.Need-loop-holds Inv-loop μ-loop
+loop-holds c = (omega arith, iter-none _ _)
+
+mul-ai : tie.Need-mul-ai Inv-loop μ-loop
+mul-ai c = omega arith
+
+shared-slice-read-ai : tie.Need-shared-slice-read-ai Inv-loop μ-loop
+shared-slice-read-ai c = omega arith
+
+add-i : tie.Need-add-i Inv-loop μ-loop
+add-i c = omega arith
+
+loop-less : tie.Need-loop-less Inv-loop μ-loop
+loop-less c = omega arith
+
+loop-again : tie.Need-loop-again Inv-loop μ-loop
+loop-again c = (omega arith, iter-next _ _ _ (c .before .before .loop .inv .1))
+
+returns : tie.Need-returns Inv-loop μ-loop
+unfolding genF1
+returns c = iter-end _ _ _ _ (c .before .loop .inv .1) (c .before .loop .inv .0) (c .loop-test .left)
+
+pub genpowcone-f1-spec : {M : Type 1} → statement M
+genpowcone-f1-spec =
+    tie.close
+    (tie.spec
+    Inv-loop
+    μ-loop
+    loop-holds
+    mul-ai
+    shared-slice-read-ai
+    add-i
+    loop-less
+    loop-again
+    returns)

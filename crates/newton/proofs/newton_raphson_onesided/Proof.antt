@@ -1,0 +1,72 @@
+-- `newton_raphson_onesided` meets its contract: with iter rounds done, what is left of the hundred from x is the answer. The measure is what is left of the hundred. Assumes nothing.
+use Prim.Native.Nat.{_≤_, _-_}
+use mathlib.Core.Path.{_≡_, refl, _∙_}
+use Rattle.newton.specs.Equations.{f0Of, f1Of}
+use Rattle.newton.specs.Rounds.{rounds, newtonOf}
+use Rattle.newton.proofs.RoundsLeft.{goes, halts, ends}
+use borrow.Author.Needs.{needs}
+use native.Mathlib.Omega.{arith}
+use Rattle.newton.proofs.newton_raphson_onesided.Statement.{statement}
+use Rattle.newton.proofs.newton_raphson_onesided.Tie as tie
+
+abbrev Inv-loop : tie.InvT-loop
+Inv-loop x0 e alpha p x₀ iter₀ x iter = (iter ≤ 100) × (rounds (f0Of e alpha p) (f1Of e alpha) (100 - iter) iter x ≡ newtonOf (f0Of e alpha p) (f1Of e alpha) x0)
+
+abbrev μ-loop : tie.MeasureT-loop
+μ-loop x0 e alpha p x₀ iter₀ x iter = 100 - iter
+
+loop-holds : tie.Need-loop-holds Inv-loop μ-loop
+unfolding newtonOf
+loop-holds c = (omega arith, refl)
+
+add-iter : tie.Need-add-iter Inv-loop μ-loop
+add-iter c = omega arith
+
+f1-requires : tie.Need-f1-requires Inv-loop μ-loop
+f1-requires c κs = search needs
+
+f0-requires : tie.Need-f0-requires Inv-loop μ-loop
+f0-requires c κs = search needs
+
+stops-requires : tie.Need-stops-requires Inv-loop μ-loop
+stops-requires c κs = search needs
+
+loop-less : tie.Need-loop-less Inv-loop μ-loop
+loop-less c = omega arith
+
+loop-again : tie.Need-loop-again Inv-loop μ-loop
+loop-again c =
+    let s = c .before in
+    let v = s .before in
+    let d = v .before in
+    let l = d .before .before .loop in
+    (omega arith, goes _ _ _ _ _ _ (d .f1 .ensures) (v .f0 .ensures) (s .stops .ensures) (l .iter) (omega arith) (c .if2 .left) ∙ l .inv .1)
+
+returns : tie.Need-returns Inv-loop μ-loop
+returns c =
+    let l = c .before .loop in
+    ends _ _ _ (l .iter) (c .if1 .taken) ∙ l .inv .1
+
+returns-2 : tie.Need-returns-2 Inv-loop μ-loop
+returns-2 c =
+    let s = c .before in
+    let v = s .before in
+    let d = v .before in
+    let l = d .before .before .loop in
+    halts _ _ _ _ _ _ (d .f1 .ensures) (v .f0 .ensures) (s .stops .ensures) (l .iter) (omega arith) (c .if2 .taken) ∙ l .inv .1
+
+pub newton-raphson-onesided-spec : {M : Type 1} → statement M
+newton-raphson-onesided-spec =
+    tie.close
+    (tie.spec
+    Inv-loop
+    μ-loop
+    loop-holds
+    add-iter
+    f1-requires
+    f0-requires
+    stops-requires
+    loop-less
+    loop-again
+    returns
+    returns-2)

@@ -1,0 +1,26 @@
+-- `update_dual_grad_h` is its definition: only φ comes from a call. Assumes nothing.
+use mathlib.Core.Path.{ap}
+use borrow.Author.Needs.{needs}
+use Rattle.powcone.specs.DualGradient.{gradHAt, updateDualGradHOf}
+use Rattle.powcone.proofs.update_dual_grad_h.Statement.{statement}
+use Rattle.powcone.proofs.update_dual_grad_h.Tie as tie
+
+array-read-z0 : tie.Need-array-read-z0
+array-read-z0 c = search needs
+
+array-read-z1 : tie.Need-array-read-z1
+array-read-z1 c = search needs
+
+array-read-z2 : tie.Need-array-read-z2
+array-read-z2 c = search needs
+
+dual-phi-requires : tie.Need-dual-phi-requires
+dual-phi-requires c κs = search needs
+
+returns : tie.Need-returns
+unfolding updateDualGradHOf gradHAt
+returns c = let a = c .before .args in ap (gradHAt (a .alpha) (a .t2)) (c .dual-phi .ensures)
+
+pub update-dual-grad-h-spec : {M : Type 1} → statement M
+update-dual-grad-h-spec =
+    tie.close (tie.spec array-read-z0 array-read-z1 array-read-z2 dual-phi-requires returns)

@@ -1,0 +1,4 @@
+pub mod Feasible
+pub mod PrimalGradient
+pub mod Barriers
+pub mod DualGradient

@@ -10,7 +10,7 @@ use lib.Pow.{pow-add, pow-pos, pow-lt}
 use lib.Ieee.{Float, nan, inf, fin, Format, prec, emax, low, up, down, lt, fits}
 use lib.Ieee.Fits.{down-pos, and-l, and-r}
 use lib.Ieee.Scale.{overflow}
-use lib.Ieee.Positive.{num, den, den-pos, positive, value→cross}
+use lib.Ieee.Positive.{den, den-pos, positive, value→cross}
 use Rattle.rounding.specs.Units.{unitsOf, IsUnits}
 
 -- the number of units is the only one

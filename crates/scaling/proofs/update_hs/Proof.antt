@@ -1,0 +1,87 @@
+-- `update_hs` meets its contract: strategy, flag and tests pick the definition's branches, one after the other. Assumes nothing.
+use mathlib.Core.Path.{_≡_, refl, sym, ap, _∙_}
+use borrow.Author.Tests.{eq-eqb, ne-eqb}
+use Rattle.arith.proofs.Branches.{taken, left}
+use Rattle.scaling.specs.declared.Scaled.{Scaled}
+use Rattle.scaling.specs.Scalings.{scaledBy, chosenBy, primalDualBy, updateHsOf}
+use borrow.Author.Needs.{needs}
+use Rattle.scaling.proofs.update_hs.Statement.{statement}
+use Rattle.scaling.proofs.update_hs.Tie as tie
+
+abbrev past-strategy : tie.After-is-apart → tie.Else1
+past-strategy t = t .before .before .before .before .before
+
+abbrev gradient : tie.After-is-apart → tie.After-gradient-primal
+gradient t = t .before .before .before .before
+
+abbrev start : tie.After-is-apart → tie.Start
+start t = past-strategy t .before
+
+-- where the tests are reached, the answer is the definition's choice between the two scalings
+chosen-told
+    : (t : tie.After-is-apart) {x : Scaled}
+    → x ≡ chosenBy (start t .args .h) (start t .args .grad) (gradient t .gradient-primal .result .g) (start t .args .s) (start t .args .z) (t .before .measure .result)
+    → x ≡ updateHsOf (start t .args .kind) (start t .args .alpha) (start t .args .strategy) (start t .args .mu) (start t .args .grad) (start t .args .h) (start t .args .s) (start t .args .z)
+unfolding updateHsOf primalDualBy
+chosen-told t p =
+    left _ (ne-eqb _ _ (past-strategy t .if1 .left))
+    (left _ (t .before .before .before .if2 .left)
+    (p ∙ ap (chosenBy (start t .args .h) (start t .args .grad) (gradient t .gradient-primal .result .g) (start t .args .s) (start t .args .z)) (t .before .measure .ensures))
+    ∙ ap (primalDualBy (start t .args .grad) (start t .args .h) (start t .args .s) (start t .args .z)) (gradient t .gradient-primal .ensures))
+
+use-dual-scaling-requires : tie.Need-use-dual-scaling-requires
+use-dual-scaling-requires c κs = search needs
+
+returns : tie.Need-returns
+unfolding updateHsOf
+returns c = taken _ (eq-eqb _ _ (c .before .if1 .taken)) (ap scaledBy (c .use-dual-scaling .ensures))
+
+gradient-primal-requires : tie.Need-gradient-primal-requires
+gradient-primal-requires c κs = search needs
+
+returns-2 : tie.Need-returns-2
+unfolding updateHsOf primalDualBy
+returns-2 c =
+    let g = c .before in
+    let a = g .before .before .args in
+    left _ (ne-eqb _ _ (g .before .if1 .left))
+    (taken _ (c .if2 .taken) refl ∙ ap (primalDualBy (a .grad) (a .h) (a .s) (a .z)) (g .gradient-primal .ensures))
+
+measure-requires : tie.Need-measure-requires
+measure-requires c κs = search needs
+
+is-apart-requires : tie.Need-is-apart-requires
+is-apart-requires c κs = search needs
+
+use-primal-dual-scaling-requires : tie.Need-use-primal-dual-scaling-requires
+use-primal-dual-scaling-requires c κs = search needs
+
+returns-3 : tie.Need-returns-3
+unfolding chosenBy
+returns-3 c =
+    let t = c .before .before in
+    chosen-told t (taken _ (sym (t .is-apart .ensures) ∙ c .before .if3 .taken) (ap scaledBy (c .use-primal-dual-scaling .ensures)))
+
+use-dual-scaling-requires-2 : tie.Need-use-dual-scaling-requires-2
+use-dual-scaling-requires-2 c κs = search needs
+
+returns-4 : tie.Need-returns-4
+unfolding chosenBy
+returns-4 c =
+    let t = c .before .before in
+    chosen-told t (left _ (sym (t .is-apart .ensures) ∙ c .before .if3 .left) (ap scaledBy (c .use-dual-scaling2 .ensures)))
+
+pub update-hs-spec : {M : Type 1} → statement M
+update-hs-spec =
+    tie.close
+    (tie.spec
+    use-dual-scaling-requires
+    returns
+    gradient-primal-requires
+    returns-2
+    measure-requires
+    is-apart-requires
+    use-primal-dual-scaling-requires
+    returns-3
+    use-dual-scaling-requires-2
+    returns-4)

@@ -1,0 +1,95 @@
+-- `put_trial` fills the lent slice from the front: after i turns its first i places are those of the trial's point. The measure is the places left. Assumes nothing.
+use mathlib.Core.Path.{_≡_, sym, _∙_}
+use mathlib.Core.List.{List}
+use Prim.Native.Nat.{_-_, _<_}
+use native.Mathlib.Omega.{arith}
+use lib.ListN.{length}
+use lib.Ieee.{Float, nan}
+use denote.Ref.{now}
+use borrow.Author.Needs.{needs}
+use Rattle.search.specs.Points.{trialPoint}
+use Rattle.search.proofs.Points.{length-point, place-of-point, Filled, filled-none, filled-more, filled-all}
+use Rattle.search.proofs.put_trial.Statement.{statement}
+use Rattle.search.proofs.put_trial.Tie as tie
+
+abbrev Inv-loop : tie.InvT-loop
+Inv-loop q dq alpha point₀ i₀ i-end point i = Filled (trialPoint q dq alpha) point₀ point i
+
+abbrev μ-loop : tie.MeasureT-loop
+μ-loop q dq alpha point₀ i₀ i-end point i = length q - i
+
+-- the function's entry, the point's list, and its length
+abbrev S : tie.At-loop Inv-loop μ-loop → tie.Start Inv-loop μ-loop
+S h = h .before
+
+abbrev target : tie.Start Inv-loop μ-loop → List Float
+target s = trialPoint (now (s .args .q)) (now (s .args .dq)) (s .args .alpha)
+
+target-length : (s : tie.Start Inv-loop μ-loop) → length (target s) ≡ length (now (s .args .q))
+target-length s = length-point (now (s .args .q)) (now (s .args .dq)) (s .args .alpha) (s .pre .0)
+
+loop-holds : tie.Need-loop-holds Inv-loop μ-loop
+loop-holds c = filled-none (target c) (now (c .args .point))
+
+mul-point : tie.Need-mul-point Inv-loop μ-loop
+mul-point c = search needs
+
+shared-slice-read-point : tie.Need-shared-slice-read-point Inv-loop μ-loop
+shared-slice-read-point c = search needs
+
+mul-point-2 : tie.Need-mul-point-2 Inv-loop μ-loop
+mul-point-2 c = search needs
+
+shared-slice-read-point-2 : tie.Need-shared-slice-read-point-2 Inv-loop μ-loop
+shared-slice-read-point-2 c = search needs
+
+mul-point-3 : tie.Need-mul-point-3 Inv-loop μ-loop
+mul-point-3 c = search needs
+
+slice-write-point : tie.Need-slice-write-point Inv-loop μ-loop
+slice-write-point c = search needs
+
+add-i : tie.Need-add-i Inv-loop μ-loop
+add-i c = search needs
+
+loop-less : tie.Need-loop-less Inv-loop μ-loop
+loop-less c = search needs
+
+loop-again : tie.Need-loop-again Inv-loop μ-loop
+loop-again c =
+    let h = c .before .before .before in
+    let s = S h in
+    let i = h .loop .i in
+    let n = target-length s in
+    let below : i < length (now (s .args .q)) = omega arith in
+    filled-more (target s) (now (s .args .point)) (h .loop .point) i _ nan (s .pre .1 ∙ sym n) (h .loop .inv) (omega arith)
+    (sym (place-of-point (now (s .args .q)) (now (s .args .dq)) (s .args .alpha) i nan below (omega arith)))
+
+same-length : tie.Need-same-length Inv-loop μ-loop
+same-length c = search needs
+
+returns : tie.Need-returns Inv-loop μ-loop
+returns c =
+    let h = c .before in
+    let s = S h in
+    let n = target-length s in
+    filled-all (target s) (now (s .args .point)) (h .loop .point) (h .loop .i) (s .pre .1 ∙ sym n) (h .loop .inv) (omega arith)
+
+pub put-trial-spec : {M : Type 1} → statement M
+put-trial-spec =
+    tie.close
+    (tie.spec
+    Inv-loop
+    μ-loop
+    loop-holds
+    mul-point
+    shared-slice-read-point
+    mul-point-2
+    shared-slice-read-point-2
+    mul-point-3
+    slice-write-point
+    add-i
+    loop-less
+    loop-again
+    same-length
+    returns)

@@ -1,0 +1,5 @@
+pub mod Trials
+pub mod Search
+pub mod FirstPassing
+pub mod Points
+pub mod Passes

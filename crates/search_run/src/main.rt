@@ -1,0 +1,190 @@
+// Runs step searches, a line for each: the number that refuses the settings or 0, the step's bits, how many points were tested, the bits of the point that is handed back.
+use cone::Cone;
+use cone::Settings;
+use cone::house_settings;
+use cone::judge::settings_finite;
+use cone::judge::settings_ok;
+use double::to_bits;
+use search::backtrack_search;
+
+fn word(text: &[u8]) {
+    io::write_all(1, text);
+}
+
+fn exponential() -> Cone {
+    Cone {
+        kind: 1,
+        dim1: 0,
+        dim2: 0,
+        exps: [0.0; 32],
+    }
+}
+
+// Power with the exponent ½, and generalized with the two exponents ½ and one tail place.
+fn halves(kind: u32) -> Cone {
+    let mut exps = [0.0; 32];
+    exps[0] = 0.5;
+    exps[1] = 0.5;
+    Cone {
+        kind,
+        dim1: 2,
+        dim2: 1,
+        exps,
+    }
+}
+
+fn settings(start: f64, step: f64, smallest: f64) -> Settings {
+    Settings {
+        start,
+        step,
+        smallest,
+    }
+}
+
+// What a search hands back, with the number that refuses its settings or 0.
+struct Answer {
+    code: u32,
+    step: f64,
+    count: u32,
+    point: [f64; 3],
+}
+
+fn judged_search(cone: Cone, primal: bool, dq: [f64; 3], q: [f64; 3], how: Settings) -> Answer {
+    let mut point = [0.0; 3];
+    if settings_finite(how) {
+        if settings_ok(how) {
+            let found = backtrack_search(cone, primal, &dq, &q, how, &mut point);
+            return Answer {
+                code: 0,
+                step: found.step,
+                count: found.count,
+                point,
+            };
+        }
+        return Answer {
+            code: 4,
+            step: 0.0,
+            count: 0,
+            point,
+        };
+    }
+    Answer {
+        code: 3,
+        step: 0.0,
+        count: 0,
+        point,
+    }
+}
+
+fn show(label: &[u8], cone: Cone, primal: bool, dq: [f64; 3], q: [f64; 3], how: Settings) {
+    let a = judged_search(cone, primal, dq, q, how);
+    let point = a.point;
+    word(label);
+    word(b": ");
+    io::print_decimal(1, a.code as u64);
+    word(b" ");
+    io::print_hex(1, to_bits(a.step), 16);
+    word(b" after ");
+    io::print_decimal(1, a.count as u64);
+    word(b" at ");
+    io::print_hex(1, to_bits(point[0]), 16);
+    word(b" ");
+    io::print_hex(1, to_bits(point[1]), 16);
+    word(b" ");
+    io::print_hex(1, to_bits(point[2]), 16);
+    word(b"\n");
+}
+
+// The exponential cone, from q nowhere: every trial has the point q.
+fn stay(label: &[u8], q: [f64; 3], how: Settings) {
+    show(label, exponential(), true, [0.0, 0.0, 0.0], q, how);
+}
+
+fn dual(label: &[u8], cone: Cone, q: [f64; 3]) {
+    show(label, cone, false, [0.0, 0.0, 0.0], q, house_settings(1.0));
+}
+
+fn main() {
+    // outside and inside the exponential cone
+    let out = [0.0, -1.0, 1.0];
+    let inside = [-1.0, 1.0, 1.0];
+    stay(b"no pass, house settings", out, house_settings(1.0));
+    stay(
+        b"no pass, one exponent",
+        out,
+        settings(1.9999999999999998, 0.99, 1.0),
+    );
+    stay(
+        b"trial equal to the smallest",
+        out,
+        settings(1.0, 0.5, 0.25),
+    );
+    stay(
+        b"start equal to the smallest",
+        out,
+        settings(0.25, 0.5, 0.25),
+    );
+    stay(
+        b"start below the smallest, passes",
+        inside,
+        settings(0.1, 0.5, 0.25),
+    );
+    stay(
+        b"start below the smallest, fails",
+        out,
+        settings(0.1, 0.5, 0.25),
+    );
+    let least = 2.2250738585072014e-308;
+    stay(
+        b"subnormal start, passes",
+        inside,
+        settings(5e-324, 0.5, least),
+    );
+    stay(b"subnormal start, fails", out, settings(5e-324, 0.5, least));
+    stay(b"-0 in q, passes", [-0.0, 1.0, 2.0], house_settings(1.0));
+    stay(b"-0 in q, fails", [-0.0, -1.0, 1.0], house_settings(1.0));
+    let exp = exponential();
+    let down = [0.0, -4.0, 0.0];
+    show(
+        b"the last trial passes",
+        exp,
+        true,
+        down,
+        inside,
+        settings(1.0, 0.5, 0.125),
+    );
+    let far = [0.0, 1.0, 1.7e308];
+    let over = [0.0, 0.0, 1e308];
+    show(
+        b"the point overflows",
+        exp,
+        true,
+        over,
+        far,
+        house_settings(1.0),
+    );
+    dual(b"exponential, dual", exp, [-1.0, 0.0, 1.0]);
+    let edge = [1.0, 1.0, 0.0];
+    let up = [0.0, 0.0, 4.0];
+    show(
+        b"power, primal",
+        halves(2),
+        true,
+        up,
+        edge,
+        settings(1.0, 0.5, 0.0625),
+    );
+    dual(b"power, dual", halves(2), edge);
+    show(
+        b"generalized, primal",
+        halves(3),
+        true,
+        up,
+        edge,
+        settings(1.0, 0.5, 0.0625),
+    );
+    dual(b"generalized, dual", halves(3), edge);
+    stay(b"step 0.991", inside, settings(1.0, 0.991, 0.5));
+    stay(b"start zero", inside, settings(0.0, 0.5, 0.5));
+    stay(b"start infinite", inside, settings(1.0 / 0.0, 0.5, 0.5));
+}

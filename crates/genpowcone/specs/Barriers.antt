@@ -1,14 +1,14 @@
 -- The barriers of the generalized power cone, as 002 computes them. Definitions only.
-use Prim.Native.Nat.{ℕ, _+_, min}
-use mathlib.Core.List.{List}
+use Prim.Native.Nat.{ℕ, _+_}
+use mathlib.Core.List.{List, map}
 use lib.IntN.{pos}
 use lib.ListN.{length, take}
 use lib.Ieee.{Float, binary64, neg, ofInt}
 use Rattle.double.specs.Operators.{_⊕_, _⊖_}
 use Rattle.double.specs.Numbers.{#0}
 use Rattle.kernels.specs.Door.{logOf}
+use Rattle.algebra.specs.Vectors.{movedOf}
 use Rattle.genloops.specs.Folds.{lessLogs}
-use Rattle.genloops.specs.Places.{wide, negatedAt, movedAt}
 use Rattle.genpowcone.specs.Feasible.{dualResidue}
 use Rattle.genpowcone.specs.PrimalGradient.{gradientPrimalOf}
 
@@ -18,18 +18,11 @@ barrierDualOf α z = lessLogs (neg (logOf (dualResidue α z .res))) α z
 
 -- 002 barrier_primal, from the primal gradient on, of which n places are in use. 01: "Degree is dim1+1"
 unfoldable pub barrierPrimalAt : List Float → List Float → ℕ → Float
-barrierPrimalAt α g n =
-    let used = take n g in
-    let minus = take n (wide (negatedAt used) (length used)) in
-    neg (barrierDualOf α minus) ⊖ ofInt binary64 (pos (length α + 1))
+barrierPrimalAt α g n = neg (barrierDualOf α (map neg (take n g))) ⊖ ofInt binary64 (pos (length α + 1))
 
 -- 002 barrier_primal at s, with w the tail that gradient_primal takes
 unfoldable pub barrierPrimalOf : List Float → List Float → List Float → Float
 barrierPrimalOf α s w = barrierPrimalAt α (gradientPrimalOf α s w .g) (length s)
-
--- 002 compute_barrier, the point x + a·dx
-unfoldable pub movedOf : List Float → Float → List Float → List Float
-movedOf x a dx = take (length x) (wide (movedAt x a dx) (min (length x) (length dx)))
 
 -- 002 compute_barrier after the step a: the primal part first
 unfoldable pub computeBarrierOf : List Float → List Float → List Float → List Float → List Float → Float → List Float → Float

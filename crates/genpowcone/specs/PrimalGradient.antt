@@ -44,7 +44,7 @@ gradientAt α p w norm f =
 unfoldable pub flatGradient : List Float → List Float → Gradient
 flatGradient α p = record { g = wide (flatHeadAt α p) (min (length α) (length p)); rounds = 0 }
 
--- 002 gradient_primal at s. 01: "when norm_r is above ε", and "the round count .. is handed back .., 0 where Newton was not entered"
+-- 002 gradient_primal at s. 01: "when norm_r is above ε", and "handed back by it and by every primal gradient, 0 where Newton was not entered"
 unfoldable pub gradientPrimalOf : List Float → List Float → List Float → Gradient
 gradientPrimalOf α s w =
     let p = take (length α) s in

@@ -16,6 +16,7 @@ ghost use Rattle.genpowcone.specs.Rank3.{getHsOf, mulHsOf, coefficientsO
 use algebra::vector::dot;
 use algebra::vector::head;
 use algebra::vector::norm;
+use algebra::vector::shorter;
 use algebra::vector::sumsq;
 use algebra::vector::tail;
 use cone::Wide;
@@ -129,10 +130,12 @@ pub fn compute_barrier(
     ensures { λ r. ⌜ r ≡ computeBarrierOf (now (alpha .entry)) (now (z .entry)) (now (s .entry)) (now (dz .entry)) (now (ds .entry)) step (now (w .entry)) ⌝ }
 {
     let cur_s = moved(s, step, ds);
-    let primal = barrier_primal(alpha, head(&cur_s, s.len()), w);
+    let ns = shorter(s.len(), ds.len());
+    let primal = barrier_primal(alpha, head(&cur_s, ns), w);
 
     let cur_z = moved(z, step, dz);
-    let dual = barrier_dual(alpha, head(&cur_z, z.len()));
+    let nz = shorter(z.len(), dz.len());
+    let dual = barrier_dual(alpha, head(&cur_z, nz));
 
     0.0 + primal + dual
 }
@@ -206,8 +209,9 @@ pub fn barrier_primal(alpha: &[f64], s: &[f64], w: &[f64]) -> f64
 fn barrier_primal_at(alpha: &[f64], g: [f64; 64], n: usize) -> f64
     ensures { λ r. ⌜ r ≡ barrierPrimalAt (now (alpha .entry)) g n ⌝ }
 {
-    let minus_g = negated(head(&g, n)); //-g(s)
-    let barrier = barrier_dual(alpha, head(&minus_g, n));
+    let used = head(&g, n);
+    let minus_g = negated(used); //-g(s)
+    let barrier = barrier_dual(alpha, head(&minus_g, used.len()));
     let degree = alpha.len() as u64 + 1;
     -barrier - std::num::nearest_u64_to_f64(degree)
 }

@@ -4,7 +4,7 @@ use mathlib.Core.List.{List, [], _∷_}
 use lib.Ieee.{Float, neg}
 use Rattle.double.specs.Operators.{_⊕_, _⊖_, _⊗_, _⊘_, at}
 use Rattle.double.specs.Numbers.{#0, #½, #1, #2, #4}
-use Rattle.algebra.specs.Vectors.{dotOf}
+use Rattle.algebra.specs.Vectors.{dotOf, shiftOf}
 use Rattle.algebra.specs.Packed.{mulOf}
 use Rattle.algebra.specs.Cholesky.{factorOf, solveOf}
 use Rattle.algebra.specs.declared.sym3.Factor.{Factor}
@@ -76,8 +76,5 @@ unfoldable pub higherCorrectionOf : Float → List Float → List Float → List
 higherCorrectionOf α h z ds v = correctionBy α z ds v (factorOf h)
 
 -- 001 combined_ds_shift: gradᵢ·σμ - ηᵢ, with h, z and grad of the scaling record
-unfoldable pub shiftAt : List Float → Float → List Float → List Float
-shiftAt grad σμ η = at grad 0 ⊗ σμ ⊖ at η 0 ∷ at grad 1 ⊗ σμ ⊖ at η 1 ∷ at grad 2 ⊗ σμ ⊖ at η 2 ∷ []
-
 unfoldable pub combinedDsShiftOf : Float → List Float → List Float → List Float → List Float → List Float → Float → List Float
-combinedDsShiftOf α h z grad stepz steps σμ = shiftAt grad σμ (higherCorrectionOf α h z steps stepz)
+combinedDsShiftOf α h z grad stepz steps σμ = shiftOf grad σμ (higherCorrectionOf α h z steps stepz)

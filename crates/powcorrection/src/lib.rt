@@ -6,6 +6,7 @@ use algebra::sym3::cholesky_3x3_explicit_factor;
 use algebra::sym3::cholesky_3x3_explicit_solve;
 use algebra::sym3::mul;
 use algebra::vector::dot3;
+use algebra::vector::shift3;
 use powcone::dual_phi;
 
 // h, z and grad are the scaling record's.
@@ -22,11 +23,7 @@ pub fn combined_ds_shift(
 {
     //3rd order correction requires input variables.z
     let eta = higher_correction(alpha, h, z, steps, stepz);
-    [
-        grad[0] * sigmamu - eta[0],
-        grad[1] * sigmamu - eta[1],
-        grad[2] * sigmamu - eta[2],
-    ]
+    shift3(grad, sigmamu, eta)
 }
 
 // higher_correction from the products on

@@ -1,6 +1,21 @@
 // The face of the library, include/spindle.h: each export hands its arguments on.
 ghost use mathlib.Core.Path.{_≡_};
 ghost use Rattle.kernels.specs.Door.{sqrtOf, logOf, expOf, powfOf};
+ghost use Rattle.cone.specs.Fresh.{houseSettings};
+ghost use Rattle.cone.specs.Refusals.{Lent, LentTwo};
+ghost use Rattle.cone_entries.specs.Entries.{freshOf, isPrimalFeasibleOf, isDualFeasibleOf, barrierDualOf, dualGradHOf, unitInitializationOf, rectifyEquilibrationOf, affineDsOf, dsFromDzOffsetOf};
+ghost use Rattle.search_entries.specs.Entries.{backtrackSearchOf, stepLengthOf};
+ghost use Rattle.record_entries.specs.Entries.{updateScalingOf, gradientPrimalOf, barrierPrimalOf, computeBarrierOf, getHsOf, mulHsOf, higherCorrectionOf, combinedDsShiftOf};
+use cone::Cone;
+use cone::DualGrad;
+use cone::Found;
+use cone::Number;
+use cone::Rounds;
+use cone::Scaling;
+use cone::Settings;
+use cone::Steps;
+use cone::Updated;
+use cone::YesNo;
 
 // The four kernels. Every double is taken, nothing refused.
 
@@ -30,4 +45,193 @@ pub extern "C" fn spindle_powf(x: f64, y: f64) -> f64
     ensures { λ r. ⌜ r ≡ powfOf x y ⌝ }
 {
     kernels::powf(x, y)
+}
+
+// ---- entries that take a cone
+
+#[no_mangle]
+pub extern "C" fn spindle_fresh(cone: Cone) -> Updated
+    ensures { λ r. ⌜ r ≡ freshOf cone ⌝ }
+{
+    cone_entries::fresh(cone)
+}
+
+#[no_mangle]
+pub extern "C" fn spindle_is_primal_feasible(cone: Cone, s: &[f64]) -> YesNo
+    ensures { λ r. ⌜ r ≡ isPrimalFeasibleOf cone (now (s .entry)) ⌝ }
+{
+    cone_entries::is_primal_feasible(cone, s)
+}
+
+#[no_mangle]
+pub extern "C" fn spindle_is_dual_feasible(cone: Cone, z: &[f64]) -> YesNo
+    ensures { λ r. ⌜ r ≡ isDualFeasibleOf cone (now (z .entry)) ⌝ }
+{
+    cone_entries::is_dual_feasible(cone, z)
+}
+
+#[no_mangle]
+pub extern "C" fn spindle_barrier_dual(cone: Cone, z: &[f64]) -> Number
+    ensures { λ r. ⌜ r ≡ barrierDualOf cone (now (z .entry)) ⌝ }
+{
+    cone_entries::barrier_dual(cone, z)
+}
+
+#[no_mangle]
+pub extern "C" fn spindle_dual_grad_h(cone: Cone, z: &[f64]) -> DualGrad
+    ensures { λ r. ⌜ r ≡ dualGradHOf cone (now (z .entry)) ⌝ }
+{
+    cone_entries::dual_grad_h(cone, z)
+}
+
+#[no_mangle]
+pub extern "C" fn spindle_house_settings(start: f64) -> Settings
+    ensures { λ r. ⌜ r ≡ houseSettings start ⌝ }
+{
+    cone::house_settings(start)
+}
+
+#[no_mangle]
+pub extern "C" fn spindle_backtrack_search(
+    cone: Cone,
+    primal: bool,
+    dq: &[f64],
+    q: &[f64],
+    point: &mut [f64],
+    settings: Settings,
+) -> Found
+    ensures { λ r. ⌜ record { answer = r; slice = now (point .exit) } ≡ backtrackSearchOf cone primal (now (dq .entry)) (now (q .entry)) (now (point .entry)) settings ⌝ }
+{
+    search_entries::backtrack_search(cone, primal, dq, q, point, settings)
+}
+
+#[no_mangle]
+pub extern "C" fn spindle_step_length(
+    cone: Cone,
+    dz: &[f64],
+    ds: &[f64],
+    z: &[f64],
+    s: &[f64],
+    dualpoint: &mut [f64],
+    primalpoint: &mut [f64],
+    settings: Settings,
+) -> Steps
+    ensures { λ r. ⌜ record { answer = r; first = now (dualpoint .exit); second = now (primalpoint .exit) } ≡ stepLengthOf cone (now (dz .entry)) (now (ds .entry)) (now (z .entry)) (now (s .entry)) (now (dualpoint .entry)) (now (primalpoint .entry)) settings ⌝ }
+{
+    search_entries::step_length(cone, dz, ds, z, s, dualpoint, primalpoint, settings)
+}
+
+#[no_mangle]
+pub extern "C" fn spindle_unit_initialization(cone: Cone, z: &mut [f64], s: &mut [f64]) -> u32
+    ensures { λ r. ⌜ record { answer = r; first = now (z .exit); second = now (s .exit) } ≡ unitInitializationOf cone (now (z .entry)) (now (s .entry)) ⌝ }
+{
+    cone_entries::unit_initialization(cone, z, s)
+}
+
+#[no_mangle]
+pub extern "C" fn spindle_rectify_equilibration(cone: Cone, delta: &mut [f64], e: &[f64]) -> YesNo
+    ensures { λ r. ⌜ record { answer = r; slice = now (delta .exit) } ≡ rectifyEquilibrationOf cone (now (delta .entry)) (now (e .entry)) ⌝ }
+{
+    cone_entries::rectify_equilibration(cone, delta, e)
+}
+
+#[no_mangle]
+pub extern "C" fn spindle_affine_ds(cone: Cone, ds: &mut [f64], s: &[f64]) -> u32
+    ensures { λ r. ⌜ record { answer = r; slice = now (ds .exit) } ≡ affineDsOf cone (now (ds .entry)) (now (s .entry)) ⌝ }
+{
+    cone_entries::affine_ds(cone, ds, s)
+}
+
+#[no_mangle]
+pub extern "C" fn spindle_ds_from_dz_offset(
+    cone: Cone,
+    out: &mut [f64],
+    ds: &[f64],
+    z: &[f64],
+) -> u32
+    ensures { λ r. ⌜ record { answer = r; slice = now (out .exit) } ≡ dsFromDzOffsetOf cone (now (out .entry)) (now (ds .entry)) (now (z .entry)) ⌝ }
+{
+    cone_entries::ds_from_dz_offset(cone, out, ds, z)
+}
+
+// ---- entries that take a scaling record
+
+#[no_mangle]
+pub extern "C" fn spindle_update_scaling(
+    scaling: Scaling,
+    s: &[f64],
+    z: &[f64],
+    mu: f64,
+    strategy: u32,
+) -> Updated
+    ensures { λ r. ⌜ r ≡ updateScalingOf scaling (now (s .entry)) (now (z .entry)) mu strategy ⌝ }
+{
+    record_entries::update_scaling(scaling, s, z, mu, strategy)
+}
+
+#[no_mangle]
+pub extern "C" fn spindle_gradient_primal(scaling: Scaling, g: &mut [f64], s: &[f64]) -> Rounds
+    ensures { λ r. ⌜ record { answer = r; slice = now (g .exit) } ≡ gradientPrimalOf scaling (now (g .entry)) (now (s .entry)) ⌝ }
+{
+    record_entries::gradient_primal(scaling, g, s)
+}
+
+#[no_mangle]
+pub extern "C" fn spindle_barrier_primal(scaling: Scaling, s: &[f64]) -> Number
+    ensures { λ r. ⌜ r ≡ barrierPrimalOf scaling (now (s .entry)) ⌝ }
+{
+    record_entries::barrier_primal(scaling, s)
+}
+
+#[no_mangle]
+pub extern "C" fn spindle_compute_barrier(
+    scaling: Scaling,
+    z: &[f64],
+    s: &[f64],
+    dz: &[f64],
+    ds: &[f64],
+    alpha: f64,
+) -> Number
+    ensures { λ r. ⌜ r ≡ computeBarrierOf scaling (now (z .entry)) (now (s .entry)) (now (dz .entry)) (now (ds .entry)) alpha ⌝ }
+{
+    record_entries::compute_barrier(scaling, z, s, dz, ds, alpha)
+}
+
+#[no_mangle]
+pub extern "C" fn spindle_get_hs(scaling: Scaling, block: &mut [f64]) -> u32
+    ensures { λ r. ⌜ record { answer = r; slice = now (block .exit) } ≡ getHsOf scaling (now (block .entry)) ⌝ }
+{
+    record_entries::get_hs(scaling, block)
+}
+
+#[no_mangle]
+pub extern "C" fn spindle_mul_hs(scaling: Scaling, y: &mut [f64], x: &[f64]) -> u32
+    ensures { λ r. ⌜ record { answer = r; slice = now (y .exit) } ≡ mulHsOf scaling (now (y .entry)) (now (x .entry)) ⌝ }
+{
+    record_entries::mul_hs(scaling, y, x)
+}
+
+#[no_mangle]
+pub extern "C" fn spindle_higher_correction(
+    scaling: Scaling,
+    eta: &mut [f64],
+    ds: &[f64],
+    v: &[f64],
+) -> u32
+    ensures { λ r. ⌜ record { answer = r; slice = now (eta .exit) } ≡ higherCorrectionOf scaling (now (eta .entry)) (now (ds .entry)) (now (v .entry)) ⌝ }
+{
+    record_entries::higher_correction(scaling, eta, ds, v)
+}
+
+#[no_mangle]
+pub extern "C" fn spindle_combined_ds_shift(
+    scaling: Scaling,
+    shifted: &mut [f64],
+    stepz: &[f64],
+    steps: &[f64],
+    sigmamu: f64,
+) -> u32
+    ensures { λ r. ⌜ record { answer = r; slice = now (shifted .exit) } ≡ combinedDsShiftOf scaling (now (shifted .entry)) (now (stepz .entry)) (now (steps .entry)) sigmamu ⌝ }
+{
+    record_entries::combined_ds_shift(scaling, shifted, stepz, steps, sigmamu)
 }

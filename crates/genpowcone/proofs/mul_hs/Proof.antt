@@ -6,6 +6,10 @@ use Rattle.genpowcone.specs.Rank3.{mulHsOf}
 use Rattle.genpowcone.proofs.mul_hs.Statement.{statement}
 use Rattle.genpowcone.proofs.mul_hs.Tie as tie
 
+-- x is cut in two, then come the three dot products
+abbrev cuts : tie.After-dot3 → tie.After-tail
+cuts c = c .before .before .before .before .before .before
+
 head-requires : tie.Need-head-requires
 head-requires c κs = search needs
 
@@ -31,10 +35,10 @@ dot-requires-3 : tie.Need-dot-requires-3
 dot-requires-3 c κs = search needs
 
 product-head-requires : tie.Need-product-head-requires
-product-head-requires c κs = rw (c .before .before .before .before .before .before .before .head .ensures) (simp length-take (omega arith))
+product-head-requires c κs = rw (cuts c .before .head .ensures) (simp length-take (omega arith))
 
 product-tail-requires : tie.Need-product-tail-requires
-product-tail-requires c κs = rw (c .before .before .before .before .before .before .before .tail .ensures) (simp length-drop (omega arith, omega arith))
+product-tail-requires c κs = rw (cuts (c .before) .tail .ensures) (simp length-drop (omega arith, omega arith))
 
 product-finished-requires : tie.Need-product-finished-requires
 product-finished-requires c κs = omega arith
@@ -43,7 +47,7 @@ returns : tie.Need-returns
 unfolding mulHsOf
 returns c =
     let dots = c .before .before .before in
-    let halves = c .before .before .before .before .before .before .before .before .before in
+    let halves = cuts dots in
     simp (c .product-finished .ensures, c .before .product-tail .ensures, c .before .before .product-head .ensures, dots .dot3 .ensures, dots .before .before .dot2 .ensures, dots .before .before .before .before .dot .ensures, halves .tail .ensures, halves .before .head .ensures)
 
 pub mul-hs-spec : {M : Type 1} → statement M

@@ -6,6 +6,10 @@ use Rattle.genpowcone.specs.Rank3.{rank3At}
 use Rattle.genpowcone.proofs.rank3.Statement.{statement}
 use Rattle.genpowcone.proofs.rank3.Tie as tie
 
+-- p comes after the tail, τ and the gradient, the coefficients and d1
+abbrev tails : tie.After-struct-known2 → tie.After-tail
+tails c = c .before .before .before .before .before .before .before .before
+
 tail-requires : tie.Need-tail-requires
 tail-requires c κs = search needs
 
@@ -22,21 +26,23 @@ diagonal-requires : tie.Need-diagonal-requires
 diagonal-requires c κs = search needs
 
 p-of-requires : tie.Need-p-of-requires
-p-of-requires c κs = rw (c .before .before .before .before .before .before .before .before .tail .ensures) (simp length-drop (omega arith))
+p-of-requires c κs = rw (tails c .tail .ensures) (simp length-drop (omega arith))
 
 q-of-requires : tie.Need-q-of-requires
 q-of-requires c κs = search needs
 
 times32-requires : tie.Need-times32-requires
-times32-requires c κs = rw (c .before .before .before .before .before .before .before .before .before .before .before .before .tail .ensures) (simp length-drop (omega (arith, c .before .before .before .before .before .before .before .before .before .before .before .before .before .before .before .pre .1)))
+times32-requires c κs =
+    let w = tails (c .before .before .before .before) in
+    rw (w .tail .ensures) (simp length-drop (omega (arith, w .before .before .before .pre .1)))
 
 returns : tie.Need-returns
 unfolding rank3At
 returns c =
     let p = c .before .before .before .before in
-    let coefficients = c .before .before .before .before .before .before .before .before in
-    let heads = c .before .before .before .before .before .before .before .before .before .before .before .before in
-    simp (c .times32 .ensures, c .before .before .q-of .ensures, p .p-of .ensures, p .before .before .before .diagonal .ensures, coefficients .coefficients-of .ensures, coefficients .before .times-tail .ensures, heads .tau-and-grad .ensures, heads .before .tail .ensures)
+    let known = p .before .before .before .before in
+    let filled = known .before .before .before .before in
+    simp (c .times32 .ensures, c .before .before .q-of .ensures, p .p-of .ensures, p .before .before .before .diagonal .ensures, known .coefficients-of .ensures, known .before .times-tail .ensures, filled .tau-and-grad .ensures, filled .before .tail .ensures)
 
 pub rank3-spec : {M : Type 1} → statement M
 rank3-spec =

@@ -1,43 +1,18 @@
--- `combined_ds_shift` is its definition: only η comes from a call. Assumes nothing.
+-- `combined_ds_shift` is its definition: the shift by the correction that was computed. Assumes nothing.
 use borrow.Author.Needs.{needs}
-use Rattle.powcorrection.specs.Correction.{combinedDsShiftOf, shiftAt}
+use Rattle.powcorrection.specs.Correction.{combinedDsShiftOf}
 use Rattle.powcorrection.proofs.combined_ds_shift.Statement.{statement}
 use Rattle.powcorrection.proofs.combined_ds_shift.Tie as tie
 
 higher-correction-requires : tie.Need-higher-correction-requires
 higher-correction-requires c κs = search needs
 
-array-read-t13 : tie.Need-array-read-t13
-array-read-t13 c = search needs
-
-array-read-t17 : tie.Need-array-read-t17
-array-read-t17 c = search needs
-
-array-read-t21 : tie.Need-array-read-t21
-array-read-t21 c = search needs
-
-array-read-t25 : tie.Need-array-read-t25
-array-read-t25 c = search needs
-
-array-read-t29 : tie.Need-array-read-t29
-array-read-t29 c = search needs
-
-array-read-t33 : tie.Need-array-read-t33
-array-read-t33 c = search needs
+shift3-requires : tie.Need-shift3-requires
+shift3-requires c κs = search needs
 
 returns : tie.Need-returns
-unfolding combinedDsShiftOf shiftAt
-returns c = rw (c .higher-correction .ensures)
+unfolding combinedDsShiftOf
+returns c = rw (c .shift3 .ensures, c .before .higher-correction .ensures)
 
 pub combined-ds-shift-spec : {M : Type 1} → statement M
-combined-ds-shift-spec =
-    tie.close
-    (tie.spec
-    higher-correction-requires
-    array-read-t13
-    array-read-t17
-    array-read-t21
-    array-read-t25
-    array-read-t29
-    array-read-t33
-    returns)
+combined-ds-shift-spec = tie.close (tie.spec higher-correction-requires shift3-requires returns)

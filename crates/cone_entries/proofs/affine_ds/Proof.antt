@@ -1,0 +1,31 @@
+-- A call that its rows refuse leaves with their number, one that they let through copies s. Assumes nothing.
+use mathlib.Core.Path.{_∙_, sym, ap}
+use mathlib.Core.List.{List}
+use lib.Ieee.{Float}
+use Rattle.cone.proofs.Settled.{refused, done}
+use Rattle.cone_entries.proofs.Lengths.{copy-length}
+use Rattle.cone_entries.specs.Entries.{affineDsOf}
+use borrow.Author.Needs.{needs}
+use Rattle.cone_entries.proofs.affine_ds.Statement.{statement}
+use Rattle.cone_entries.proofs.affine_ds.Tie as tie
+
+copy-rows-requires : tie.Need-copy-rows-requires
+copy-rows-requires c κs = search needs
+
+returns : tie.Need-returns
+unfolding affineDsOf
+returns c = refused _ _ _ _ (c .before .copy-rows .ensures) (c .if1 .taken)
+
+store-requires : tie.Need-store-requires
+store-requires c κs = copy-length _ _ _ (sym (c .before .before .copy-rows .ensures) ∙ c .before .if1 .left) .0
+
+same-length : tie.Need-same-length
+same-length c = search needs
+
+returns-2 : tie.Need-returns-2
+unfolding affineDsOf
+returns-2 c = ap (λ (l : List Float). record { answer = 0; slice = l }) (c .before .before .store .ensures) ∙ done _ _ _ _ (c .before .before .before .before .before .copy-rows .ensures) (c .before .before .before .before .if1 .left)
+
+pub affine-ds-spec : {M : Type 1} → statement M
+affine-ds-spec =
+    tie.close (tie.spec copy-rows-requires returns store-requires same-length returns-2)

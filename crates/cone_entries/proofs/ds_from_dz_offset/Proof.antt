@@ -1,0 +1,31 @@
+-- A call that its rows refuse leaves with their number, one that they let through copies ds. Assumes nothing.
+use mathlib.Core.Path.{_∙_, sym, ap}
+use mathlib.Core.List.{List}
+use lib.Ieee.{Float}
+use Rattle.cone.proofs.Settled.{refused, done}
+use Rattle.cone_entries.proofs.Lengths.{offset-length}
+use Rattle.cone_entries.specs.Entries.{dsFromDzOffsetOf}
+use borrow.Author.Needs.{needs}
+use Rattle.cone_entries.proofs.ds_from_dz_offset.Statement.{statement}
+use Rattle.cone_entries.proofs.ds_from_dz_offset.Tie as tie
+
+offset-rows-requires : tie.Need-offset-rows-requires
+offset-rows-requires c κs = search needs
+
+returns : tie.Need-returns
+unfolding dsFromDzOffsetOf
+returns c = refused _ _ _ _ (c .before .offset-rows .ensures) (c .if1 .taken)
+
+store-requires : tie.Need-store-requires
+store-requires c κs = offset-length _ _ _ _ (sym (c .before .before .offset-rows .ensures) ∙ c .before .if1 .left)
+
+same-length : tie.Need-same-length
+same-length c = search needs
+
+returns-2 : tie.Need-returns-2
+unfolding dsFromDzOffsetOf
+returns-2 c = ap (λ (l : List Float). record { answer = 0; slice = l }) (c .before .before .store .ensures) ∙ done _ _ _ _ (c .before .before .before .before .before .offset-rows .ensures) (c .before .before .before .before .if1 .left)
+
+pub ds-from-dz-offset-spec : {M : Type 1} → statement M
+ds-from-dz-offset-spec =
+    tie.close (tie.spec offset-rows-requires returns store-requires same-length returns-2)

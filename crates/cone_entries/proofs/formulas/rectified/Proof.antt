@@ -1,0 +1,83 @@
+-- `rectified` meets its contract. The loop's invariant: the array after i turns. The measure is what is left of the slice. Assumes nothing.
+use borrow.Author.Needs.{needs}
+use mathlib.Core.Path.{_≡_, refl, sym, _∙_, ap}
+use mathlib.Core.List.{List}
+use Prim.Native.Nat.{ℕ, _≤_, _<_, _-_}
+use native.Mathlib.Omega.{arith}
+use lib.Ieee.{Float}
+use lib.ListN.{length, replicate, set, length-map}
+use Rattle.arith.specs.Turns.{iter}
+use Rattle.arith.proofs.Turns.{iter-none, iter-next, iter-end}
+use Rattle.double.specs.Numbers.{#0}
+use Rattle.double.specs.Operators.{at}
+use Rattle.algebra.specs.Vectors.{meanOf}
+use Rattle.cone.specs.Points.{wideTurn, wideOf}
+use Rattle.cone_entries.specs.Formulas.{rectifiedAt, rectifiedOf}
+use Rattle.cone_entries.proofs.Places.{at-map}
+use Rattle.cone_entries.proofs.formulas.rectified.Statement.{statement}
+use Rattle.cone_entries.proofs.formulas.rectified.Tie as tie
+
+-- what a turn writes is place i of the definition's list
+turn : (e : List Float) (i : ℕ) (m : Float) → m ≡ meanOf e → i < length e → rectifiedAt m (at e i) ≡ at (rectifiedOf e) i
+unfolding rectifiedOf
+turn e i m h l = ap (λ (x : Float). rectifiedAt x (at e i)) h ∙ sym (at-map (rectifiedAt (meanOf e)) e i l)
+
+abbrev Inv-loop : tie.InvT-loop
+Inv-loop e m d₀ i₀ i-end d i = (i ≤ length e) × (i-end ≡ length e) × (d ≡ iter (wideTurn (rectifiedOf e)) (replicate 64 #0) i)
+
+abbrev μ-loop : tie.MeasureT-loop
+μ-loop e m d₀ i₀ i-end d i = length e - i
+
+mean-requires : tie.Need-mean-requires Inv-loop μ-loop
+mean-requires c κs = search needs
+
+loop-holds : tie.Need-loop-holds Inv-loop μ-loop
+loop-holds c = (omega arith, refl, iter-none _ _)
+
+mul-d : tie.Need-mul-d Inv-loop μ-loop
+mul-d c = omega arith
+
+shared-slice-read-d : tie.Need-shared-slice-read-d Inv-loop μ-loop
+shared-slice-read-d c = omega arith
+
+mul-d-2 : tie.Need-mul-d-2 Inv-loop μ-loop
+mul-d-2 c = omega arith
+
+array-write-d : tie.Need-array-write-d Inv-loop μ-loop
+array-write-d c = omega arith
+
+add-i : tie.Need-add-i Inv-loop μ-loop
+add-i c = omega arith
+
+loop-less : tie.Need-loop-less Inv-loop μ-loop
+loop-less c = omega arith
+
+loop-again : tie.Need-loop-again Inv-loop μ-loop
+unfolding rectifiedOf
+loop-again c = (
+  omega arith,
+  omega arith,
+  ap (set (c .before .before .loop .d) (c .before .before .loop .i)) (turn (c .before .before .before .before .before .args .e .now) (c .before .before .loop .i) _ (c .before .before .before .mean .ensures) (omega arith))
+      ∙ iter-next _ _ _ (c .before .before .loop .inv .2),
+)
+
+returns : tie.Need-returns Inv-loop μ-loop
+unfolding wideOf rectifiedOf
+returns c = iter-end _ _ _ _ (c .before .loop .inv .2) (simp length-map (c .before .loop .inv .0)) (simp length-map (omega arith))
+
+pub rectified-spec : {M : Type 1} → statement M
+rectified-spec =
+    tie.close
+    (tie.spec
+    Inv-loop
+    μ-loop
+    mean-requires
+    loop-holds
+    mul-d
+    shared-slice-read-d
+    mul-d-2
+    array-write-d
+    add-i
+    loop-less
+    loop-again
+    returns)

@@ -1,0 +1,30 @@
+-- `unit_wide` hands the used exponents on. Assumes nothing.
+use mathlib.Core.Path.{_∙_, ap}
+use native.Mathlib.Omega.{arith}
+use Rattle.cone_entries.proofs.Lengths.{used-at-most}
+use lib.ListN.{length, length-take}
+use Rattle.cone_entries.specs.Formulas.{unitWide}
+use borrow.Author.Needs.{needs}
+use Rattle.cone_entries.proofs.formulas.unit_wide.Statement.{statement}
+use Rattle.cone_entries.proofs.formulas.unit_wide.Tie as tie
+
+slice-aggregate-head : tie.Need-slice-aggregate-head
+slice-aggregate-head c = search needs
+
+cast-head : tie.Need-cast-head
+cast-head c = search needs
+
+head-requires : tie.Need-head-requires
+head-requires c κs = search needs
+
+unit-initialization-requires : tie.Need-unit-initialization-requires
+unit-initialization-requires c κs = omega (arith, used-at-most (c .before .before .before .before .args .cone .dim1) (c .before .before .before .before .args .cone .exps) (search needs) (c .head .ensures))
+
+returns : tie.Need-returns
+unfolding unitWide
+returns c = simp (← c .before .head .ensures) (c .unit-initialization .ensures)
+
+pub unit-wide-spec : {M : Type 1} → statement M
+unit-wide-spec =
+    tie.close
+    (tie.spec slice-aggregate-head cast-head head-requires unit-initialization-requires returns)

@@ -1,0 +1,43 @@
+-- A bad cone gets the record of no cone, any other its own. Assumes nothing.
+use mathlib.Core.Path.{_∙_, sym, ap}
+use Prim.Native.Nat.{ℕ}
+use Rattle.cone.proofs.Settled.{refused, done}
+use Rattle.cone_entries.specs.Entries.{freshOf}
+use borrow.Author.Needs.{needs}
+use Rattle.cone_entries.proofs.fresh.Statement.{statement}
+use Rattle.cone_entries.proofs.fresh.Tie as tie
+
+cone-ok-requires : tie.Need-cone-ok-requires
+cone-ok-requires c κs = search needs
+
+row-requires : tie.Need-row-requires
+row-requires c κs = search needs
+
+empty-cone-requires : tie.Need-empty-cone-requires
+empty-cone-requires c κs = search needs
+
+fresh-requires : tie.Need-fresh-requires
+fresh-requires c κs = search needs
+
+returns : tie.Need-returns
+unfolding freshOf
+returns c = simp (c .fresh .ensures, c .before .empty-cone .ensures) (refused _ _ _ _ (simp (c .before .before .before .row .ensures, c .before .before .before .before .cone-ok .ensures)) (c .before .before .if1 .taken))
+
+fresh-requires-2 : tie.Need-fresh-requires-2
+fresh-requires-2 c κs = search needs
+
+returns-2 : tie.Need-returns-2
+unfolding freshOf
+returns-2 c = simp (c .fresh2 .ensures) (done _ _ _ _ (simp (c .before .before .row .ensures, c .before .before .before .cone-ok .ensures)) (c .before .if1 .left))
+
+pub fresh-spec : {M : Type 1} → statement M
+fresh-spec =
+    tie.close
+    (tie.spec
+    cone-ok-requires
+    row-requires
+    empty-cone-requires
+    fresh-requires
+    returns
+    fresh-requires-2
+    returns-2)

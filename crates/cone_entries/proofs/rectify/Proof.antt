@@ -1,0 +1,78 @@
+-- A call that its rows refuse leaves with their number, one that they let through publishes the rectified numbers. Assumes nothing.
+use mathlib.Core.Path.{_≡_, _∙_, sym, ap}
+use mathlib.Core.List.{List}
+use Prim.Native.Nat.{ℕ, _≤_}
+use native.Mathlib.Omega.{arith}
+use lib.Ieee.{Float}
+use lib.ListN.{length, take, length-map}
+use Rattle.cone.specs.declared.Cone.{Cone}
+use Rattle.cone.specs.Points.{wideOf}
+use Rattle.cone.specs.Refusals.{Lent, publishOf, refuse}
+use Rattle.cone.proofs.Points.{wide-front}
+use Rattle.cone.proofs.Lengths.{cut}
+use Rattle.cone.proofs.Settled.{refused, done}
+use Rattle.cone_entries.proofs.Lengths.{copy-length}
+use Rattle.cone_entries.specs.Rows.{copyRows}
+use Rattle.cone_entries.specs.Formulas.{rectifiedOf}
+use Rattle.cone_entries.specs.Entries.{rectifyOf}
+use borrow.Author.Needs.{needs}
+use Rattle.cone_entries.proofs.rectify.Statement.{statement}
+use Rattle.cone_entries.proofs.rectify.Tie as tie
+
+same-count : (e : List Float) → length (rectifiedOf e) ≡ length e
+unfolding rectifiedOf
+same-count e = simp length-map
+
+module _ (c : Cone) (δ e : List Float) (r : ℕ) (k : r ≡ copyRows c (length δ) e) (z : r ≡ 0) where
+  let-through : (length e ≡ length δ) × (length e ≤ 64)
+  let-through = copy-length c (length δ) e (sym k ∙ z)
+
+  -- what is cut from the 64 places is as long as δ
+  as-long : {sent : List Float} (d : List Float) → length d ≡ 64 → sent ≡ take (length e) d → length sent ≡ length δ
+  as-long d l h = cut (length e) 64 d (let-through .1) l h ∙ let-through .0
+
+  answer : {sent d : List Float} {x : Lent ℕ} → x ≡ publishOf δ sent → sent ≡ take (length e) d → d ≡ wideOf (rectifiedOf e) → x ≡ rectifyOf c δ e
+  unfolding rectifyOf
+  answer {d = d} p h w =
+      let n : length (rectifiedOf e) ≡ length e = same-count e in
+      let f = wide-front (rectifiedOf e) (omega (arith, n, let-through .1)) in
+      p ∙ ap (publishOf δ) (h ∙ ap (take (length e)) w ∙ ap (λ (m : ℕ). take m (wideOf (rectifiedOf e))) (sym n) ∙ f)
+      ∙ done _ r _ (refuse δ) k z
+
+copy-rows-requires : tie.Need-copy-rows-requires
+copy-rows-requires c κs = search needs
+
+returns : tie.Need-returns
+unfolding rectifyOf
+returns c = refused _ _ _ _ (c .before .copy-rows .ensures) (c .if1 .taken)
+
+rectified-requires : tie.Need-rectified-requires
+rectified-requires c κs = copy-length _ _ _ (sym (c .before .copy-rows .ensures) ∙ c .if1 .left) .1
+
+slice-aggregate-head : tie.Need-slice-aggregate-head
+slice-aggregate-head c = search needs
+
+head-requires : tie.Need-head-requires
+head-requires c κs = search needs
+
+publish-requires : tie.Need-publish-requires
+publish-requires c κs = as-long (c .before .before .before .before .before .before .before .before .args .cone) (c .before .before .before .before .before .before .before .before .args .delta .now) (c .before .before .before .before .before .before .before .before .args .e .now) _ (c .before .before .before .before .before .copy-rows .ensures) (c .before .before .before .before .if1 .left) _ (search needs) (c .head .ensures)
+
+same-length : tie.Need-same-length
+same-length c = search needs
+
+returns-2 : tie.Need-returns-2
+returns-2 c = answer (c .before .before .before .before .before .before .before .before .before .before .before .args .cone) (c .before .before .before .before .before .before .before .before .before .before .before .args .delta .now) (c .before .before .before .before .before .before .before .before .before .before .before .args .e .now) _ (c .before .before .before .before .before .before .before .before .copy-rows .ensures) (c .before .before .before .before .before .before .before .if1 .left) (c .before .before .publish .ensures) (c .before .before .before .head .ensures) (c .before .before .before .before .before .before .rectified .ensures)
+
+pub rectify-spec : {M : Type 1} → statement M
+rectify-spec =
+    tie.close
+    (tie.spec
+    copy-rows-requires
+    returns
+    rectified-requires
+    slice-aggregate-head
+    head-requires
+    publish-requires
+    same-length
+    returns-2)

@@ -1,0 +1,120 @@
+-- A call that its rows refuse leaves with their number, one that they let through publishes the kind's point twice. Assumes nothing.
+use mathlib.Core.Path.{_≡_, _∙_, sym, ap}
+use mathlib.Core.Bool.{true}
+use mathlib.Core.List.{List}
+use Prim.Native.Nat.{ℕ}
+use native.Mathlib.Omega.{arith}
+use lib.Ieee.{Float}
+use lib.ListN.{length, take}
+use lib.Seq.{length-take-le}
+use borrow.Author.Tests.{eq-eqb, ne-eqb}
+use Rattle.cone.specs.declared.Cone.{Cone}
+use Rattle.cone.specs.Refusals.{LentTwo, publishTwoOf, refuseTwo}
+use Rattle.cone_entries.specs.Formulas.{unitWide, unitThree}
+use Rattle.cone.proofs.Settled.{refused}
+use Rattle.cone.proofs.Lengths.{numel-at-most, numel-3D, cut}
+use Rattle.cone_entries.proofs.Choices.{done-taken, done-left}
+use Rattle.cone_entries.proofs.Lengths.{unit-lengths}
+use Rattle.cone_entries.specs.Rows.{unitRows}
+use Rattle.cone_entries.specs.Entries.{unitInitializationOf}
+use borrow.Author.Needs.{needs}
+use Rattle.cone_entries.proofs.unit_initialization.Statement.{statement}
+use Rattle.cone_entries.proofs.unit_initialization.Tie as tie
+
+-- what is cut from the 64 places is as long as both slices
+both-cut : (c : Cone) (z s : ℕ) (ans : List Float) {sent : List Float} → unitRows c z s ≡ 0 → length ans ≡ 64 → sent ≡ take z ans → (length sent ≡ z) × (length sent ≡ s)
+both-cut c z s ans e l h =
+    let u = unit-lengths c z s e in
+    let n = cut z 64 ans (omega (arith, numel-at-most c (u .0), u .1)) l h in
+    (n, n ∙ u .1 ∙ sym (u .2))
+
+-- and so are three numbers, where the kind is not 3
+both-three : (c : Cone) (z s : ℕ) (sent : List Float) → unitRows c z s ≡ 0 → (c .kind ≡ 3 → ⊥) → length sent ≡ 3 → (length sent ≡ z) × (length sent ≡ s)
+both-three c z s sent e k l =
+    let u = unit-lengths c z s e in
+    (l ∙ sym (u .1 ∙ numel-3D c k), l ∙ sym (u .2 ∙ numel-3D c k))
+
+module _ (c : Cone) (z s : List Float) (r : ℕ) (e : r ≡ unitRows c (length z) (length s)) (n : r ≡ 0) where
+  wide-answer : {sent point : List Float} {x : LentTwo ℕ} → c .kind ≡ 3 → x ≡ publishTwoOf z s sent sent → sent ≡ take (length z) point → point ≡ unitWide c
+      → x ≡ unitInitializationOf c z s
+  unfolding unitInitializationOf
+  wide-answer k p h u =
+      done-taken _ r _ (refuseTwo z s) e n (eq-eqb _ _ k)
+      (p ∙ ap (λ (l : List Float). publishTwoOf z s l l) (h ∙ ap (take (length z)) u))
+
+  three-answer : {point : List Float} {x : LentTwo ℕ} → (c .kind ≡ 3 → ⊥) → x ≡ publishTwoOf z s point point → point ≡ unitThree c
+      → x ≡ unitInitializationOf c z s
+  unfolding unitInitializationOf
+  three-answer k p u = done-left _ r _ (refuseTwo z s) e n (ne-eqb _ _ k) (p ∙ ap (λ (l : List Float). publishTwoOf z s l l) u)
+
+unit-rows-requires : tie.Need-unit-rows-requires
+unit-rows-requires c κs = search needs
+
+returns : tie.Need-returns
+unfolding unitInitializationOf
+returns c = refused _ _ _ _ (c .before .unit-rows .ensures) (c .if1 .taken)
+
+unit-wide-requires : tie.Need-unit-wide-requires
+unit-wide-requires c κs = search needs
+
+slice-aggregate-head : tie.Need-slice-aggregate-head
+slice-aggregate-head c = search needs
+
+head-requires : tie.Need-head-requires
+head-requires c κs = search needs
+
+publish-two-requires : tie.Need-publish-two-requires
+publish-two-requires c κs = both-cut (c .before .before .before .before .before .before .before .before .before .before .args .cone) _ _ _ (sym (c .before .before .before .before .before .before .before .unit-rows .ensures) ∙ c .before .before .before .before .before .before .if1 .left) (search needs) (c .before .before .head .ensures)
+
+same-length : tie.Need-same-length
+same-length c = search needs
+
+same-length-2 : tie.Need-same-length-2
+same-length-2 c = search needs
+
+returns-2 : tie.Need-returns-2
+returns-2 c = wide-answer (c .before .before .before .before .before .before .before .before .before .before .before .before .before .before .before .args .cone) (c .before .before .before .before .before .before .before .before .before .before .before .before .before .before .before .args .z .now) (c .before .before .before .before .before .before .before .before .before .before .before .before .before .before .before .args .s .now) _ (c .before .before .before .before .before .before .before .before .before .before .before .before .unit-rows .ensures) (c .before .before .before .before .before .before .before .before .before .before .before .if1 .left) (c .before .before .before .before .before .before .before .before .before .before .if2 .taken)
+    (c .before .before .before .before .publish-two .ensures) (c .before .before .before .before .before .before .before .head .ensures) (c .before .before .before .before .before .before .before .before .before .unit-wide .ensures)
+
+unit-three-requires : tie.Need-unit-three-requires
+unit-three-requires c κs = search needs
+
+slice-aggregate-publish-two : tie.Need-slice-aggregate-publish-two
+slice-aggregate-publish-two c = search needs
+
+slice-aggregate-publish-two-2 : tie.Need-slice-aggregate-publish-two-2
+slice-aggregate-publish-two-2 c = search needs
+
+publish-two-requires-2 : tie.Need-publish-two-requires-2
+publish-two-requires-2 c κs = both-three (c .before .before .before .before .before .before .before .before .before .before .args .cone) _ _ (c .before .before .before .before .unit-three .result) (sym (c .before .before .before .before .before .before .before .unit-rows .ensures) ∙ c .before .before .before .before .before .before .if1 .left) (c .before .before .before .before .before .if2 .left) (search needs)
+
+same-length-3 : tie.Need-same-length-3
+same-length-3 c = search needs
+
+same-length-4 : tie.Need-same-length-4
+same-length-4 c = search needs
+
+returns-3 : tie.Need-returns-3
+returns-3 c = three-answer (c .before .before .before .before .before .before .before .before .before .before .before .before .before .before .before .args .cone) (c .before .before .before .before .before .before .before .before .before .before .before .before .before .before .before .args .z .now) (c .before .before .before .before .before .before .before .before .before .before .before .before .before .before .before .args .s .now) _ (c .before .before .before .before .before .before .before .before .before .before .before .before .unit-rows .ensures) (c .before .before .before .before .before .before .before .before .before .before .before .if1 .left) (c .before .before .before .before .before .before .before .before .before .before .if2 .left)
+    (c .before .before .before .before .publish-two2 .ensures) (c .before .before .before .before .before .before .before .before .before .unit-three .ensures)
+
+pub unit-initialization-spec : {M : Type 1} → statement M
+unit-initialization-spec =
+    tie.close
+    (tie.spec
+    unit-rows-requires
+    returns
+    unit-wide-requires
+    slice-aggregate-head
+    head-requires
+    publish-two-requires
+    same-length
+    same-length-2
+    returns-2
+    unit-three-requires
+    slice-aggregate-publish-two
+    slice-aggregate-publish-two-2
+    publish-two-requires-2
+    same-length-3
+    same-length-4
+    returns-3)

@@ -1,0 +1,86 @@
+-- What each entry over a cone answers and leaves, for all arguments. Definitions only.
+use Prim.Native.Nat.{ℕ}
+use mathlib.Core.Bool.{true, false, cond}
+use mathlib.Core.List.{List}
+use lib.Dec.{eqb}
+use lib.Ieee.{Float}
+use lib.ListN.{length, take}
+use Rattle.cone.specs.declared.Cone.{Cone}
+use Rattle.cone.specs.declared.Updated.{Updated}
+use Rattle.cone.specs.declared.YesNo.{YesNo}
+use Rattle.cone.specs.declared.Number.{Number}
+use Rattle.cone.specs.declared.DualGrad.{DualGrad}
+use Rattle.cone.specs.declared.Attempt.{Attempt}
+use Rattle.cone.specs.Fresh as fresh
+use Rattle.cone.specs.Fresh.{emptyCone, noThree, noWide}
+use Rattle.cone.specs.Refusals.{row, badCone, lastRows, Lent, LentTwo, settle, refuse, refuseTwo, refuseNumber, publishOf, publishTwoOf, numberOf}
+use Rattle.search.specs.Passes.{passesOf}
+use Rattle.cone_entries.specs.Rows.{readRows, unitRows, copyRows, offsetRows}
+use Rattle.cone_entries.specs.Formulas.{barrierOf, gradientsOf, unitThree, unitWide, rectifiedOf}
+
+-- 01: "(fresh: no, and all its numbers +0)". A bad cone gets the record of no cone: "A refusal returns zeros for all numbers"
+unfoldable pub freshOf : Cone → Updated
+freshOf c =
+    settle (row (badCone c) 1 0)
+    (record { code = 0; scaling = fresh.freshOf c })
+    (λ k. record { code = k; scaling = fresh.freshOf emptyCone })
+
+-- ---- entries that read a point
+
+-- 01: "A refusal returns .. no for a yes or no"
+abbrev pub refuseYesNo : ℕ → YesNo
+refuseYesNo k = record { code = k; yes = false }
+
+-- 000, 001, 002 is_primal_feasible
+unfoldable pub isPrimalFeasibleOf : Cone → List Float → YesNo
+isPrimalFeasibleOf c s = settle (readRows c s) (record { code = 0; yes = passesOf c true s }) refuseYesNo
+
+-- 000, 001, 002 is_dual_feasible
+unfoldable pub isDualFeasibleOf : Cone → List Float → YesNo
+isDualFeasibleOf c z = settle (readRows c z) (record { code = 0; yes = passesOf c false z }) refuseYesNo
+
+-- 000, 001, 002 barrier_dual
+unfoldable pub barrierDualOf : Cone → List Float → Number
+barrierDualOf c z = settle (readRows c z) (numberOf (barrierOf c z)) refuseNumber
+
+-- 000, 001, 002 update_dual_grad_H, by value. 7 looks at all that is handed back
+unfoldable pub refuseGrad : ℕ → DualGrad
+refuseGrad k = record { code = k; three = noThree; wide = noWide }
+
+abbrev pub gradOf : Attempt → DualGrad
+gradOf a = record { code = 0; three = a .scaling .three; wide = a .scaling .wide }
+
+unfoldable pub dualGradHOf : Cone → List Float → DualGrad
+dualGradHOf c z =
+    settle (readRows c z)
+    (settle (lastRows (gradientsOf c z)) (gradOf (gradientsOf c z)) refuseGrad)
+    refuseGrad
+
+-- ---- entries that only write, or copy
+
+-- 000, 001, 002 unit_initialization
+unfoldable pub unitInitializationOf : Cone → List Float → List Float → LentTwo ℕ
+unitInitializationOf c z s =
+    let wide = take (length z) (unitWide c) in
+    let three = unitThree c in
+    settle (unitRows c (length z) (length s))
+    (cond (eqb (c .kind) 3) (publishTwoOf z s wide wide) (publishTwoOf z s three three))
+    (refuseTwo z s)
+
+-- 000, 001, 002 rectify_equilibration. It says yes, always: where the port refuses, it says no
+unfoldable pub rectifyOf : Cone → List Float → List Float → Lent ℕ
+rectifyOf c δ e = settle (copyRows c (length δ) e) (publishOf δ (rectifiedOf e)) (refuse δ)
+
+abbrev pub yesIfDone : Lent ℕ → Lent YesNo
+yesIfDone l = record { answer = record { code = l .answer; yes = eqb (l .answer) 0 }; slice = l .slice }
+
+unfoldable pub rectifyEquilibrationOf : Cone → List Float → List Float → Lent YesNo
+rectifyEquilibrationOf c δ e = yesIfDone (rectifyOf c δ e)
+
+-- 000, 001, 002 affine_ds: ds.copy_from(s)
+unfoldable pub affineDsOf : Cone → List Float → List Float → Lent ℕ
+affineDsOf c ds s = settle (copyRows c (length ds) s) (record { answer = 0; slice = s }) (refuse ds)
+
+-- 000, 001, 002 Δs_from_Δz_offset: out.copy_from(ds)
+unfoldable pub dsFromDzOffsetOf : Cone → List Float → List Float → List Float → Lent ℕ
+dsFromDzOffsetOf c out ds z = settle (offsetRows c (length out) ds z) (record { answer = 0; slice = ds }) (refuse out)

@@ -1,0 +1,216 @@
+// The public entries that take a cone. Each judges its arguments by the table of document 01, computes into locals, and only then writes.
+ghost use mathlib.Core.Path.{_≡_};
+ghost use Rattle.cone.specs.Refusals.{Lent, LentTwo};
+ghost use Rattle.cone_entries.specs.Rows.{readRows, copyRows, offsetRows, unitRows};
+ghost use Rattle.cone_entries.specs.Entries.{freshOf, isPrimalFeasibleOf, isDualFeasibleOf, barrierDualOf, dualGradHOf, unitInitializationOf, refuseGrad, rectifyOf, rectifyEquilibrationOf, affineDsOf, dsFromDzOffsetOf};
+
+pub mod formulas;
+
+use algebra::vector::head;
+use cone::Cone;
+use cone::DualGrad;
+use cone::Number;
+use cone::Updated;
+use cone::YesNo;
+use cone::empty_cone;
+use cone::judge::all_finite;
+use cone::judge::cone_ok;
+use cone::judge::numel;
+use cone::no_three;
+use cone::no_wide;
+use cone::refusal::finished;
+use cone::refusal::last_rows;
+use cone::refusal::publish;
+use cone::refusal::publish_two;
+use cone::refusal::row;
+use cone::refusal::store;
+use formulas::barrier;
+use formulas::gradients;
+use formulas::rectified;
+use formulas::unit_three;
+use formulas::unit_wide;
+use search::passes;
+
+// A record for the cone that was never scaled.
+pub fn fresh(cone: Cone) -> Updated
+    ensures { λ r. ⌜ r ≡ freshOf cone ⌝ }
+{
+    let code = row(!cone_ok(cone), 1, 0);
+    if code != 0 {
+        let none = empty_cone();
+        let scaling = cone::fresh(none);
+        return Updated { code, scaling };
+    }
+    let scaling = cone::fresh(cone);
+    Updated { code: 0, scaling }
+}
+
+// ---- entries that read a point
+
+fn read_rows(cone: Cone, s: &[f64]) -> u32
+    ensures { λ r. ⌜ r ≡ readRows cone (now (s .entry)) ⌝ }
+{
+    let n = numel(cone);
+    row(
+        !cone_ok(cone),
+        1,
+        row(s.len() != n, 2, row(!all_finite(s), 3, 0)),
+    )
+}
+
+pub fn is_primal_feasible(cone: Cone, s: &[f64]) -> YesNo
+    ensures { λ r. ⌜ r ≡ isPrimalFeasibleOf cone (now (s .entry)) ⌝ }
+{
+    let code = read_rows(cone, s);
+    if code != 0 {
+        return YesNo { code, yes: false };
+    }
+    let yes = passes(cone, true, s);
+    YesNo { code: 0, yes }
+}
+
+pub fn is_dual_feasible(cone: Cone, z: &[f64]) -> YesNo
+    ensures { λ r. ⌜ r ≡ isDualFeasibleOf cone (now (z .entry)) ⌝ }
+{
+    let code = read_rows(cone, z);
+    if code != 0 {
+        return YesNo { code, yes: false };
+    }
+    let yes = passes(cone, false, z);
+    YesNo { code: 0, yes }
+}
+
+pub fn barrier_dual(cone: Cone, z: &[f64]) -> Number
+    ensures { λ r. ⌜ r ≡ barrierDualOf cone (now (z .entry)) ⌝ }
+{
+    let code = read_rows(cone, z);
+    if code != 0 {
+        return Number { code, value: 0.0 };
+    }
+    finished(barrier(cone, z))
+}
+
+fn refused_gradient(code: u32) -> DualGrad
+    ensures { λ r. ⌜ r ≡ refuseGrad code ⌝ }
+{
+    let three = no_three();
+    let wide = no_wide();
+    DualGrad { code, three, wide }
+}
+
+// update_dual_grad_H, by value.
+pub fn dual_grad_h(cone: Cone, z: &[f64]) -> DualGrad
+    ensures { λ r. ⌜ r ≡ dualGradHOf cone (now (z .entry)) ⌝ }
+{
+    let code = read_rows(cone, z);
+    if code != 0 {
+        return refused_gradient(code);
+    }
+    let attempt = gradients(cone, z);
+    let last = last_rows(attempt);
+    if last != 0 {
+        return refused_gradient(last);
+    }
+    let scaling = attempt.scaling;
+    let three = scaling.three;
+    let wide = scaling.wide;
+    DualGrad {
+        code: 0,
+        three,
+        wide,
+    }
+}
+
+// ---- entries that only write, or copy
+
+fn unit_rows(cone: Cone, z: usize, s: usize) -> u32
+    ensures { λ r. ⌜ r ≡ unitRows cone z s ⌝ }
+{
+    let n = numel(cone);
+    row(!cone_ok(cone), 1, row((z != n) | (s != n), 2, 0))
+}
+
+pub fn unit_initialization(cone: Cone, z: &mut [f64], s: &mut [f64]) -> u32
+    ensures { λ r. ⌜ record { answer = r; first = now (z .exit); second = now (s .exit) } ≡ unitInitializationOf cone (now (z .entry)) (now (s .entry)) ⌝ }
+{
+    let code = unit_rows(cone, z.len(), s.len());
+    if code != 0 {
+        return code;
+    }
+    let kind = cone.kind;
+    if kind == 3 {
+        let point = unit_wide(cone);
+        let start = head(&point, z.len());
+        return publish_two(z, s, start, start);
+    }
+    let point = unit_three(cone);
+    publish_two(z, s, &point, &point)
+}
+
+fn copy_rows(cone: Cone, out: usize, s: &[f64]) -> u32
+    ensures { λ r. ⌜ r ≡ copyRows cone out (now (s .entry)) ⌝ }
+{
+    let n = numel(cone);
+    row(
+        !cone_ok(cone),
+        1,
+        row((out != n) | (s.len() != n), 2, row(!all_finite(s), 3, 0)),
+    )
+}
+
+fn rectify(cone: Cone, delta: &mut [f64], e: &[f64]) -> u32
+    ensures { λ r. ⌜ record { answer = r; slice = now (delta .exit) } ≡ rectifyOf cone (now (delta .entry)) (now (e .entry)) ⌝ }
+{
+    let code = copy_rows(cone, delta.len(), e);
+    if code != 0 {
+        return code;
+    }
+    let d = rectified(e);
+    publish(delta, head(&d, e.len()))
+}
+
+// scalar equilibration
+pub fn rectify_equilibration(cone: Cone, delta: &mut [f64], e: &[f64]) -> YesNo
+    ensures { λ r. ⌜ record { answer = r; slice = now (delta .exit) } ≡ rectifyEquilibrationOf cone (now (delta .entry)) (now (e .entry)) ⌝ }
+{
+    let code = rectify(cone, delta, e);
+    YesNo {
+        code,
+        yes: code == 0,
+    }
+}
+
+pub fn affine_ds(cone: Cone, ds: &mut [f64], s: &[f64]) -> u32
+    ensures { λ r. ⌜ record { answer = r; slice = now (ds .exit) } ≡ affineDsOf cone (now (ds .entry)) (now (s .entry)) ⌝ }
+{
+    let code = copy_rows(cone, ds.len(), s);
+    if code != 0 {
+        return code;
+    }
+    store(ds, s);
+    0
+}
+
+fn offset_rows(cone: Cone, out: usize, ds: &[f64], z: &[f64]) -> u32
+    ensures { λ r. ⌜ r ≡ offsetRows cone out (now (ds .entry)) (now (z .entry)) ⌝ }
+{
+    let n = numel(cone);
+    let bad2 = (out != n) | (ds.len() != n) | (z.len() != n);
+    row(
+        !cone_ok(cone),
+        1,
+        row(bad2, 2, row(!(all_finite(ds) & all_finite(z)), 3, 0)),
+    )
+}
+
+// 01: "Every argument of a call is judged, read or not": z is not read.
+pub fn ds_from_dz_offset(cone: Cone, out: &mut [f64], ds: &[f64], z: &[f64]) -> u32
+    ensures { λ r. ⌜ record { answer = r; slice = now (out .exit) } ≡ dsFromDzOffsetOf cone (now (out .entry)) (now (ds .entry)) (now (z .entry)) ⌝ }
+{
+    let code = offset_rows(cone, out.len(), ds, z);
+    if code != 0 {
+        return code;
+    }
+    store(out, ds);
+    0
+}

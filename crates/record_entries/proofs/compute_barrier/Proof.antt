@@ -1,0 +1,31 @@
+-- A call that its rows refuse leaves with their number, one that they let through with the finished barrier. Assumes nothing.
+use mathlib.Core.Path.{_∙_, sym, ap}
+use Rattle.cone.proofs.Settled.{refused, done}
+use Rattle.record_entries.proofs.LetThrough.{compute-call}
+use Rattle.record_entries.specs.Outcomes.{judgedOf}
+use Rattle.record_entries.specs.Entries.{computeBarrierOf}
+use borrow.Author.Needs.{needs}
+use Rattle.record_entries.proofs.compute_barrier.Statement.{statement}
+use Rattle.record_entries.proofs.compute_barrier.Tie as tie
+
+compute-rows-requires : tie.Need-compute-rows-requires
+compute-rows-requires c κs = search needs
+
+returns : tie.Need-returns
+unfolding computeBarrierOf
+returns c = refused _ _ _ _ (c .before .compute-rows .ensures) (c .if1 .taken)
+
+combined-barrier-requires : tie.Need-combined-barrier-requires
+combined-barrier-requires c κs = compute-call _ _ _ _ _ _ (sym (c .before .compute-rows .ensures) ∙ c .if1 .left)
+
+judged-requires : tie.Need-judged-requires
+judged-requires c κs = search needs
+
+returns-2 : tie.Need-returns-2
+unfolding computeBarrierOf
+returns-2 c = c .judged .ensures ∙ ap judgedOf (c .before .combined-barrier .ensures) ∙ done _ _ _ _ (c .before .before .before .compute-rows .ensures) (c .before .before .if1 .left)
+
+pub compute-barrier-spec : {M : Type 1} → statement M
+compute-barrier-spec =
+    tie.close
+    (tie.spec compute-rows-requires returns combined-barrier-requires judged-requires returns-2)

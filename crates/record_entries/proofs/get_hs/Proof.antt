@@ -1,0 +1,79 @@
+-- A call that its rows refuse leaves with their number, one that they let through publishes the block, or of kind 3 the diagonal. Assumes nothing.
+use mathlib.Core.Path.{_≡_, _∙_, sym, ap, refl}
+use mathlib.Core.List.{List}
+use Prim.Native.Nat.{ℕ}
+use lib.Ieee.{Float}
+use lib.ListN.{length, take}
+use borrow.Author.Tests.{eq-eqb, ne-eqb}
+use Rattle.cone.specs.declared.Scaling.{Scaling}
+use Rattle.cone.specs.Refusals.{Lent, refuse, publishOf}
+use Rattle.cone.proofs.Settled.{refused}
+use Rattle.cone_entries.proofs.Choices.{done-taken, done-left}
+use Rattle.record_entries.proofs.LetThrough.{block-call, dims, block-fits, six-numbers}
+use Rattle.record_entries.specs.Rows.{blockRows}
+use Rattle.record_entries.specs.Formulas.{wideBlock}
+use Rattle.record_entries.specs.Entries.{getHsOf}
+use borrow.Author.Needs.{needs}
+use Rattle.record_entries.proofs.get_hs.Statement.{statement}
+use Rattle.record_entries.proofs.get_hs.Tie as tie
+
+module _ (r : Scaling) (block : List Float) (k : ℕ) (e : k ≡ blockRows r (length block)) (z : k ≡ 0) where
+  diagonal-answer : {x : Lent ℕ} {d : List Float} → r .cone .kind ≡ 3 → x ≡ publishOf block (take (length block) d)
+      → d ≡ wideBlock (r .wide .mu) (r .wide .d1) (r .cone .dim1) (r .wide .d2) (r .cone .dim2) → x ≡ getHsOf r block
+  unfolding getHsOf
+  diagonal-answer t p d = done-taken _ k _ (refuse block) e z (eq-eqb _ _ t) (p ∙ ap (λ (l : List Float). publishOf block (take (length block) l)) d)
+
+  block-answer : {x : Lent ℕ} → (r .cone .kind ≡ 3 → ⊥) → x ≡ publishOf block (r .three .hs) → x ≡ getHsOf r block
+  unfolding getHsOf
+  block-answer t p = done-left _ k _ (refuse block) e z (ne-eqb _ _ t) p
+
+block-rows-requires : tie.Need-block-rows-requires
+block-rows-requires c κs = search needs
+
+returns : tie.Need-returns
+unfolding getHsOf
+returns c = refused _ _ _ _ (c .before .block-rows .ensures) (c .if1 .taken)
+
+cast-wide-block : tie.Need-cast-wide-block
+cast-wide-block c = search needs
+
+cast-wide-block-2 : tie.Need-cast-wide-block-2
+cast-wide-block-2 c = search needs
+
+wide-block-requires : tie.Need-wide-block-requires
+wide-block-requires c κs = dims _ (block-call _ _ (sym (c .before .before .before .before .before .before .before .block-rows .ensures) ∙ c .before .before .before .before .before .before .if1 .left) .0) (c .before .before .before .before .if2 .taken)
+
+publish-wide-requires : tie.Need-publish-wide-requires
+publish-wide-requires c κs = let b = block-call _ _ (sym (c .before .before .before .before .before .before .before .before .before .block-rows .ensures) ∙ c .before .before .before .before .before .before .before .before .if1 .left) in block-fits _ (b .0) _ (b .1)
+
+same-length : tie.Need-same-length
+same-length c = search needs
+
+returns-2 : tie.Need-returns-2
+returns-2 c = diagonal-answer (c .before .before .before .before .before .before .before .before .before .before .before .before .before .before .args .scaling) (c .before .before .before .before .before .before .before .before .before .before .before .before .before .before .args .block .now) _ (c .before .before .before .before .before .before .before .before .before .before .before .before .block-rows .ensures) (c .before .before .before .before .before .before .before .before .before .before .before .if1 .left) (c .before .before .before .before .before .before .before .before .before .if2 .taken)
+    (c .before .before .publish-wide .ensures) (c .before .before .before .before .wide-block .ensures)
+
+publish-six-requires : tie.Need-publish-six-requires
+publish-six-requires c κs = six-numbers _ _ (block-call _ _ (sym (c .before .before .before .before .before .before .block-rows .ensures) ∙ c .before .before .before .before .before .if1 .left) .1) (c .before .before .before .if2 .left)
+
+same-length-2 : tie.Need-same-length-2
+same-length-2 c = search needs
+
+returns-3 : tie.Need-returns-3
+returns-3 c = block-answer (c .before .before .before .before .before .before .before .before .before .before .before .args .scaling) (c .before .before .before .before .before .before .before .before .before .before .before .args .block .now) _ (c .before .before .before .before .before .before .before .before .before .block-rows .ensures) (c .before .before .before .before .before .before .before .before .if1 .left) (c .before .before .before .before .before .before .if2 .left) (c .before .before .publish-six .ensures)
+
+pub get-hs-spec : {M : Type 1} → statement M
+get-hs-spec =
+    tie.close
+    (tie.spec
+    block-rows-requires
+    returns
+    cast-wide-block
+    cast-wide-block-2
+    wide-block-requires
+    publish-wide-requires
+    same-length
+    returns-2
+    publish-six-requires
+    same-length-2
+    returns-3)

@@ -1,0 +1,68 @@
+-- A call that its rows refuse leaves with their number, one that they let through with the answer of the kind. Assumes nothing.
+use mathlib.Core.Path.{_≡_, _∙_, sym, ap, refl}
+use mathlib.Core.List.{List}
+use Prim.Native.Nat.{ℕ}
+use lib.Ieee.{Float}
+use lib.ListN.{length}
+use borrow.Author.Tests.{eq-eqb, ne-eqb}
+use Rattle.cone.specs.declared.Scaling.{Scaling}
+use Rattle.cone.specs.declared.Rounds.{Rounds}
+use Rattle.cone.specs.Refusals.{Lent}
+use Rattle.cone.proofs.Settled.{refused}
+use Rattle.cone_entries.proofs.Choices.{done-taken, done-left}
+use Rattle.record_entries.proofs.LetThrough.{gradient-call, dims, point-at-most, three-numbers}
+use Rattle.record_entries.specs.Rows.{gradientRows}
+use Rattle.record_entries.specs.Outcomes.{refuseRounds}
+use Rattle.record_entries.specs.Entries.{wideGradientOf, threeGradientOf, gradientPrimalOf}
+use borrow.Author.Needs.{needs}
+use Rattle.record_entries.proofs.gradient_primal.Statement.{statement}
+use Rattle.record_entries.proofs.gradient_primal.Tie as tie
+
+module _ (r : Scaling) (g s : List Float) (k : ℕ) (e : k ≡ gradientRows r (length g) s) (z : k ≡ 0) where
+  wide-answer : {x : Lent Rounds} → r .cone .kind ≡ 3 → x ≡ wideGradientOf r g s → x ≡ gradientPrimalOf r g s
+  unfolding gradientPrimalOf
+  wide-answer t p = done-taken _ k _ (refuseRounds g) e z (eq-eqb _ _ t) p
+
+  three-answer : {x : Lent Rounds} → (r .cone .kind ≡ 3 → ⊥) → x ≡ threeGradientOf r g s → x ≡ gradientPrimalOf r g s
+  unfolding gradientPrimalOf
+  three-answer t p = done-left _ k _ (refuseRounds g) e z (ne-eqb _ _ t) p
+
+gradient-rows-requires : tie.Need-gradient-rows-requires
+gradient-rows-requires c κs = search needs
+
+returns : tie.Need-returns
+unfolding gradientPrimalOf
+returns c = refused _ _ _ _ (c .before .gradient-rows .ensures) (c .if1 .taken)
+
+wide-gradient-primal-requires : tie.Need-wide-gradient-primal-requires
+wide-gradient-primal-requires c κs = let g = gradient-call _ _ _ (sym (c .before .before .before .before .gradient-rows .ensures) ∙ c .before .before .before .if1 .left) in
+    let d = dims _ (g .0) (c .before .if2 .taken) in
+    (point-at-most _ (g .0) _ (g .1), d .0, d .1)
+
+same-length : tie.Need-same-length
+same-length c = search needs
+
+returns-2 : tie.Need-returns-2
+returns-2 c = wide-answer (c .before .before .before .before .before .before .before .before .before .before .args .scaling) (c .before .before .before .before .before .before .before .before .before .before .args .g .now) (c .before .before .before .before .before .before .before .before .before .before .args .s .now) _ (c .before .before .before .before .before .before .before .gradient-rows .ensures) (c .before .before .before .before .before .before .if1 .left) (c .before .before .before .before .if2 .taken) (c .before .before .wide-gradient-primal .ensures)
+
+three-gradient-primal-requires : tie.Need-three-gradient-primal-requires
+three-gradient-primal-requires c κs = three-numbers _ _ (gradient-call _ _ _ (sym (c .before .before .before .before .gradient-rows .ensures) ∙ c .before .before .before .if1 .left) .1) (c .before .if2 .left)
+
+same-length-2 : tie.Need-same-length-2
+same-length-2 c = search needs
+
+returns-3 : tie.Need-returns-3
+returns-3 c = three-answer (c .before .before .before .before .before .before .before .before .before .before .args .scaling) (c .before .before .before .before .before .before .before .before .before .before .args .g .now) (c .before .before .before .before .before .before .before .before .before .before .args .s .now) _ (c .before .before .before .before .before .before .before .gradient-rows .ensures) (c .before .before .before .before .before .before .if1 .left) (c .before .before .before .before .if2 .left) (c .before .before .three-gradient-primal .ensures)
+
+pub gradient-primal-spec : {M : Type 1} → statement M
+gradient-primal-spec =
+    tie.close
+    (tie.spec
+    gradient-rows-requires
+    returns
+    wide-gradient-primal-requires
+    same-length
+    returns-2
+    three-gradient-primal-requires
+    same-length-2
+    returns-3)

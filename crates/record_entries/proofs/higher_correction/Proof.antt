@@ -1,0 +1,63 @@
+-- A call that its rows refuse leaves with their number, one that they let through publishes the correction. Assumes nothing.
+use mathlib.Core.Path.{_≡_, _∙_, sym, ap, refl}
+use mathlib.Core.List.{List}
+use Prim.Native.Nat.{ℕ}
+use lib.Ieee.{Float}
+use mathlib.Core.Bool.{true}
+use lib.ListN.{length}
+use Rattle.cone.specs.declared.Scaling.{Scaling}
+use Rattle.cone.specs.Points.{threeOf}
+use Rattle.cone.specs.Refusals.{Lent, refuse, publishOf}
+use Rattle.cone.proofs.Settled.{refused, done}
+use Rattle.record_entries.proofs.LetThrough.{correction-call}
+use Rattle.record_entries.specs.Rows.{correctionRows}
+use Rattle.record_entries.specs.Formulas.{correctionOf}
+use Rattle.record_entries.specs.Entries.{higherCorrectionOf}
+use borrow.Author.Needs.{needs}
+use Rattle.record_entries.proofs.higher_correction.Statement.{statement}
+use Rattle.record_entries.proofs.higher_correction.Tie as tie
+
+answer : (r : Scaling) (η ds v : List Float) (k : ℕ) {x : Lent ℕ} {ans a b : List Float} → k ≡ correctionRows r (length η) ds v true → k ≡ 0
+    → x ≡ publishOf η ans → ans ≡ correctionOf r a b → a ≡ threeOf ds → b ≡ threeOf v → x ≡ higherCorrectionOf r η ds v
+unfolding higherCorrectionOf
+answer r η ds v k {b = b} e z p q f g =
+    p ∙ ap (publishOf η) (q ∙ ap (λ (l : List Float). correctionOf r l b) f ∙ ap (correctionOf r (threeOf ds)) g) ∙ done _ k _ (refuse η) e z
+
+correction-rows-requires : tie.Need-correction-rows-requires
+correction-rows-requires c κs = search needs
+
+returns : tie.Need-returns
+unfolding higherCorrectionOf
+returns c = refused _ _ _ _ (c .before .correction-rows .ensures) (c .if1 .taken)
+
+three-of-requires : tie.Need-three-of-requires
+three-of-requires c κs = search needs
+
+three-of-requires-2 : tie.Need-three-of-requires-2
+three-of-requires-2 c κs = search needs
+
+correction-requires : tie.Need-correction-requires
+correction-requires c κs = search needs
+
+publish-three-requires : tie.Need-publish-three-requires
+publish-three-requires c κs = correction-call _ _ _ _ _ (sym (c .before .before .before .before .before .correction-rows .ensures) ∙ c .before .before .before .before .if1 .left)
+
+same-length : tie.Need-same-length
+same-length c = search needs
+
+returns-2 : tie.Need-returns-2
+returns-2 c = answer (c .before .before .before .before .before .before .before .before .before .before .before .before .args .scaling) (c .before .before .before .before .before .before .before .before .before .before .before .before .args .eta .now) (c .before .before .before .before .before .before .before .before .before .before .before .before .args .ds .now) (c .before .before .before .before .before .before .before .before .before .before .before .before .args .v .now) _ (c .before .before .before .before .before .before .before .before .correction-rows .ensures) (c .before .before .before .before .before .before .before .if1 .left)
+    (c .before .before .publish-three .ensures) (c .before .before .before .before .correction .ensures) (c .before .before .before .before .before .before .three-of .ensures) (c .before .before .before .before .before .three-of2 .ensures)
+
+pub higher-correction-spec : {M : Type 1} → statement M
+higher-correction-spec =
+    tie.close
+    (tie.spec
+    correction-rows-requires
+    returns
+    three-of-requires
+    three-of-requires-2
+    correction-requires
+    publish-three-requires
+    same-length
+    returns-2)

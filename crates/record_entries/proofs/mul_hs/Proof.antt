@@ -1,0 +1,81 @@
+-- A call that its rows refuse leaves with their number, one that they let through publishes the kind's product. Assumes nothing.
+use mathlib.Core.Path.{_≡_, _∙_, sym, ap, refl}
+use mathlib.Core.List.{List}
+use Prim.Native.Nat.{ℕ}
+use lib.Ieee.{Float}
+use lib.ListN.{length, take}
+use borrow.Author.Tests.{eq-eqb, ne-eqb}
+use Rattle.algebra.specs.Packed.{mulOf}
+use Rattle.cone.specs.declared.Scaling.{Scaling}
+use Rattle.cone.specs.Points.{threeOf}
+use Rattle.cone.specs.Refusals.{Lent, refuse, publishOf}
+use Rattle.cone.proofs.Settled.{refused}
+use Rattle.cone_entries.proofs.Choices.{done-taken, done-left}
+use Rattle.record_entries.proofs.LetThrough.{product-call, product-fits, point-at-most, three-numbers}
+use Rattle.record_entries.specs.Rows.{productRows}
+use Rattle.record_entries.specs.Formulas.{wideProduct}
+use Rattle.record_entries.specs.Entries.{mulHsOf}
+use borrow.Author.Needs.{needs}
+use Rattle.record_entries.proofs.mul_hs.Statement.{statement}
+use Rattle.record_entries.proofs.mul_hs.Tie as tie
+
+module _ (r : Scaling) (y x : List Float) (k : ℕ) (e : k ≡ productRows r (length y) x) (z : k ≡ 0) where
+  wide-answer : {a : Lent ℕ} {d : List Float} → r .cone .kind ≡ 3 → a ≡ publishOf y (take (length y) d) → d ≡ wideProduct r x → a ≡ mulHsOf r y x
+  unfolding mulHsOf
+  wide-answer t p d = done-taken _ k _ (refuse y) e z (eq-eqb _ _ t) (p ∙ ap (λ (l : List Float). publishOf y (take (length y) l)) d)
+
+  three-answer : {a : Lent ℕ} {d x3 : List Float} → (r .cone .kind ≡ 3 → ⊥) → a ≡ publishOf y d → d ≡ mulOf (r .three .hs) x3 → x3 ≡ threeOf x → a ≡ mulHsOf r y x
+  unfolding mulHsOf
+  three-answer t p d h = done-left _ k _ (refuse y) e z (ne-eqb _ _ t) (p ∙ ap (publishOf y) (d ∙ ap (mulOf (r .three .hs)) h))
+
+product-rows-requires : tie.Need-product-rows-requires
+product-rows-requires c κs = search needs
+
+returns : tie.Need-returns
+unfolding mulHsOf
+returns c = refused _ _ _ _ (c .before .product-rows .ensures) (c .if1 .taken)
+
+wide-product-requires : tie.Need-wide-product-requires
+wide-product-requires c κs = let p = product-call _ _ _ (sym (c .before .before .before .product-rows .ensures) ∙ c .before .before .if1 .left) in product-fits _ (p .0) _ (p .2) (c .if2 .taken)
+
+publish-wide-requires : tie.Need-publish-wide-requires
+publish-wide-requires c κs = let p = product-call _ _ _ (sym (c .before .before .before .before .before .product-rows .ensures) ∙ c .before .before .before .before .if1 .left) in point-at-most _ (p .0) _ (p .1)
+
+same-length : tie.Need-same-length
+same-length c = search needs
+
+returns-2 : tie.Need-returns-2
+returns-2 c = wide-answer (c .before .before .before .before .before .before .before .before .before .before .before .args .scaling) (c .before .before .before .before .before .before .before .before .before .before .before .args .y .now) (c .before .before .before .before .before .before .before .before .before .before .before .args .x .now) _ (c .before .before .before .before .before .before .before .before .product-rows .ensures) (c .before .before .before .before .before .before .before .if1 .left) (c .before .before .before .before .before .if2 .taken)
+    (c .before .before .publish-wide .ensures) (c .before .before .before .before .wide-product .ensures)
+
+three-of-requires : tie.Need-three-of-requires
+three-of-requires c κs = search needs
+
+mul-requires : tie.Need-mul-requires
+mul-requires c κs = search needs
+
+publish-three-requires : tie.Need-publish-three-requires
+publish-three-requires c κs = three-numbers _ _ (product-call _ _ _ (sym (c .before .before .before .before .before .before .before .before .product-rows .ensures) ∙ c .before .before .before .before .before .before .before .if1 .left) .1) (c .before .before .before .before .before .if2 .left)
+
+same-length-2 : tie.Need-same-length-2
+same-length-2 c = search needs
+
+returns-3 : tie.Need-returns-3
+returns-3 c = three-answer (c .before .before .before .before .before .before .before .before .before .before .before .before .before .before .args .scaling) (c .before .before .before .before .before .before .before .before .before .before .before .before .before .before .args .y .now) (c .before .before .before .before .before .before .before .before .before .before .before .before .before .before .args .x .now) _ (c .before .before .before .before .before .before .before .before .before .before .before .product-rows .ensures) (c .before .before .before .before .before .before .before .before .before .before .if1 .left) (c .before .before .before .before .before .before .before .before .if2 .left)
+    (c .before .before .publish-three .ensures) (c .before .before .before .before .mul .ensures) (c .before .before .before .before .before .three-of .ensures)
+
+pub mul-hs-spec : {M : Type 1} → statement M
+mul-hs-spec =
+    tie.close
+    (tie.spec
+    product-rows-requires
+    returns
+    wide-product-requires
+    publish-wide-requires
+    same-length
+    returns-2
+    three-of-requires
+    mul-requires
+    publish-three-requires
+    same-length-2
+    returns-3)

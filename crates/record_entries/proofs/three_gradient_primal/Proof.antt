@@ -1,0 +1,69 @@
+-- Where the Rust would panic the answer is 6, else the published gradient with its count. Assumes nothing.
+use mathlib.Core.Path.{_≡_, _∙_, sym, ap, refl}
+use mathlib.Core.List.{List}
+use Prim.Native.Nat.{ℕ}
+use lib.Ieee.{Float}
+use mathlib.Core.Bool.{true, false}
+use Rattle.arith.proofs.Branches.{taken, left}
+use Rattle.cone.specs.declared.Scaling.{Scaling}
+use Rattle.cone.specs.declared.Rounds.{Rounds}
+use Rattle.cone.specs.Points.{threeOf}
+use Rattle.cone.specs.Refusals.{Lent, publishOf}
+use Rattle.record_entries.specs.declared.formulas.Gradient.{Gradient}
+use Rattle.record_entries.specs.Outcomes.{countedOf, withRounds, refuseRounds}
+use Rattle.record_entries.specs.Formulas.{threeGradient}
+use Rattle.record_entries.specs.Entries.{threeGradientOf}
+use borrow.Author.Needs.{needs}
+use Rattle.record_entries.proofs.three_gradient_primal.Statement.{statement}
+use Rattle.record_entries.proofs.three_gradient_primal.Tie as tie
+
+module _ (r : Scaling) (g s : List Float) {a : Gradient} {s3 : List Float} (e : a ≡ threeGradient (r .cone) s3) (f : s3 ≡ threeOf s) where
+  gradient : a ≡ threeGradient (r .cone) (threeOf s)
+  gradient = e ∙ ap (threeGradient (r .cone)) f
+
+  panicked : a .panics ≡ true → refuseRounds g 6 ≡ threeGradientOf r g s
+  unfolding threeGradientOf
+  panicked p = taken _ (sym (ap (λ (b : Gradient). b .panics) gradient) ∙ p) refl
+
+  published : {x : ℕ} {out : List Float} {t : Rounds} → a .panics ≡ false → record { answer = x; slice = out } ≡ publishOf g (a .g) → t ≡ countedOf x (a .rounds)
+      → record { answer = t; slice = out } ≡ threeGradientOf r g s
+  unfolding threeGradientOf
+  published {out = out} p q t =
+      left _ (sym (ap (λ (b : Gradient). b .panics) gradient) ∙ p)
+      (ap (λ (n : Rounds). record { answer = n; slice = out }) t
+      ∙ ap (withRounds (a .rounds)) q
+      ∙ ap (λ (b : Gradient). withRounds (b .rounds) (publishOf g (b .g))) gradient)
+
+three-of-requires : tie.Need-three-of-requires
+three-of-requires c κs = search needs
+
+three-gradient-requires : tie.Need-three-gradient-requires
+three-gradient-requires c κs = search needs
+
+returns : tie.Need-returns
+returns c = panicked (c .before .before .before .before .before .before .args .scaling) (c .before .before .before .before .before .before .args .g .now) (c .before .before .before .before .before .before .args .s .now) (c .before .three-gradient .ensures) (c .before .before .three-of .ensures) (c .if1 .taken)
+
+publish-three-requires : tie.Need-publish-three-requires
+publish-three-requires c κs = search needs
+
+counted-requires : tie.Need-counted-requires
+counted-requires c κs = search needs
+
+same-length : tie.Need-same-length
+same-length c = search needs
+
+returns-2 : tie.Need-returns-2
+returns-2 c = published (c .before .before .before .before .before .before .before .before .before .before .before .before .args .scaling) (c .before .before .before .before .before .before .before .before .before .before .before .before .args .g .now) (c .before .before .before .before .before .before .before .before .before .before .before .before .args .s .now) (c .before .before .before .before .before .before .before .three-gradient .ensures) (c .before .before .before .before .before .before .before .before .three-of .ensures) (c .before .before .before .before .before .before .if1 .left)
+    (c .before .before .before .publish-three .ensures) (c .counted .ensures)
+
+pub three-gradient-primal-spec : {M : Type 1} → statement M
+three-gradient-primal-spec =
+    tie.close
+    (tie.spec
+    three-of-requires
+    three-gradient-requires
+    returns
+    publish-three-requires
+    counted-requires
+    same-length
+    returns-2)

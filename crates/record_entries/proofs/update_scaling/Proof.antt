@@ -1,0 +1,44 @@
+-- A call that its rows refuse leaves with their number and the old record, also after the formulas; any other with the new record. Assumes nothing.
+use mathlib.Core.Path.{_∙_, sym, ap}
+use Rattle.cone.specs.Refusals.{lastRows}
+use Rattle.cone.proofs.Settled.{refused, done}
+use Rattle.record_entries.proofs.LetThrough.{update-call}
+use Rattle.record_entries.specs.Entries.{completed, updateScalingOf}
+use borrow.Author.Needs.{needs}
+use Rattle.record_entries.proofs.update_scaling.Statement.{statement}
+use Rattle.record_entries.proofs.update_scaling.Tie as tie
+
+update-rows-requires : tie.Need-update-rows-requires
+update-rows-requires c κs = search needs
+
+returns : tie.Need-returns
+unfolding updateScalingOf
+returns c = refused _ _ _ _ (c .before .update-rows .ensures) (c .if1 .taken)
+
+new-record-requires : tie.Need-new-record-requires
+new-record-requires c κs = update-call _ _ _ _ _ (sym (c .before .before .update-rows .ensures) ∙ c .before .if1 .left)
+
+last-rows-requires : tie.Need-last-rows-requires
+last-rows-requires c κs = search needs
+
+returns-2 : tie.Need-returns-2
+unfolding updateScalingOf
+returns-2 c = refused _ _ _ _ (c .before .last-rows .ensures ∙ ap lastRows (c .before .before .new-record .ensures)) (c .if2 .taken)
+    ∙ done _ _ _ _ (c .before .before .before .before .before .update-rows .ensures) (c .before .before .before .before .if1 .left)
+
+returns-3 : tie.Need-returns-3
+unfolding updateScalingOf
+returns-3 c = ap completed (c .before .before .before .new-record .ensures)
+    ∙ done _ _ _ _ (c .before .before .last-rows .ensures ∙ ap lastRows (c .before .before .before .new-record .ensures)) (c .before .if2 .left)
+    ∙ done _ _ _ _ (c .before .before .before .before .before .before .update-rows .ensures) (c .before .before .before .before .before .if1 .left)
+
+pub update-scaling-spec : {M : Type 1} → statement M
+update-scaling-spec =
+    tie.close
+    (tie.spec
+    update-rows-requires
+    returns
+    new-record-requires
+    last-rows-requires
+    returns-2
+    returns-3)

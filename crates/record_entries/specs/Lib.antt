@@ -1,0 +1,4 @@
+pub mod Rows
+pub mod Outcomes
+pub mod Formulas
+pub mod Entries

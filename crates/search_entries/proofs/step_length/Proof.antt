@@ -1,0 +1,48 @@
+-- A call that its rows refuse leaves with their number, one that they let through hands both outcomes on. Assumes nothing.
+use mathlib.Core.Path.{_≡_, _∙_, sym, ap}
+use Rattle.cone.proofs.Settled.{refused, done}
+use Rattle.search.specs.Search.{Outcome}
+use Rattle.search_entries.proofs.LetThrough.{both-searchable}
+use Rattle.search_entries.specs.Entries.{bothFound, stepLengthOf}
+use borrow.Author.Needs.{needs}
+use Rattle.search_entries.proofs.step_length.Statement.{statement}
+use Rattle.search_entries.proofs.step_length.Tie as tie
+
+step-rows-requires : tie.Need-step-rows-requires
+step-rows-requires c κs = search needs
+
+both : {d d' p p' : Outcome} → d ≡ d' → p ≡ p' → bothFound d p ≡ bothFound d' p'
+both {d' = d'} {p = p} e f = ap (λ (o : Outcome). bothFound o p) e ∙ ap (bothFound d') f
+
+returns : tie.Need-returns
+unfolding stepLengthOf
+returns c = refused _ _ _ _ (c .before .step-rows .ensures) (c .if1 .taken)
+
+backtrack-search-requires : tie.Need-backtrack-search-requires
+backtrack-search-requires c κs = both-searchable _ _ _ _ _ (c .before .before .before .before .before .before .before .before .before .args .dualpoint .now) (c .before .before .before .before .before .before .before .before .before .args .primalpoint .now) _ (sym (c .before .before .step-rows .ensures) ∙ c .before .if1 .left) .0
+
+backtrack-search-requires-2 : tie.Need-backtrack-search-requires-2
+backtrack-search-requires-2 c κs = both-searchable _ _ _ _ _ (c .before .before .before .before .before .before .before .before .before .before .before .before .before .args .dualpoint .now) (c .before .before .before .before .before .before .before .before .before .before .before .before .before .args .primalpoint .now) _ (sym (c .before .before .before .before .before .before .step-rows .ensures) ∙ c .before .before .before .before .before .if1 .left) .1
+
+same-length : tie.Need-same-length
+same-length c = search needs
+
+same-length-2 : tie.Need-same-length-2
+same-length-2 c = search needs
+
+returns-2 : tie.Need-returns-2
+unfolding stepLengthOf
+returns-2 c = both (c .before .before .before .before .before .before .backtrack-search .ensures) (c .before .before .backtrack-search2 .ensures)
+    ∙ done _ _ _ _ (c .before .before .before .before .before .before .before .before .before .step-rows .ensures) (c .before .before .before .before .before .before .before .before .if1 .left)
+
+pub step-length-spec : {M : Type 1} → statement M
+step-length-spec =
+    tie.close
+    (tie.spec
+    step-rows-requires
+    returns
+    backtrack-search-requires
+    backtrack-search-requires-2
+    same-length
+    same-length-2
+    returns-2)

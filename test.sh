@@ -17,7 +17,9 @@ case ${1:-} in
 *) die "no such option: $1 (try --help)" ;;
 esac
 
-command -v rt >/dev/null 2>&1 || die "the Rattle kit's command rt is not on the PATH; install the kit first"
+for tool in rt cc rustc cargo python3; do
+    command -v $tool >/dev/null 2>&1 || die "the command $tool is not on the PATH (the Rattle kit brings rt; the others are its baselines)"
+done
 
 say "layout of .rt and .antt files"
 rt fmt --check || die "some files are not in the layout: run rt fmt"
@@ -39,6 +41,20 @@ fi
 $found"
 
 [ "${1:-}" != --quick ] || { say "quick checks passed"; exit 0; }
+
+say "the library, its archive, and examples/plan.c over it"
+mkdir -p target/log
+sh build.sh >target/log/plan.txt 2>&1 || { tail -n 20 target/log/plan.txt >&2; die "sh build.sh failed"; }
+sed '/^build: /d' target/log/plan.txt | diff - examples/plan.stdout || die "examples/plan.c wrote something else than examples/plan.stdout"
+
+say "the kernels from outside (a short run of tests/kernels/run)"
+tests/kernels/run --short
+
+say "the port against the Rust, call by call (a short run of oracle/compare.sh)"
+oracle/compare.sh --calls 200000
+
+say "the Rust crate bindings/rust"
+tools/rust-tests
 
 say "proofs, must-fail edits and programs, from nothing (rt ci)"
 exec rt ci

@@ -26,8 +26,8 @@ use Rattle.cone_entries.specs.Formulas.{dualThree, gradientsOf}
 use Rattle.cone_entries.specs.Entries.{isPrimalFeasibleOf, isDualFeasibleOf, dualGradHOf}
 use Rattle.search_entries.specs.Rows.{searchRows}
 use Rattle.search_entries.specs.Entries.{backtrackSearchOf}
-use Rattle.record_entries.specs.Rows.{gradientRows}
-use Rattle.record_entries.specs.Formulas.{threeGradient}
+use Rattle.record_rows.specs.Rows.{gradientRows}
+use Rattle.record_formulas.specs.Formulas.{threeGradient}
 use Rattle.record_entries.specs.Entries as record-entries
 use Rattle.border.specs.Rows.{Border, table}
 

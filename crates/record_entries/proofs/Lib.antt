@@ -1,2 +1,2 @@
--- What is known in a call that its rows let through.
-mod LetThrough
+-- Of what a completed update depends, and what a refused one leaves.
+pub mod Updates

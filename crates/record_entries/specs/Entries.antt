@@ -14,9 +14,9 @@ use Rattle.cone.specs.declared.Rounds.{Rounds}
 use Rattle.cone.specs.declared.Attempt.{Attempt}
 use Rattle.cone.specs.Points.{threeOf}
 use Rattle.cone.specs.Refusals.{lastRows, Lent, settle, refuse, refuseNumber, publishOf}
-use Rattle.record_entries.specs.Rows.{updateRows, gradientRows, barrierRows, computeRows, blockRows, productRows, correctionRows}
-use Rattle.record_entries.specs.Outcomes.{judgedOf, withRounds, refuseRounds, refuseUpdate}
-use Rattle.record_entries.specs.Formulas.{newRecordOf, threeGradient, wideGradient, primalBarrierOf, combinedBarrierOf, wideBlock, wideProduct, correctionOf, shiftOf}
+use Rattle.record_rows.specs.Rows.{updateRows, gradientRows, barrierRows, computeRows, blockRows, productRows, correctionRows}
+use Rattle.record_formulas.specs.Outcomes.{judgedOf, withRounds, refuseRounds, refuseUpdate}
+use Rattle.record_formulas.specs.Formulas.{newRecordOf, threeGradient, wideGradient, primalBarrierOf, combinedBarrierOf, wideBlock, wideProduct, correctionOf, shiftOf}
 
 -- 000, 001, 002 update_scaling, both scalings. 01: "A completed update depends on that cone and the call's other arguments, on nothing else
 -- in the old record": of r, a completed update's answer has the cone alone (proofs/Updates).

@@ -1,4 +1,2 @@
-pub mod Rows
-pub mod Outcomes
-pub mod Formulas
 pub mod Entries
+pub mod Updates

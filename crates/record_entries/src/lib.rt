@@ -5,11 +5,6 @@ ghost use Prim.Native.Nat.{_≤_};
 ghost use lib.ListN.{length};
 ghost use Rattle.cone.specs.Refusals.{Lent};
 ghost use Rattle.record_entries.specs.Entries.{updateScalingOf, threeGradientOf, wideGradientOf, gradientPrimalOf, barrierPrimalOf, computeBarrierOf, getHsOf, mulHsOf, higherCorrectionOf, combinedDsShiftOf};
-
-mod formulas;
-mod publish;
-mod rows;
-
 use algebra::sym3::mul;
 use cone::Number;
 use cone::Rounds;
@@ -18,35 +13,38 @@ use cone::Updated;
 use cone::refusal::last_rows;
 use cone::three_of;
 use double::is_finite;
-use formulas::combined_barrier;
-use formulas::correction;
-use formulas::new_record;
-use formulas::primal_barrier;
-use formulas::shift;
-use formulas::three_gradient;
-use formulas::wide_block;
-use formulas::wide_gradient;
-use formulas::wide_product;
-use publish::counted;
-use publish::judged;
-use publish::publish_six;
-use publish::publish_three;
-use publish::publish_wide;
-use rows::barrier_rows;
-use rows::block_rows;
-use rows::compute_rows;
-use rows::correction_rows;
-use rows::gradient_rows;
-use rows::product_rows;
-use rows::update_rows;
+use record_formulas::formulas::combined_barrier;
+use record_formulas::formulas::correction;
+use record_formulas::formulas::new_record;
+use record_formulas::formulas::primal_barrier;
+use record_formulas::formulas::shift;
+use record_formulas::formulas::three_gradient;
+use record_formulas::formulas::wide_block;
+use record_formulas::formulas::wide_gradient;
+use record_formulas::formulas::wide_product;
+use record_formulas::publish::counted;
+use record_formulas::publish::judged;
+use record_formulas::publish::publish_six;
+use record_formulas::publish::publish_three;
+use record_formulas::publish::publish_wide;
+use record_rows::barrier_rows;
+use record_rows::block_rows;
+use record_rows::compute_rows;
+use record_rows::correction_rows;
+use record_rows::gradient_rows;
+use record_rows::product_rows;
+use record_rows::update_rows;
 
 // Both scalings. All or nothing: a refused update hands the record back as it came.
 pub fn update_scaling(scaling: Scaling, s: &[f64], z: &[f64], mu: f64, strategy: u32) -> Updated
     ensures { λ r. ⌜ r ≡ updateScalingOf scaling (now (s .entry)) (now (z .entry)) mu strategy ⌝ }
 {
-    let code = update_rows(scaling, s, z, mu, strategy);
-    if code != 0 {
-        return Updated { code, scaling };
+    let first = update_rows(scaling, s, z, mu, strategy);
+    if first != 0 {
+        return Updated {
+            code: first,
+            scaling,
+        };
     }
     let cone = scaling.cone;
     let attempt = new_record(cone, s, z, mu, strategy);

@@ -73,17 +73,21 @@ fn step_rows(
     ensures { λ r. ⌜ r ≡ stepRows cone (now (dz .entry)) (now (ds .entry)) (now (z .entry)) (now (s .entry)) dualpoint primalpoint settings ⌝ }
 {
     let n = numel(cone);
-    let bad2 = (dz.len() != n)
+    let lengths = (dz.len() != n)
         | (ds.len() != n)
         | (z.len() != n)
         | (s.len() != n)
         | (dualpoint != n)
         | (primalpoint != n);
-    let bad3 = !(sides_finite(dz, ds, z, s) & settings_finite(settings));
+    let numbers = !(sides_finite(dz, ds, z, s) & settings_finite(settings));
     row(
         !cone_ok(cone),
         1,
-        row(bad2, 2, row(bad3, 3, row(!settings_ok(settings), 4, 0))),
+        row(
+            lengths,
+            2,
+            row(numbers, 3, row(!settings_ok(settings), 4, 0)),
+        ),
     )
 }
 

@@ -1,8 +1,8 @@
 -- A call that its rows refuse leaves with their number, one that they let through with the finished barrier. Assumes nothing.
 use mathlib.Core.Path.{_∙_, sym, ap}
 use Rattle.cone.proofs.Settled.{refused, done}
-use Rattle.record_entries.proofs.LetThrough.{barrier-call}
-use Rattle.record_entries.specs.Outcomes.{judgedOf}
+use Rattle.record_rows.proofs.LetThrough.{barrier-call}
+use Rattle.record_formulas.specs.Outcomes.{judgedOf}
 use Rattle.record_entries.specs.Entries.{barrierPrimalOf}
 use borrow.Author.Needs.{needs}
 use Rattle.record_entries.proofs.barrier_primal.Statement.{statement}

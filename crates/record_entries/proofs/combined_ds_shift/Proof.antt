@@ -10,9 +10,9 @@ use Rattle.cone.specs.declared.Scaling.{Scaling}
 use Rattle.cone.specs.Points.{threeOf}
 use Rattle.cone.specs.Refusals.{Lent, refuse, publishOf}
 use Rattle.cone.proofs.Settled.{refused, done}
-use Rattle.record_entries.proofs.LetThrough.{correction-call}
-use Rattle.record_entries.specs.Rows.{correctionRows}
-use Rattle.record_entries.specs.Formulas.{shiftOf}
+use Rattle.record_rows.proofs.LetThrough.{correction-call}
+use Rattle.record_rows.specs.Rows.{correctionRows}
+use Rattle.record_formulas.specs.Formulas.{shiftOf}
 use Rattle.record_entries.specs.Entries.{combinedDsShiftOf}
 use borrow.Author.Needs.{needs}
 use Rattle.record_entries.proofs.combined_ds_shift.Statement.{statement}

@@ -9,9 +9,9 @@ use Rattle.cone.specs.declared.Scaling.{Scaling}
 use Rattle.cone.specs.Refusals.{Lent, refuse, publishOf}
 use Rattle.cone.proofs.Settled.{refused}
 use Rattle.cone_entries.proofs.Choices.{done-taken, done-left}
-use Rattle.record_entries.proofs.LetThrough.{block-call, dims, block-fits, six-numbers}
-use Rattle.record_entries.specs.Rows.{blockRows}
-use Rattle.record_entries.specs.Formulas.{wideBlock}
+use Rattle.record_rows.proofs.LetThrough.{block-call, dims, block-fits, six-numbers}
+use Rattle.record_rows.specs.Rows.{blockRows}
+use Rattle.record_formulas.specs.Formulas.{wideBlock}
 use Rattle.record_entries.specs.Entries.{getHsOf}
 use borrow.Author.Needs.{needs}
 use Rattle.record_entries.proofs.get_hs.Statement.{statement}

@@ -10,9 +10,9 @@ use Rattle.cone.specs.declared.Rounds.{Rounds}
 use Rattle.cone.specs.Refusals.{Lent}
 use Rattle.cone.proofs.Settled.{refused}
 use Rattle.cone_entries.proofs.Choices.{done-taken, done-left}
-use Rattle.record_entries.proofs.LetThrough.{gradient-call, dims, point-at-most, three-numbers}
-use Rattle.record_entries.specs.Rows.{gradientRows}
-use Rattle.record_entries.specs.Outcomes.{refuseRounds}
+use Rattle.record_rows.proofs.LetThrough.{gradient-call, dims, point-at-most, three-numbers}
+use Rattle.record_rows.specs.Rows.{gradientRows}
+use Rattle.record_formulas.specs.Outcomes.{refuseRounds}
 use Rattle.record_entries.specs.Entries.{wideGradientOf, threeGradientOf, gradientPrimalOf}
 use borrow.Author.Needs.{needs}
 use Rattle.record_entries.proofs.gradient_primal.Statement.{statement}

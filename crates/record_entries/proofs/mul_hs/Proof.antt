@@ -11,9 +11,9 @@ use Rattle.cone.specs.Points.{threeOf}
 use Rattle.cone.specs.Refusals.{Lent, refuse, publishOf}
 use Rattle.cone.proofs.Settled.{refused}
 use Rattle.cone_entries.proofs.Choices.{done-taken, done-left}
-use Rattle.record_entries.proofs.LetThrough.{product-call, product-fits, point-at-most, three-numbers}
-use Rattle.record_entries.specs.Rows.{productRows}
-use Rattle.record_entries.specs.Formulas.{wideProduct}
+use Rattle.record_rows.proofs.LetThrough.{product-call, product-fits, point-at-most, three-numbers}
+use Rattle.record_rows.specs.Rows.{productRows}
+use Rattle.record_formulas.specs.Formulas.{wideProduct}
 use Rattle.record_entries.specs.Entries.{mulHsOf}
 use borrow.Author.Needs.{needs}
 use Rattle.record_entries.proofs.mul_hs.Statement.{statement}

@@ -9,9 +9,9 @@ use Rattle.cone.specs.declared.Scaling.{Scaling}
 use Rattle.cone.specs.declared.Rounds.{Rounds}
 use Rattle.cone.specs.Points.{threeOf}
 use Rattle.cone.specs.Refusals.{Lent, publishOf}
-use Rattle.record_entries.specs.declared.formulas.Gradient.{Gradient}
-use Rattle.record_entries.specs.Outcomes.{countedOf, withRounds, refuseRounds}
-use Rattle.record_entries.specs.Formulas.{threeGradient}
+use Rattle.record_formulas.specs.declared.formulas.Gradient.{Gradient}
+use Rattle.record_formulas.specs.Outcomes.{countedOf, withRounds, refuseRounds}
+use Rattle.record_formulas.specs.Formulas.{threeGradient}
 use Rattle.record_entries.specs.Entries.{threeGradientOf}
 use borrow.Author.Needs.{needs}
 use Rattle.record_entries.proofs.three_gradient_primal.Statement.{statement}

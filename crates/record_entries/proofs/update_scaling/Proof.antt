@@ -2,7 +2,7 @@
 use mathlib.Core.Path.{_∙_, sym, ap}
 use Rattle.cone.specs.Refusals.{lastRows}
 use Rattle.cone.proofs.Settled.{refused, done}
-use Rattle.record_entries.proofs.LetThrough.{update-call}
+use Rattle.record_rows.proofs.LetThrough.{update-call}
 use Rattle.record_entries.specs.Entries.{completed, updateScalingOf}
 use borrow.Author.Needs.{needs}
 use Rattle.record_entries.proofs.update_scaling.Statement.{statement}

@@ -8,8 +8,8 @@ use Rattle.cone.specs.declared.Scaling.{Scaling}
 use Rattle.cone.specs.declared.Rounds.{Rounds}
 use Rattle.cone.specs.Refusals.{Lent, publishOf}
 use Rattle.genpowcone.specs.declared.Gradient.{Gradient}
-use Rattle.record_entries.specs.Outcomes.{countedOf, withRounds}
-use Rattle.record_entries.specs.Formulas.{wideGradient}
+use Rattle.record_formulas.specs.Outcomes.{countedOf, withRounds}
+use Rattle.record_formulas.specs.Formulas.{wideGradient}
 use Rattle.record_entries.specs.Entries.{wideGradientOf}
 use borrow.Author.Needs.{needs}
 use Rattle.record_entries.proofs.wide_gradient_primal.Statement.{statement}

@@ -1,0 +1,2 @@
+-- One lemma for each public entry.
+pub mod Determined

@@ -1,0 +1,1 @@
+// Any two outcomes that the contract of a public entry allows agree. No code: see proofs/.

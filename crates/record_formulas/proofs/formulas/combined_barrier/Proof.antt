@@ -1,0 +1,55 @@
+-- `combined_barrier` asks the cone of the kind. Assumes nothing.
+use borrow.Author.Tests.{eq-eqb, ne-eqb}
+use Rattle.record_formulas.specs.Formulas.{combinedBarrierOf}
+use Rattle.record_rows.proofs.LetThrough.{sized-at-most}
+use borrow.Author.Needs.{needs}
+use Rattle.record_formulas.proofs.formulas.combined_barrier.Statement.{statement}
+use Rattle.record_formulas.proofs.formulas.combined_barrier.Tie as tie
+
+cast-wide-combined : tie.Need-cast-wide-combined
+cast-wide-combined c = search needs
+
+cast-wide-combined-2 : tie.Need-cast-wide-combined-2
+cast-wide-combined-2 c = search needs
+
+wide-combined-requires : tie.Need-wide-combined-requires
+wide-combined-requires c κs = let k = c .before .before .before .before .before .if1 .taken in
+    (c .before .before .before .before .before .before .before .before .before .before .before .pre .0 .dims k .0, c .before .before .before .before .before .before .before .before .before .before .before .pre .0 .dims k .1, sized-at-most _ _ (c .before .before .before .before .before .before .before .before .before .before .before .pre .1) k, sized-at-most _ _ (c .before .before .before .before .before .before .before .before .before .before .before .pre .0) k)
+
+returns : tie.Need-returns
+unfolding combinedBarrierOf
+returns c = simp (eq-eqb _ _ (c .before .before .before .before .before .before .if1 .taken), c .wide-combined .ensures)
+
+three-of-requires : tie.Need-three-of-requires
+three-of-requires c κs = search needs
+
+three-of-requires-2 : tie.Need-three-of-requires-2
+three-of-requires-2 c κs = search needs
+
+three-of-requires-3 : tie.Need-three-of-requires-3
+three-of-requires-3 c κs = search needs
+
+three-of-requires-4 : tie.Need-three-of-requires-4
+three-of-requires-4 c κs = search needs
+
+three-combined-requires : tie.Need-three-combined-requires
+three-combined-requires c κs = search needs
+
+returns-2 : tie.Need-returns-2
+unfolding combinedBarrierOf
+returns-2 c = simp (ne-eqb _ _ (c .before .before .before .before .before .if1 .left)) (simp (← c .before .before .before .before .three-of .ensures, ← c .before .before .before .three-of2 .ensures, ← c .before .before .three-of3 .ensures, ← c .before .three-of4 .ensures) (c .three-combined .ensures))
+
+pub combined-barrier-spec : {M : Type 1} → statement M
+combined-barrier-spec =
+    tie.close
+    (tie.spec
+    cast-wide-combined
+    cast-wide-combined-2
+    wide-combined-requires
+    returns
+    three-of-requires
+    three-of-requires-2
+    three-of-requires-3
+    three-of-requires-4
+    three-combined-requires
+    returns-2)

@@ -1,0 +1,37 @@
+-- `new_record` asks the cone of the kind. Assumes nothing.
+use borrow.Author.Tests.{eq-eqb, ne-eqb}
+use Rattle.record_formulas.specs.Formulas.{newRecordOf}
+use borrow.Author.Needs.{needs}
+use Rattle.record_formulas.proofs.formulas.new_record.Statement.{statement}
+use Rattle.record_formulas.proofs.formulas.new_record.Tie as tie
+
+new-wide-requires : tie.Need-new-wide-requires
+new-wide-requires c κs = (c .before .before .before .pre .dims (c .if1 .taken) .0, c .before .before .before .pre .dims (c .if1 .taken) .1, c .before .before .before .pre .sized (c .if1 .taken))
+
+returns : tie.Need-returns
+unfolding newRecordOf
+returns c = simp (eq-eqb _ _ (c .before .if1 .taken)) (c .new-wide .ensures)
+
+three-of-requires : tie.Need-three-of-requires
+three-of-requires c κs = search needs
+
+three-of-requires-2 : tie.Need-three-of-requires-2
+three-of-requires-2 c κs = search needs
+
+new-three-requires : tie.Need-new-three-requires
+new-three-requires c κs = search needs
+
+returns-2 : tie.Need-returns-2
+unfolding newRecordOf
+returns-2 c = simp (ne-eqb _ _ (c .before .before .before .if1 .left)) (simp (← c .before .before .three-of .ensures, ← c .before .three-of2 .ensures) (c .new-three .ensures))
+
+pub new-record-spec : {M : Type 1} → statement M
+new-record-spec =
+    tie.close
+    (tie.spec
+    new-wide-requires
+    returns
+    three-of-requires
+    three-of-requires-2
+    new-three-requires
+    returns-2)

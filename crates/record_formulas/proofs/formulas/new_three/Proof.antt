@@ -1,0 +1,35 @@
+-- `new_three` puts z and the scaling matrix beside what update_dual_grad_H makes. Assumes nothing.
+use Rattle.record_formulas.specs.Formulas.{newThree}
+use borrow.Author.Needs.{needs}
+use Rattle.record_formulas.proofs.formulas.new_three.Statement.{statement}
+use Rattle.record_formulas.proofs.formulas.new_three.Tie as tie
+
+dual-three-requires : tie.Need-dual-three-requires
+dual-three-requires c κs = search needs
+
+alpha-if-power-requires : tie.Need-alpha-if-power-requires
+alpha-if-power-requires c κs = search needs
+
+update-hs-requires : tie.Need-update-hs-requires
+update-hs-requires c κs = search needs
+
+no-wide-requires : tie.Need-no-wide-requires
+no-wide-requires c κs = search needs
+
+attempted-requires : tie.Need-attempted-requires
+attempted-requires c κs = search needs
+
+returns : tie.Need-returns
+unfolding newThree
+returns c = simp (c .attempted .ensures, c .before .no-wide .ensures, c .before .before .before .update-hs .ensures, c .before .before .before .before .alpha-if-power .ensures, c .before .before .before .before .before .before .before .dual-three .ensures)
+
+pub new-three-spec : {M : Type 1} → statement M
+new-three-spec =
+    tie.close
+    (tie.spec
+    dual-three-requires
+    alpha-if-power-requires
+    update-hs-requires
+    no-wide-requires
+    attempted-requires
+    returns)

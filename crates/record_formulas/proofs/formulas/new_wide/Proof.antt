@@ -1,0 +1,48 @@
+-- `new_wide` puts z and mu beside what update_dual_grad_H makes. Assumes nothing.
+use borrow.Author.Needs.{needs}
+use Rattle.record_formulas.specs.Formulas.{newWide}
+use Rattle.record_rows.proofs.LetThrough.{point-fits}
+use Rattle.record_formulas.proofs.formulas.new_wide.Statement.{statement}
+use Rattle.record_formulas.proofs.formulas.new_wide.Tie as tie
+
+slice-aggregate-head : tie.Need-slice-aggregate-head
+slice-aggregate-head c = search needs
+
+cast-head : tie.Need-cast-head
+cast-head c = search needs
+
+head-requires : tie.Need-head-requires
+head-requires c κs = search needs
+
+update-dual-grad-h-requires : tie.Need-update-dual-grad-h-requires
+update-dual-grad-h-requires c κs = point-fits (c .before .before .before .before .before .args .cone .dim1) (c .before .before .before .before .before .args .cone .dim2) (c .before .before .before .before .before .args .cone .exps) (c .before .before .before .before .before .args .z .now) (c .before .before .before .before .before .pre) (search needs) (c .head .ensures)
+
+wide-of-requires : tie.Need-wide-of-requires
+wide-of-requires c κs = search needs
+
+wide-at-requires : tie.Need-wide-at-requires
+wide-at-requires c κs = search needs
+
+no-three-requires : tie.Need-no-three-requires
+no-three-requires c κs = search needs
+
+attempted-requires : tie.Need-attempted-requires
+attempted-requires c κs = search needs
+
+returns : tie.Need-returns
+unfolding newWide
+returns c = simp (c .attempted .ensures, c .before .no-three .ensures, c .before .before .wide-at .ensures, c .before .before .before .wide-of .ensures, c .before .before .before .before .before .update-dual-grad-h .ensures, c .before .before .before .before .before .before .head .ensures)
+
+pub new-wide-spec : {M : Type 1} → statement M
+new-wide-spec =
+    tie.close
+    (tie.spec
+    slice-aggregate-head
+    cast-head
+    head-requires
+    update-dual-grad-h-requires
+    wide-of-requires
+    wide-at-requires
+    no-three-requires
+    attempted-requires
+    returns)

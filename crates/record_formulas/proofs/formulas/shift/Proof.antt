@@ -1,0 +1,34 @@
+-- `shift` asks the cone of the kind. Assumes nothing.
+use borrow.Author.Tests.{eq-eqb, ne-eqb}
+use Rattle.record_formulas.specs.Formulas.{shiftOf}
+use borrow.Author.Needs.{needs}
+use Rattle.record_formulas.proofs.formulas.shift.Statement.{statement}
+use Rattle.record_formulas.proofs.formulas.shift.Tie as tie
+use Rattle.powcorrection.proofs.combined_ds_shift.Reads as combined-ds-shift-reads′
+
+array-read-combined-ds-shift : tie.Need-array-read-combined-ds-shift
+array-read-combined-ds-shift c = search needs
+
+combined-ds-shift-requires : tie.Need-combined-ds-shift-requires
+combined-ds-shift-requires c κs = search needs
+
+returns : tie.Need-returns
+unfolding shiftOf
+returns c = simp (eq-eqb _ _ (c .before .before .if1 .taken)) (c .combined-ds-shift .ensures)
+
+combined-ds-shift-requires-2 : tie.Need-combined-ds-shift-requires-2
+combined-ds-shift-requires-2 c κs = search needs
+
+returns-2 : tie.Need-returns-2
+unfolding shiftOf
+returns-2 c = simp (ne-eqb _ _ (c .before .if1 .left)) (c .combined-ds-shift2 .ensures)
+
+pub shift-spec : {M : Type 1} → statement M
+shift-spec =
+    tie.close
+    (tie.spec
+    array-read-combined-ds-shift
+    combined-ds-shift-requires
+    returns
+    combined-ds-shift-requires-2
+    returns-2)

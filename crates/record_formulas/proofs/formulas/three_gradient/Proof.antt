@@ -1,0 +1,34 @@
+-- `three_gradient` asks the cone of the kind. Assumes nothing.
+use borrow.Author.Tests.{eq-eqb, ne-eqb}
+use Rattle.record_formulas.specs.Formulas.{threeGradient}
+use borrow.Author.Needs.{needs}
+use Rattle.record_formulas.proofs.formulas.three_gradient.Statement.{statement}
+use Rattle.record_formulas.proofs.formulas.three_gradient.Tie as tie
+use Rattle.powcone.proofs.gradient_primal.Reads as gradient-primal-reads′
+
+array-read-gradient-primal : tie.Need-array-read-gradient-primal
+array-read-gradient-primal c = search needs
+
+gradient-primal-requires : tie.Need-gradient-primal-requires
+gradient-primal-requires c κs = search needs
+
+returns : tie.Need-returns
+unfolding threeGradient
+returns c = simp (eq-eqb _ _ (c .before .before .before .if1 .taken), c .before .gradient-primal .ensures)
+
+gradient-primal-requires-2 : tie.Need-gradient-primal-requires-2
+gradient-primal-requires-2 c κs = search needs
+
+returns-2 : tie.Need-returns-2
+unfolding threeGradient
+returns-2 c = simp (ne-eqb _ _ (c .before .before .if1 .left), c .before .gradient-primal2 .ensures)
+
+pub three-gradient-spec : {M : Type 1} → statement M
+three-gradient-spec =
+    tie.close
+    (tie.spec
+    array-read-gradient-primal
+    gradient-primal-requires
+    returns
+    gradient-primal-requires-2
+    returns-2)

@@ -1,0 +1,18 @@
+-- `wide_product` hands on the record's numbers. Assumes nothing.
+use Rattle.record_formulas.specs.Formulas.{wideProduct}
+use borrow.Author.Needs.{needs}
+use Rattle.record_formulas.proofs.formulas.wide_product.Statement.{statement}
+use Rattle.record_formulas.proofs.formulas.wide_product.Tie as tie
+
+cast-mul-hs : tie.Need-cast-mul-hs
+cast-mul-hs c = search needs
+
+mul-hs-requires : tie.Need-mul-hs-requires
+mul-hs-requires c κs = search needs
+
+returns : tie.Need-returns
+unfolding wideProduct
+returns c = c .mul-hs .ensures
+
+pub wide-product-spec : {M : Type 1} → statement M
+wide-product-spec = tie.close (tie.spec cast-mul-hs mul-hs-requires returns)

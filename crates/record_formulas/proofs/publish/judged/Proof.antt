@@ -1,0 +1,19 @@
+-- `judged` branches as its definition does. Assumes nothing.
+use Rattle.record_formulas.specs.Outcomes.{judgedOf}
+use borrow.Author.Needs.{needs}
+use Rattle.record_formulas.proofs.publish.judged.Statement.{statement}
+use Rattle.record_formulas.proofs.publish.judged.Tie as tie
+
+returns : tie.Need-returns
+unfolding judgedOf
+returns c = simp (c .if1 .taken)
+
+finished-requires : tie.Need-finished-requires
+finished-requires c κs = search needs
+
+returns-2 : tie.Need-returns-2
+unfolding judgedOf
+returns-2 c = simp (c .before .if1 .left) (c .finished .ensures)
+
+pub judged-spec : {M : Type 1} → statement M
+judged-spec = tie.close (tie.spec returns finished-requires returns-2)

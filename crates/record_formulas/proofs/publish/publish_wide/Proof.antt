@@ -1,0 +1,26 @@
+-- `publish_wide` publishes the front of the array. Assumes nothing.
+use mathlib.Core.Path.{_∙_, ap}
+use Rattle.cone.specs.Refusals.{publishOf}
+use Rattle.cone.proofs.Lengths.{cut}
+use borrow.Author.Needs.{needs}
+use Rattle.record_formulas.proofs.publish.publish_wide.Statement.{statement}
+use Rattle.record_formulas.proofs.publish.publish_wide.Tie as tie
+
+slice-aggregate-head : tie.Need-slice-aggregate-head
+slice-aggregate-head c = search needs
+
+head-requires : tie.Need-head-requires
+head-requires c κs = search needs
+
+publish-requires : tie.Need-publish-requires
+publish-requires c κs = cut _ 64 (c .before .before .before .before .args .t2) (c .before .before .before .before .pre) (search needs) (c .head .ensures)
+
+same-length : tie.Need-same-length
+same-length c = search needs
+
+returns : tie.Need-returns
+returns c = c .before .before .publish .ensures ∙ ap (publishOf (c .before .before .before .before .before .before .before .args .out .now)) (c .before .before .before .head .ensures)
+
+pub publish-wide-spec : {M : Type 1} → statement M
+publish-wide-spec =
+    tie.close (tie.spec slice-aggregate-head head-requires publish-requires same-length returns)

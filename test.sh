@@ -51,7 +51,7 @@ say "the kernels from outside (a short run of tests/kernels/run)"
 tests/kernels/run --short
 
 say "the port against the Rust, call by call (a short run of oracle/compare.sh)"
-oracle/compare.sh --calls 200000
+oracle/compare.sh --calls 300000
 
 say "the Rust crate bindings/rust"
 tools/rust-tests

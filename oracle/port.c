@@ -1,0 +1,113 @@
+/* One call of the port through spindle.h, the guard around the Rust text, and what the harness takes from the C library. */
+#include "spindle.h"
+#include <math.h>
+#include <stdio.h>
+#include <stdlib.h>
+#include <string.h>
+#include <time.h>
+
+#define SLICES 6
+#define BEFORE 4
+#define ROOM 76
+
+typedef struct { uint64_t len; double room[ROOM]; } Slice;
+typedef struct { uint32_t entry, option; Scaling record; Slice slices[SLICES]; double numbers[3]; } Call;
+typedef struct { uint32_t code, yes, counts[2]; double values[3]; Three three; Wide wide; Scaling record; } Reply;
+
+_Static_assert(sizeof(Call) == 4 + 4 + sizeof(Scaling) + SLICES * (8 + 8 * ROOM) + 24, "Call is laid out as in types.rs");
+
+#define IN(i) (call->slices[i].room + BEFORE), (size_t)call->slices[i].len
+
+void oracle_port(Call *call, Reply *reply)
+{
+    Cone cone = call->record.cone;
+    Settings settings = { call->numbers[0], call->numbers[1], call->numbers[2] };
+    switch (call->entry) {
+    case 0: { Updated r = spindle_fresh(cone); reply->code = r.code; reply->record = r.record; break; }
+    case 1: { YesNo r = spindle_is_primal_feasible(cone, IN(0)); reply->code = r.code; reply->yes = r.yes; break; }
+    case 2: { YesNo r = spindle_is_dual_feasible(cone, IN(0)); reply->code = r.code; reply->yes = r.yes; break; }
+    case 3: { Number r = spindle_barrier_dual(cone, IN(0)); reply->code = r.code; reply->values[0] = r.value; break; }
+    case 4: { DualGrad r = spindle_dual_grad_h(cone, IN(0)); reply->code = r.code; reply->three = r.three; reply->wide = r.wide; break; }
+    case 5: { Settings r = spindle_house_settings(call->numbers[0]); reply->values[0] = r.start; reply->values[1] = r.step; reply->values[2] = r.smallest; break; }
+    case 6: {
+        Found r = spindle_backtrack_search(cone, call->option == 1, IN(0), IN(1), IN(2), settings);
+        reply->code = r.code; reply->counts[0] = r.count; reply->values[0] = r.step;
+        break;
+    }
+    case 7: {
+        Steps r = spindle_step_length(cone, IN(0), IN(1), IN(2), IN(3), IN(4), IN(5), settings);
+        reply->code = r.code; reply->counts[0] = r.dual_count; reply->counts[1] = r.primal_count;
+        reply->values[0] = r.dual_step; reply->values[1] = r.primal_step;
+        break;
+    }
+    case 8: reply->code = spindle_unit_initialization(cone, IN(0), IN(1)); break;
+    case 9: { YesNo r = spindle_rectify_equilibration(cone, IN(0), IN(1)); reply->code = r.code; reply->yes = r.yes; break; }
+    case 10: reply->code = spindle_affine_ds(cone, IN(0), IN(1)); break;
+    case 11: reply->code = spindle_ds_from_dz_offset(cone, IN(0), IN(1), IN(2)); break;
+    case 12: {
+        Updated r = spindle_update_scaling(call->record, IN(0), IN(1), call->numbers[0], call->option);
+        reply->code = r.code; reply->record = r.record;
+        break;
+    }
+    case 13: { Rounds r = spindle_gradient_primal(call->record, IN(0), IN(1)); reply->code = r.code; reply->counts[0] = r.rounds; break; }
+    case 14: { Number r = spindle_barrier_primal(call->record, IN(0)); reply->code = r.code; reply->values[0] = r.value; break; }
+    case 15: {
+        Number r = spindle_compute_barrier(call->record, IN(0), IN(1), IN(2), IN(3), call->numbers[0]);
+        reply->code = r.code; reply->values[0] = r.value;
+        break;
+    }
+    case 16: reply->code = spindle_get_hs(call->record, IN(0)); break;
+    case 17: reply->code = spindle_mul_hs(call->record, IN(0), IN(1)); break;
+    case 18: reply->code = spindle_higher_correction(call->record, IN(0), IN(1), IN(2)); break;
+    case 19: reply->code = spindle_combined_ds_shift(call->record, IN(0), IN(1), IN(2), call->numbers[0]); break;
+    case 20: reply->values[0] = spindle_sqrt(call->numbers[0]); break;
+    case 21: reply->values[0] = spindle_log(call->numbers[0]); break;
+    case 22: reply->values[0] = spindle_exp(call->numbers[0]); break;
+    case 23: reply->values[0] = spindle_powf(call->numbers[0], call->numbers[1]); break;
+    }
+}
+
+/* A panic of the Rust text comes back to the guard around it; any other panic is a fault of the harness. */
+static void *place[5];
+static int guarded;
+
+uint32_t oracle_guard(void (*f)(uint8_t *), uint8_t *arg)
+{
+    guarded = 1;
+    if (__builtin_setjmp(place)) { guarded = 0; return 1; }
+    f(arg);
+    guarded = 0;
+    return 0;
+}
+
+__attribute__((noreturn)) void oracle_panicked(const char *core_function)
+{
+    /* `panic!` and `assert!` of the text come by these two; an index out of range is none of the text's panics */
+    if (guarded && (strstr(core_function, "9panicking9panic_fmt") || strstr(core_function, "9panicking5panic"))) __builtin_longjmp(place, 1);
+    printf("the harness panicked in %s\n", core_function);
+    fflush(0);
+    exit(3);
+}
+
+/* what is written out */
+void say_text(const char *text, size_t length) { printf("%.*s", (int)length, text); }
+void say_whole(uint64_t n) { printf("%llu", (unsigned long long)n); }
+void say_double(double x) { printf("%.17g", x); }
+void say_bits(uint64_t bits) { printf("%016llX", (unsigned long long)bits); }
+void say_flush(void) { fflush(0); }
+
+static FILE *written;
+uint32_t file_open(const char *name) { written = fopen(name, "wb"); return written != 0; }
+void file_words(const uint64_t *words, size_t count) { fwrite(words, 8, count, written); }
+void file_text(const char *text, size_t length) { fwrite(text, 1, length, written); }
+uint32_t file_close(void) { return fclose(written) == 0; }
+
+uint64_t seconds(void) { return (uint64_t)time(0); }
+
+/* what a kernel is held to: the processor's root and the C library's functions, which err by less than a unit in the last place */
+double near_sqrt(double x) { double r; __asm__("sqrtsd %1, %0" : "=x"(r) : "x"(x)); return r; }
+double near_log(double x) { return log(x); }
+double near_exp(double x) { return exp(x); }
+
+int oracle_main(int count, char **words);
+int main(int count, char **words) { return oracle_main(count, words); }

@@ -1,0 +1,52 @@
+// The Rust oracle and the comparison of the port with it. No crate beside core and alloc, no core formatting: build.sh compiles this for x86-64 on
+// machines that have no x86-64 Rust.
+
+#![no_std]
+#![allow(static_mut_refs, confusable_idents, uncommon_codepoints, mixed_script_confusables)]
+
+extern crate alloc;
+// the text says `std`
+extern crate core as std;
+
+mod aimed;
+mod algebra;
+mod cases;
+mod compare;
+mod cones;
+mod expected;
+mod mutants;
+mod paper;
+mod random;
+mod rules;
+mod say;
+mod solver;
+mod types;
+mod vectors;
+
+use core::alloc::{GlobalAlloc, Layout};
+
+extern "C" {
+    fn malloc(size: usize) -> *mut u8;
+    fn free(place: *mut u8);
+    fn oracle_panicked(core_function: *const u8) -> !;
+}
+
+struct CLibrary;
+
+// malloc's alignment, 16, is enough for everything here
+unsafe impl GlobalAlloc for CLibrary {
+    unsafe fn alloc(&self, layout: Layout) -> *mut u8 {
+        malloc(layout.size())
+    }
+    unsafe fn dealloc(&self, place: *mut u8, _: Layout) {
+        free(place)
+    }
+}
+
+#[global_allocator]
+static ALLOCATOR: CLibrary = CLibrary;
+
+#[panic_handler]
+fn panicked(_: &core::panic::PanicInfo) -> ! {
+    unsafe { oracle_panicked(b"9panicking9panic_fmt\0".as_ptr()) }
+}

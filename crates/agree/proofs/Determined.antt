@@ -1,6 +1,6 @@
--- 01: "For each, show that any two outcomes allowed by it agree". An outcome is the answer, a record included, and what each lent slice that is
--- written holds at exit. The contract is read as the check reads it: `Post` of an entry's `Reads` is the claim of its `ensures`.
--- What cannot agree: nothing here. A NaN's payload is outside of the numbers that a contract speaks of. Assumes nothing.
+-- 01: "For each, show that any two outcomes allowed by it agree". An outcome is the answer, a record included, and what each lent slice that
+-- is written holds at exit. The contracts are those of spindle's exports, read as the check reads them: `Post` of an export's `Reads` is the
+-- claim of its `ensures`. Every export has a lemma here. Assumes nothing.
 use mathlib.Core.Path.{_≡_, _∙_, sym, ap, refl}
 use mathlib.Core.List.{List}
 use Prim.Native.Nat.{ℕ}
@@ -14,46 +14,54 @@ use Rattle.cone.specs.declared.Found.{Found}
 use Rattle.cone.specs.declared.Steps.{Steps}
 use Rattle.cone.specs.declared.Rounds.{Rounds}
 use Rattle.cone.specs.Refusals.{Lent, LentTwo}
-use Rattle.cone.proofs.house_settings.Kinds as house-settings-kinds
-use Rattle.cone.proofs.house_settings.Reads as house-settings
-use Rattle.cone_entries.proofs.fresh.Kinds as fresh-kinds
-use Rattle.cone_entries.proofs.fresh.Reads as fresh
-use Rattle.cone_entries.proofs.is_primal_feasible.Kinds as is-primal-feasible-kinds
-use Rattle.cone_entries.proofs.is_primal_feasible.Reads as is-primal-feasible
-use Rattle.cone_entries.proofs.is_dual_feasible.Kinds as is-dual-feasible-kinds
-use Rattle.cone_entries.proofs.is_dual_feasible.Reads as is-dual-feasible
-use Rattle.cone_entries.proofs.barrier_dual.Kinds as barrier-dual-kinds
-use Rattle.cone_entries.proofs.barrier_dual.Reads as barrier-dual
-use Rattle.cone_entries.proofs.dual_grad_h.Kinds as dual-grad-h-kinds
-use Rattle.cone_entries.proofs.dual_grad_h.Reads as dual-grad-h
-use Rattle.cone_entries.proofs.unit_initialization.Kinds as unit-initialization-kinds
-use Rattle.cone_entries.proofs.unit_initialization.Reads as unit-initialization
-use Rattle.cone_entries.proofs.rectify_equilibration.Kinds as rectify-equilibration-kinds
-use Rattle.cone_entries.proofs.rectify_equilibration.Reads as rectify-equilibration
-use Rattle.cone_entries.proofs.affine_ds.Kinds as affine-ds-kinds
-use Rattle.cone_entries.proofs.affine_ds.Reads as affine-ds
-use Rattle.cone_entries.proofs.ds_from_dz_offset.Kinds as ds-from-dz-offset-kinds
-use Rattle.cone_entries.proofs.ds_from_dz_offset.Reads as ds-from-dz-offset
-use Rattle.search_entries.proofs.backtrack_search.Kinds as backtrack-search-kinds
-use Rattle.search_entries.proofs.backtrack_search.Reads as backtrack-search
-use Rattle.search_entries.proofs.step_length.Kinds as step-length-kinds
-use Rattle.search_entries.proofs.step_length.Reads as step-length
-use Rattle.record_entries.proofs.update_scaling.Kinds as update-scaling-kinds
-use Rattle.record_entries.proofs.update_scaling.Reads as update-scaling
-use Rattle.record_entries.proofs.gradient_primal.Kinds as gradient-primal-kinds
-use Rattle.record_entries.proofs.gradient_primal.Reads as gradient-primal
-use Rattle.record_entries.proofs.barrier_primal.Kinds as barrier-primal-kinds
-use Rattle.record_entries.proofs.barrier_primal.Reads as barrier-primal
-use Rattle.record_entries.proofs.compute_barrier.Kinds as compute-barrier-kinds
-use Rattle.record_entries.proofs.compute_barrier.Reads as compute-barrier
-use Rattle.record_entries.proofs.get_hs.Kinds as get-hs-kinds
-use Rattle.record_entries.proofs.get_hs.Reads as get-hs
-use Rattle.record_entries.proofs.mul_hs.Kinds as mul-hs-kinds
-use Rattle.record_entries.proofs.mul_hs.Reads as mul-hs
-use Rattle.record_entries.proofs.higher_correction.Kinds as higher-correction-kinds
-use Rattle.record_entries.proofs.higher_correction.Reads as higher-correction
-use Rattle.record_entries.proofs.combined_ds_shift.Kinds as combined-ds-shift-kinds
-use Rattle.record_entries.proofs.combined_ds_shift.Reads as combined-ds-shift
+use Rattle.spindle.proofs.spindle_sqrt.Kinds as sqrt-kinds
+use Rattle.spindle.proofs.spindle_sqrt.Reads as sqrt
+use Rattle.spindle.proofs.spindle_log.Kinds as log-kinds
+use Rattle.spindle.proofs.spindle_log.Reads as log
+use Rattle.spindle.proofs.spindle_exp.Kinds as exp-kinds
+use Rattle.spindle.proofs.spindle_exp.Reads as exp
+use Rattle.spindle.proofs.spindle_powf.Kinds as powf-kinds
+use Rattle.spindle.proofs.spindle_powf.Reads as powf
+use Rattle.spindle.proofs.spindle_house_settings.Kinds as house-settings-kinds
+use Rattle.spindle.proofs.spindle_house_settings.Reads as house-settings
+use Rattle.spindle.proofs.spindle_fresh.Kinds as fresh-kinds
+use Rattle.spindle.proofs.spindle_fresh.Reads as fresh
+use Rattle.spindle.proofs.spindle_is_primal_feasible.Kinds as is-primal-feasible-kinds
+use Rattle.spindle.proofs.spindle_is_primal_feasible.Reads as is-primal-feasible
+use Rattle.spindle.proofs.spindle_is_dual_feasible.Kinds as is-dual-feasible-kinds
+use Rattle.spindle.proofs.spindle_is_dual_feasible.Reads as is-dual-feasible
+use Rattle.spindle.proofs.spindle_barrier_dual.Kinds as barrier-dual-kinds
+use Rattle.spindle.proofs.spindle_barrier_dual.Reads as barrier-dual
+use Rattle.spindle.proofs.spindle_dual_grad_h.Kinds as dual-grad-h-kinds
+use Rattle.spindle.proofs.spindle_dual_grad_h.Reads as dual-grad-h
+use Rattle.spindle.proofs.spindle_unit_initialization.Kinds as unit-initialization-kinds
+use Rattle.spindle.proofs.spindle_unit_initialization.Reads as unit-initialization
+use Rattle.spindle.proofs.spindle_rectify_equilibration.Kinds as rectify-equilibration-kinds
+use Rattle.spindle.proofs.spindle_rectify_equilibration.Reads as rectify-equilibration
+use Rattle.spindle.proofs.spindle_affine_ds.Kinds as affine-ds-kinds
+use Rattle.spindle.proofs.spindle_affine_ds.Reads as affine-ds
+use Rattle.spindle.proofs.spindle_ds_from_dz_offset.Kinds as ds-from-dz-offset-kinds
+use Rattle.spindle.proofs.spindle_ds_from_dz_offset.Reads as ds-from-dz-offset
+use Rattle.spindle.proofs.spindle_backtrack_search.Kinds as backtrack-search-kinds
+use Rattle.spindle.proofs.spindle_backtrack_search.Reads as backtrack-search
+use Rattle.spindle.proofs.spindle_step_length.Kinds as step-length-kinds
+use Rattle.spindle.proofs.spindle_step_length.Reads as step-length
+use Rattle.spindle.proofs.spindle_update_scaling.Kinds as update-scaling-kinds
+use Rattle.spindle.proofs.spindle_update_scaling.Reads as update-scaling
+use Rattle.spindle.proofs.spindle_gradient_primal.Kinds as gradient-primal-kinds
+use Rattle.spindle.proofs.spindle_gradient_primal.Reads as gradient-primal
+use Rattle.spindle.proofs.spindle_barrier_primal.Kinds as barrier-primal-kinds
+use Rattle.spindle.proofs.spindle_barrier_primal.Reads as barrier-primal
+use Rattle.spindle.proofs.spindle_compute_barrier.Kinds as compute-barrier-kinds
+use Rattle.spindle.proofs.spindle_compute_barrier.Reads as compute-barrier
+use Rattle.spindle.proofs.spindle_get_hs.Kinds as get-hs-kinds
+use Rattle.spindle.proofs.spindle_get_hs.Reads as get-hs
+use Rattle.spindle.proofs.spindle_mul_hs.Kinds as mul-hs-kinds
+use Rattle.spindle.proofs.spindle_mul_hs.Reads as mul-hs
+use Rattle.spindle.proofs.spindle_higher_correction.Kinds as higher-correction-kinds
+use Rattle.spindle.proofs.spindle_higher_correction.Reads as higher-correction
+use Rattle.spindle.proofs.spindle_combined_ds_shift.Kinds as combined-ds-shift-kinds
+use Rattle.spindle.proofs.spindle_combined_ds_shift.Reads as combined-ds-shift
 
 -- A contract that determines the result, and what `seen` reads of the parameters at exit. n is the number of lent slices.
 abbrev pub Determines : (n : ℕ) (ps : List (PK n)) (r : RK n) → Out n ps r → (A : Type 0) → ((κs : Lfts n) → AtExit (endedOf n ps r) κs → A) → Type 0
@@ -70,7 +78,21 @@ module _ {A : Type 0} where
   two : {x y : LentTwo A} → x ≡ y → (x .answer ≡ y .answer) × _≡_ {A = List Float × List Float} (x .first, x .second) (y .first, y .second)
   two e = (ap (λ (o : LentTwo A). o .answer) e, ap (λ (o : LentTwo A). (o .first, o .second)) e)
 
--- ---- no cone and no record
+-- ---- the four kernels
+
+pub sqrt-agrees : Determines 0 sqrt-kinds.ps sqrt-kinds.r sqrt.Post (Unit {0}) (λ κs s. tt)
+sqrt-agrees κs a x y s t p q = (p ∙ sym q, refl)
+
+pub log-agrees : Determines 0 log-kinds.ps log-kinds.r log.Post (Unit {0}) (λ κs s. tt)
+log-agrees κs a x y s t p q = (p ∙ sym q, refl)
+
+pub exp-agrees : Determines 0 exp-kinds.ps exp-kinds.r exp.Post (Unit {0}) (λ κs s. tt)
+exp-agrees κs a x y s t p q = (p ∙ sym q, refl)
+
+pub powf-agrees : Determines 0 powf-kinds.ps powf-kinds.r powf.Post (Unit {0}) (λ κs s. tt)
+powf-agrees κs a x y s t p q = (p ∙ sym q, refl)
+
+-- ---- the house settings
 
 pub house-settings-agrees : Determines 0 house-settings-kinds.ps house-settings-kinds.r house-settings.Post (Unit {0}) (λ κs s. tt)
 house-settings-agrees κs a x y s t p q = (p ∙ sym q, refl)

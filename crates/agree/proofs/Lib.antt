@@ -1,2 +1,2 @@
--- One lemma for each public entry.
+-- A lemma for each export.
 pub mod Determined

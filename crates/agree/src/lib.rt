@@ -1,1 +1,1 @@
-// Any two outcomes that the contract of a public entry allows agree. No code: see proofs/.
+// Any two outcomes that the contract of an export of `spindle` allows agree. No code: see proofs/.

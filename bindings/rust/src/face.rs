@@ -1,0 +1,90 @@
+//! include/spindle.h, word for word in Rust.
+use crate::{Cone, Scaling, Settings, Three, Wide};
+
+#[repr(C)]
+pub struct YesNo {
+    pub code: u32,
+    pub yes: bool,
+}
+
+#[repr(C)]
+pub struct Number {
+    pub code: u32,
+    pub value: f64,
+}
+
+#[repr(C)]
+pub struct Rounds {
+    pub code: u32,
+    pub rounds: u32,
+}
+
+#[repr(C)]
+pub struct FoundOut {
+    pub code: u32,
+    pub count: u32,
+    pub step: f64,
+}
+
+#[repr(C)]
+pub struct Steps {
+    pub code: u32,
+    pub dual_count: u32,
+    pub primal_count: u32,
+    pub dual_step: f64,
+    pub primal_step: f64,
+}
+
+#[repr(C)]
+pub struct DualGrad {
+    pub code: u32,
+    pub three: Three,
+    pub wide: Wide,
+}
+
+#[repr(C)]
+pub struct Updated {
+    pub code: u32,
+    pub record: Scaling,
+}
+
+type In = *const f64;
+type Out = *mut f64;
+
+extern "C" {
+    pub fn spindle_sqrt(x: f64) -> f64;
+    pub fn spindle_log(x: f64) -> f64;
+    pub fn spindle_exp(x: f64) -> f64;
+    pub fn spindle_powf(x: f64, y: f64) -> f64;
+
+    pub fn spindle_fresh(cone: Cone) -> Updated;
+    pub fn spindle_is_primal_feasible(cone: Cone, s: In, ns: usize) -> YesNo;
+    pub fn spindle_is_dual_feasible(cone: Cone, z: In, nz: usize) -> YesNo;
+    pub fn spindle_barrier_dual(cone: Cone, z: In, nz: usize) -> Number;
+    pub fn spindle_dual_grad_h(cone: Cone, z: In, nz: usize) -> DualGrad;
+    pub fn spindle_house_settings(start: f64) -> Settings;
+    pub fn spindle_backtrack_search(
+        cone: Cone, primal: bool, dq: In, ndq: usize, q: In, nq: usize, point: Out, np: usize, settings: Settings,
+    ) -> FoundOut;
+    pub fn spindle_step_length(
+        cone: Cone, dz: In, ndz: usize, ds: In, nds: usize, z: In, nz: usize, s: In, ns: usize, dual_point: Out, ndp: usize,
+        primal_point: Out, npp: usize, settings: Settings,
+    ) -> Steps;
+    pub fn spindle_unit_initialization(cone: Cone, z: Out, nz: usize, s: Out, ns: usize) -> u32;
+    pub fn spindle_rectify_equilibration(cone: Cone, delta: Out, nd: usize, e: In, ne: usize) -> YesNo;
+    pub fn spindle_affine_ds(cone: Cone, ds: Out, nds: usize, s: In, ns: usize) -> u32;
+    pub fn spindle_ds_from_dz_offset(cone: Cone, out: Out, no: usize, ds: In, nds: usize, z: In, nz: usize) -> u32;
+
+    pub fn spindle_update_scaling(record: Scaling, s: In, ns: usize, z: In, nz: usize, mu: f64, strategy: u32) -> Updated;
+    pub fn spindle_gradient_primal(record: Scaling, g: Out, ng: usize, s: In, ns: usize) -> Rounds;
+    pub fn spindle_barrier_primal(record: Scaling, s: In, ns: usize) -> Number;
+    pub fn spindle_compute_barrier(
+        record: Scaling, z: In, nz: usize, s: In, ns: usize, dz: In, ndz: usize, ds: In, nds: usize, alpha: f64,
+    ) -> Number;
+    pub fn spindle_get_hs(record: Scaling, block: Out, nb: usize) -> u32;
+    pub fn spindle_mul_hs(record: Scaling, y: Out, ny: usize, x: In, nx: usize) -> u32;
+    pub fn spindle_higher_correction(record: Scaling, eta: Out, ne: usize, ds: In, nds: usize, v: In, nv: usize) -> u32;
+    pub fn spindle_combined_ds_shift(
+        record: Scaling, shift: Out, nsh: usize, step_z: In, nsz: usize, step_s: In, nss: usize, sigma_mu: f64,
+    ) -> u32;
+}

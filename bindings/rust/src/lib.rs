@@ -1,0 +1,424 @@
+//! Step searches and scalings for the exponential, power and generalized power cone, from a library in which every function is
+//! proved to meet its contract.
+//!
+//! ```
+//! use spindle::{Cone, Settings};
+//!
+//! let cone = Cone::power(0.5)?;
+//! let (dq, q) = ([-1.0, 0.0, 0.0], [1.0, 1.0, 0.5]);
+//! let mut point = [0.0; 3];
+//! let found = cone.search_primal(&dq, &q, &mut point, Settings::house(1.0))?;
+//! assert!(found.step > 0.0 && cone.is_primal_feasible(&point)?);
+//! # Ok::<(), spindle::Refusal>(())
+//! ```
+//!
+//! A call that is refused changes nothing that it was lent: slices keep their contents, a record stays as it was. The numbers of a
+//! [`Refusal`] are those of the library's scope document. No call allocates, and none panics.
+#![no_std]
+#![deny(missing_docs)]
+
+mod face;
+
+/// Why a call was refused. The discriminant is the number that the C face hands back.
+#[derive(Clone, Copy, Debug, PartialEq, Eq, Hash)]
+#[repr(u32)]
+pub enum Refusal {
+    /// 1: the cone's kind, exponents, dims or exponent sum, or a generalized cone in a correction or combined shift.
+    BadCone = 1,
+    /// 2: a lent slice has another length than needed.
+    BadLength = 2,
+    /// 3: an input number is NaN or infinite.
+    NotFinite = 3,
+    /// 4: the search start, step or smallest step, or the strategy code.
+    BadSettings = 4,
+    /// 5: the record was never scaled.
+    NeverScaled = 5,
+    /// 6: the point lies where the formula has no value, and the original code would panic.
+    OutOfRange = 6,
+    /// 7: the finished answer holds a NaN or an infinity.
+    AnswerNotFinite = 7,
+}
+
+impl Refusal {
+    /// The number of the scope document's table.
+    pub fn number(self) -> u32 {
+        self as u32
+    }
+
+    /// One sentence on what was wrong.
+    pub fn sentence(self) -> &'static str {
+        match self {
+            Refusal::BadCone => "bad cone: its kind, an exponent, a dim or the exponent sum is not allowed",
+            Refusal::BadLength => "a lent slice has another length than needed",
+            Refusal::NotFinite => "an input number is NaN or infinite",
+            Refusal::BadSettings => "the search start, step, smallest step or the strategy is not allowed",
+            Refusal::NeverScaled => "the record was never scaled",
+            Refusal::OutOfRange => "the point lies where the formula has no value",
+            Refusal::AnswerNotFinite => "the finished answer holds a NaN or an infinity",
+        }
+    }
+
+    fn check(code: u32) -> Result<(), Refusal> {
+        match code {
+            0 => Ok(()),
+            1 => Err(Refusal::BadCone),
+            2 => Err(Refusal::BadLength),
+            3 => Err(Refusal::NotFinite),
+            4 => Err(Refusal::BadSettings),
+            5 => Err(Refusal::NeverScaled),
+            6 => Err(Refusal::OutOfRange),
+            _ => Err(Refusal::AnswerNotFinite),
+        }
+    }
+}
+
+impl core::fmt::Display for Refusal {
+    fn fmt(&self, f: &mut core::fmt::Formatter<'_>) -> core::fmt::Result {
+        write!(f, "refused with {}: {}", self.number(), self.sentence())
+    }
+}
+
+impl core::error::Error for Refusal {}
+
+/// What a step search is told: the first trial, the factor between trials, and the step below which it gives up.
+#[derive(Clone, Copy, Debug, PartialEq)]
+#[repr(C)]
+pub struct Settings {
+    /// The first trial; above 0.
+    pub start: f64,
+    /// The factor from one trial to the next; above 0, at most 0.99.
+    pub step: f64,
+    /// No later trial below this is tested; a positive normal number.
+    pub smallest: f64,
+}
+
+impl Settings {
+    /// The house defaults with this start.
+    pub fn house(start: f64) -> Settings {
+        unsafe { face::spindle_house_settings(start) }
+    }
+}
+
+/// How an update computes the scaling of a three-dimensional cone.
+#[derive(Clone, Copy, Debug, PartialEq, Eq, Default)]
+#[repr(u32)]
+pub enum Strategy {
+    /// The dual Hessian times the caller's μ.
+    Dual = 1,
+    /// The primal-dual scaling, with its fallback. The house default.
+    #[default]
+    PrimalDual = 2,
+}
+
+/// What a search found.
+#[derive(Clone, Copy, Debug, PartialEq)]
+pub struct Found {
+    /// The first allowed trial whose point passed; 0 exactly if none did.
+    pub step: f64,
+    /// How many points were tested.
+    pub tests: u32,
+}
+
+/// A cone. The constructors refuse what the library would refuse.
+#[derive(Clone, Copy, Debug, PartialEq)]
+#[repr(C)]
+pub struct Cone {
+    kind: u32,
+    dim1: u32,
+    dim2: u32,
+    exps: [f64; 32],
+}
+
+impl Cone {
+    /// The exponential cone.
+    pub fn exponential() -> Cone {
+        Cone { kind: 1, dim1: 0, dim2: 0, exps: [0.0; 32] }
+    }
+
+    /// The power cone with an exponent above 0 and below 1.
+    pub fn power(exponent: f64) -> Result<Cone, Refusal> {
+        let mut exps = [0.0; 32];
+        exps[0] = exponent;
+        Cone { kind: 2, dim1: 0, dim2: 0, exps }.judged()
+    }
+
+    /// The generalized power cone: 1 to 32 exponents that sum to 1, and a tail of 1 to 32 numbers.
+    pub fn generalized(exponents: &[f64], dim2: usize) -> Result<Cone, Refusal> {
+        if exponents.len() > 32 || dim2 > 32 {
+            return Err(Refusal::BadCone);
+        }
+        let mut exps = [0.0; 32];
+        exps[..exponents.len()].copy_from_slice(exponents);
+        Cone { kind: 3, dim1: exponents.len() as u32, dim2: dim2 as u32, exps }.judged()
+    }
+
+    fn judged(self) -> Result<Cone, Refusal> {
+        Refusal::check(unsafe { face::spindle_fresh(self) }.code)?;
+        Ok(self)
+    }
+
+    /// How many numbers a point of the cone has.
+    pub fn numel(&self) -> usize {
+        if self.kind == 3 {
+            (self.dim1 + self.dim2) as usize
+        } else {
+            3
+        }
+    }
+
+    /// A record for this cone that was never scaled.
+    pub fn scaling(&self) -> Scaling {
+        unsafe { face::spindle_fresh(*self) }.record
+    }
+
+    /// Whether s is in the primal cone.
+    pub fn is_primal_feasible(&self, s: &[f64]) -> Result<bool, Refusal> {
+        yes_no(unsafe { face::spindle_is_primal_feasible(*self, s.as_ptr(), s.len()) })
+    }
+
+    /// Whether z is in the dual cone.
+    pub fn is_dual_feasible(&self, z: &[f64]) -> Result<bool, Refusal> {
+        yes_no(unsafe { face::spindle_is_dual_feasible(*self, z.as_ptr(), z.len()) })
+    }
+
+    /// The dual barrier at z.
+    pub fn barrier_dual(&self, z: &[f64]) -> Result<f64, Refusal> {
+        number(unsafe { face::spindle_barrier_dual(*self, z.as_ptr(), z.len()) })
+    }
+
+    /// The gradient and the Hessian of the dual barrier at z.
+    pub fn dual_gradient(&self, z: &[f64]) -> Result<DualGradient, Refusal> {
+        let out = unsafe { face::spindle_dual_grad_h(*self, z.as_ptr(), z.len()) };
+        Refusal::check(out.code)?;
+        Ok(DualGradient { three: out.three, wide: out.wide })
+    }
+
+    /// The first allowed step for which q + step·dq lies in the primal cone; `point` becomes the tested point, or q for step 0.
+    pub fn search_primal(&self, dq: &[f64], q: &[f64], point: &mut [f64], settings: Settings) -> Result<Found, Refusal> {
+        self.search(true, dq, q, point, settings)
+    }
+
+    /// The same for the dual cone.
+    pub fn search_dual(&self, dq: &[f64], q: &[f64], point: &mut [f64], settings: Settings) -> Result<Found, Refusal> {
+        self.search(false, dq, q, point, settings)
+    }
+
+    fn search(&self, primal: bool, dq: &[f64], q: &[f64], point: &mut [f64], settings: Settings) -> Result<Found, Refusal> {
+        let out = unsafe {
+            face::spindle_backtrack_search(*self, primal, dq.as_ptr(), dq.len(), q.as_ptr(), q.len(), point.as_mut_ptr(), point.len(), settings)
+        };
+        Refusal::check(out.code)?;
+        Ok(Found { step: out.step, tests: out.count })
+    }
+
+    /// Both searches of a round: the dual step and the primal step, each with its tested point.
+    #[allow(clippy::too_many_arguments)]
+    pub fn step_length(
+        &self,
+        dz: &[f64],
+        ds: &[f64],
+        z: &[f64],
+        s: &[f64],
+        dual_point: &mut [f64],
+        primal_point: &mut [f64],
+        settings: Settings,
+    ) -> Result<(Found, Found), Refusal> {
+        let out = unsafe {
+            face::spindle_step_length(
+                *self, dz.as_ptr(), dz.len(), ds.as_ptr(), ds.len(), z.as_ptr(), z.len(), s.as_ptr(), s.len(),
+                dual_point.as_mut_ptr(), dual_point.len(), primal_point.as_mut_ptr(), primal_point.len(), settings,
+            )
+        };
+        Refusal::check(out.code)?;
+        Ok((Found { step: out.dual_step, tests: out.dual_count }, Found { step: out.primal_step, tests: out.primal_count }))
+    }
+
+    /// Writes the starting points.
+    pub fn unit_initialization(&self, z: &mut [f64], s: &mut [f64]) -> Result<(), Refusal> {
+        Refusal::check(unsafe { face::spindle_unit_initialization(*self, z.as_mut_ptr(), z.len(), s.as_mut_ptr(), s.len()) })
+    }
+
+    /// Writes e's mean over each of its numbers.
+    pub fn rectify_equilibration(&self, delta: &mut [f64], e: &[f64]) -> Result<(), Refusal> {
+        yes_no(unsafe { face::spindle_rectify_equilibration(*self, delta.as_mut_ptr(), delta.len(), e.as_ptr(), e.len()) }).map(|_| ())
+    }
+
+    /// Writes the affine step's ds, which is s.
+    pub fn affine_ds(&self, ds: &mut [f64], s: &[f64]) -> Result<(), Refusal> {
+        Refusal::check(unsafe { face::spindle_affine_ds(*self, ds.as_mut_ptr(), ds.len(), s.as_ptr(), s.len()) })
+    }
+
+    /// Writes the offset of Δs from Δz, which is ds. z is judged and not read.
+    pub fn ds_from_dz_offset(&self, out: &mut [f64], ds: &[f64], z: &[f64]) -> Result<(), Refusal> {
+        Refusal::check(unsafe {
+            face::spindle_ds_from_dz_offset(*self, out.as_mut_ptr(), out.len(), ds.as_ptr(), ds.len(), z.as_ptr(), z.len())
+        })
+    }
+}
+
+/// The numbers of a three-dimensional record. Blocks are packed (0,0),(0,1),(1,1),(0,2),(1,2),(2,2).
+#[derive(Clone, Copy, Debug, PartialEq)]
+#[repr(C)]
+pub struct Three {
+    /// The point of the last update.
+    pub z: [f64; 3],
+    /// The dual gradient there.
+    pub grad: [f64; 3],
+    /// The dual Hessian there.
+    pub h_dual: [f64; 6],
+    /// The scaling block.
+    pub hs: [f64; 6],
+}
+
+/// The numbers of a generalized record; places behind the cone's dims are +0.
+#[derive(Clone, Copy, Debug, PartialEq)]
+#[repr(C)]
+pub struct Wide {
+    /// The point of the last update.
+    pub z: [f64; 64],
+    /// The central path parameter.
+    pub mu: f64,
+    /// The dual gradient at z.
+    pub grad: [f64; 64],
+    /// The Hessian is μ·(D + pp' - qq' - rr').
+    pub p: [f64; 64],
+    /// See `p`.
+    pub q: [f64; 32],
+    /// See `p`.
+    pub r: [f64; 32],
+    /// The head of the diagonal D.
+    pub d1: [f64; 32],
+    /// The tail of the diagonal D.
+    pub d2: f64,
+}
+
+/// The gradient and Hessian of the dual barrier: `three` for kinds 1 and 2, `wide` for kind 3; the other is +0.
+#[derive(Clone, Copy, Debug, PartialEq)]
+pub struct DualGradient {
+    /// Kinds 1 and 2: `grad` and `h_dual`.
+    pub three: Three,
+    /// Kind 3: `grad`, `p`, `q`, `r`, `d1`, `d2`.
+    pub wide: Wide,
+}
+
+/// The scaling record of a cone.
+#[derive(Clone, Copy, Debug, PartialEq)]
+#[repr(C)]
+pub struct Scaling {
+    cone: Cone,
+    scaled: bool,
+    three: Three,
+    wide: Wide,
+}
+
+impl Scaling {
+    /// The cone that the record was made for.
+    pub fn cone(&self) -> &Cone {
+        &self.cone
+    }
+
+    /// Whether an update was ever completed.
+    pub fn is_scaled(&self) -> bool {
+        self.scaled
+    }
+
+    /// The numbers of kinds 1 and 2.
+    pub fn three(&self) -> &Three {
+        &self.three
+    }
+
+    /// The numbers of kind 3.
+    pub fn wide(&self) -> &Wide {
+        &self.wide
+    }
+
+    /// Scales anew at (s, z). A refused update leaves the record as it was.
+    pub fn update(&mut self, s: &[f64], z: &[f64], mu: f64, strategy: Strategy) -> Result<(), Refusal> {
+        let out = unsafe { face::spindle_update_scaling(*self, s.as_ptr(), s.len(), z.as_ptr(), z.len(), mu, strategy as u32) };
+        Refusal::check(out.code)?;
+        *self = out.record;
+        Ok(())
+    }
+
+    /// Writes the primal gradient at s and hands back Newton's rounds (0 where Newton was not entered).
+    pub fn gradient_primal(&self, g: &mut [f64], s: &[f64]) -> Result<u32, Refusal> {
+        let out = unsafe { face::spindle_gradient_primal(*self, g.as_mut_ptr(), g.len(), s.as_ptr(), s.len()) };
+        Refusal::check(out.code)?;
+        Ok(out.rounds)
+    }
+
+    /// The primal barrier at s.
+    pub fn barrier_primal(&self, s: &[f64]) -> Result<f64, Refusal> {
+        number(unsafe { face::spindle_barrier_primal(*self, s.as_ptr(), s.len()) })
+    }
+
+    /// Both barriers at (z + α·dz, s + α·ds), summed.
+    pub fn compute_barrier(&self, z: &[f64], s: &[f64], dz: &[f64], ds: &[f64], alpha: f64) -> Result<f64, Refusal> {
+        number(unsafe {
+            face::spindle_compute_barrier(
+                *self, z.as_ptr(), z.len(), s.as_ptr(), s.len(), dz.as_ptr(), dz.len(), ds.as_ptr(), ds.len(), alpha,
+            )
+        })
+    }
+
+    /// Writes the scaling block: six packed numbers, or the diagonal of a generalized cone.
+    pub fn get_hs(&self, block: &mut [f64]) -> Result<(), Refusal> {
+        Refusal::check(unsafe { face::spindle_get_hs(*self, block.as_mut_ptr(), block.len()) })
+    }
+
+    /// Writes the scaling times x.
+    pub fn mul_hs(&self, y: &mut [f64], x: &[f64]) -> Result<(), Refusal> {
+        Refusal::check(unsafe { face::spindle_mul_hs(*self, y.as_mut_ptr(), y.len(), x.as_ptr(), x.len()) })
+    }
+
+    /// Writes the third-order correction; zeros where the Hessian has no Cholesky factor. Not for generalized cones.
+    pub fn higher_correction(&self, eta: &mut [f64], ds: &[f64], v: &[f64]) -> Result<(), Refusal> {
+        Refusal::check(unsafe {
+            face::spindle_higher_correction(*self, eta.as_mut_ptr(), eta.len(), ds.as_ptr(), ds.len(), v.as_ptr(), v.len())
+        })
+    }
+
+    /// Writes the combined step's shift. Not for generalized cones.
+    pub fn combined_ds_shift(&self, shift: &mut [f64], step_z: &[f64], step_s: &[f64], sigma_mu: f64) -> Result<(), Refusal> {
+        Refusal::check(unsafe {
+            face::spindle_combined_ds_shift(
+                *self, shift.as_mut_ptr(), shift.len(), step_z.as_ptr(), step_z.len(), step_s.as_ptr(), step_s.len(), sigma_mu,
+            )
+        })
+    }
+}
+
+/// The four kernels: every double taken, nothing refused. A NaN answer has the bits 7FF8000000000000.
+pub mod kernels {
+    use crate::face;
+
+    /// The square root, correctly rounded.
+    pub fn sqrt(x: f64) -> f64 {
+        unsafe { face::spindle_sqrt(x) }
+    }
+
+    /// The natural logarithm; minus infinity for zero and below.
+    pub fn log(x: f64) -> f64 {
+        unsafe { face::spindle_log(x) }
+    }
+
+    /// The exponential; +infinity above 709, +0 below -708.
+    pub fn exp(x: f64) -> f64 {
+        unsafe { face::spindle_exp(x) }
+    }
+
+    /// x to the power y by exp(y·log x), exact at y 0, 1 and 2.
+    pub fn powf(x: f64, y: f64) -> f64 {
+        unsafe { face::spindle_powf(x, y) }
+    }
+}
+
+fn yes_no(out: face::YesNo) -> Result<bool, Refusal> {
+    Refusal::check(out.code)?;
+    Ok(out.yes)
+}
+
+fn number(out: face::Number) -> Result<f64, Refusal> {
+    Refusal::check(out.code)?;
+    Ok(out.value)
+}

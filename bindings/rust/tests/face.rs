@@ -1,0 +1,201 @@
+//! Every call once where it is done and once for each number that it can give, with untouched slices and records at a refusal.
+use spindle::{kernels, Cone, Refusal, Scaling, Settings, Strategy};
+
+const UNTOUCHED: [f64; 6] = [11.0, 12.0, 13.0, 14.0, 15.0, 16.0];
+
+fn exponential() -> Cone {
+    Cone::exponential()
+}
+
+fn power() -> Cone {
+    Cone::power(0.5).unwrap()
+}
+
+fn generalized() -> Cone {
+    Cone::generalized(&[0.25, 0.75], 2).unwrap()
+}
+
+/// A record that was scaled at the cone's own starting point.
+fn scaled(cone: Cone) -> Scaling {
+    let n = cone.numel();
+    let (mut z, mut s) = ([0.0; 64], [0.0; 64]);
+    cone.unit_initialization(&mut z[..n], &mut s[..n]).unwrap();
+    let mut record = cone.scaling();
+    record.update(&s[..n], &z[..n], 1.0, Strategy::PrimalDual).unwrap();
+    record
+}
+
+#[test]
+fn cones_are_judged_when_they_are_made() {
+    for exponent in [0.0, -0.0, 1.0, 1.5, -0.5, f64::NAN, f64::INFINITY] {
+        assert_eq!(Cone::power(exponent), Err(Refusal::BadCone));
+    }
+    assert!(Cone::power(f64::MIN_POSITIVE).is_ok());
+    assert!(Cone::generalized(&[1.0], 1).is_ok());
+    assert!(Cone::generalized(&[1.0 / 32.0; 32], 32).is_ok());
+    assert_eq!(Cone::generalized(&[], 1), Err(Refusal::BadCone));
+    assert_eq!(Cone::generalized(&[1.0 / 33.0; 33], 1), Err(Refusal::BadCone));
+    assert_eq!(Cone::generalized(&[1.0], 0), Err(Refusal::BadCone));
+    assert_eq!(Cone::generalized(&[1.0], 33), Err(Refusal::BadCone));
+    assert_eq!(Cone::generalized(&[0.5, 0.5 + 2f64.powi(-39)], 1), Err(Refusal::BadCone));
+    assert!(Cone::generalized(&[0.5, 0.5 + 2f64.powi(-40)], 1).is_ok());
+}
+
+#[test]
+fn border_points() {
+    let cone = exponential();
+    assert_eq!(cone.is_primal_feasible(&[-1.0, 1.0, 1.0]), Ok(true));
+    assert_eq!(cone.is_primal_feasible(&[0.0, 1.0, 1.0]), Ok(false));
+    assert_eq!(cone.is_dual_feasible(&[-1.0, 0.0, 1.0]), Ok(true));
+    assert_eq!(cone.is_dual_feasible(&[-1.0, -1.0, 1.0]), Ok(false));
+    assert_eq!(power().is_primal_feasible(&[1.0, 1.0, 0.0]), Ok(true));
+    assert_eq!(power().is_primal_feasible(&[1.0, 1.0, 1.0]), Ok(false));
+    let dual = cone.dual_gradient(&[-1.0, 0.0, 1.0]).unwrap();
+    assert_eq!(dual.three.grad, [1.0, -1.0, -2.0]);
+    let mut g = [7.0; 3];
+    assert_eq!(cone.scaling().gradient_primal(&mut g, &[2.0, 1.0, 1.0]), Err(Refusal::OutOfRange));
+    assert_eq!(g, [7.0; 3]);
+}
+
+#[test]
+fn searches_hand_back_the_tested_point() {
+    let cone = exponential();
+    let mut point = [0.0; 3];
+    let settings = Settings { start: 1.0, step: 0.5, smallest: 0.125 };
+    let found = cone.search_primal(&[0.0, -4.0, 0.0], &[-1.0, 1.0, 1.0], &mut point, settings).unwrap();
+    assert_eq!((found.step, found.tests, point), (0.125, 4, [-1.0, 0.5, 1.0]));
+
+    let none = cone.search_primal(&[0.0; 3], &[0.0, -1.0, 1.0], &mut point, Settings { smallest: 0.25, ..settings }).unwrap();
+    assert_eq!((none.step, none.tests, point), (0.0, 3, [0.0, -1.0, 1.0]));
+
+    let house = cone.search_primal(&[0.0; 3], &[0.0, -1.0, 1.0], &mut point, Settings::house(1.0)).unwrap();
+    assert_eq!((house.step, house.tests), (0.0, 42));
+
+    let (mut dual, mut primal) = ([0.0; 3], [0.0; 3]);
+    let z = [-1.0, 0.0, 1.0];
+    let (d, p) = cone.step_length(&[0.0; 3], &[0.0; 3], &z, &[-1.0, 1.0, 1.0], &mut dual, &mut primal, Settings::house(0.5)).unwrap();
+    assert_eq!((d.step, d.tests, p.step, p.tests), (0.5, 1, 0.5, 1));
+    assert_eq!((dual, primal), (z, [-1.0, 1.0, 1.0]));
+}
+
+#[test]
+fn settings_are_refused() {
+    let good = Settings::house(1.0);
+    let mut point = UNTOUCHED;
+    let q = [-1.0, 1.0, 1.0];
+    let mut ask = |settings| exponential().search_primal(&[0.0; 3], &q, &mut point[..3], settings).map(|f| f.tests);
+    assert_eq!(ask(Settings { start: 0.0, ..good }), Err(Refusal::BadSettings));
+    assert_eq!(ask(Settings { start: -1.0, ..good }), Err(Refusal::BadSettings));
+    assert_eq!(ask(Settings { start: f64::NAN, ..good }), Err(Refusal::NotFinite));
+    assert_eq!(ask(Settings { step: 0.0, ..good }), Err(Refusal::BadSettings));
+    assert_eq!(ask(Settings { step: 0.991, ..good }), Err(Refusal::BadSettings));
+    assert_eq!(ask(Settings { smallest: 0.0, ..good }), Err(Refusal::BadSettings));
+    assert_eq!(ask(Settings { smallest: f64::MIN_POSITIVE / 2.0, ..good }), Err(Refusal::BadSettings));
+    assert_eq!(ask(Settings { step: 0.99, ..good }), Ok(1));
+    assert_eq!(point[3..], UNTOUCHED[3..]);
+}
+
+#[test]
+fn lengths_are_refused_before_numbers() {
+    for cone in [exponential(), power(), generalized()] {
+        let n = cone.numel();
+        for wrong in [0, n - 1, n + 1] {
+            assert_eq!(cone.is_primal_feasible(&vec![f64::NAN; wrong]), Err(Refusal::BadLength));
+        }
+        assert_eq!(cone.is_primal_feasible(&vec![f64::NAN; n]), Err(Refusal::NotFinite));
+    }
+}
+
+#[test]
+fn a_record_is_scaled_and_used() {
+    for cone in [exponential(), power(), generalized()] {
+        let n = cone.numel();
+        let block = if n == 3 { 6 } else { n };
+        let mut out = vec![9.0; block];
+        let fresh = cone.scaling();
+        assert!(!fresh.is_scaled());
+        assert_eq!(fresh.get_hs(&mut out), Err(Refusal::NeverScaled));
+        assert_eq!(out, vec![9.0; block]);
+
+        let record = scaled(cone);
+        assert!(record.is_scaled());
+        assert_eq!(record.cone(), &cone);
+        record.get_hs(&mut out).unwrap();
+        assert!(out.iter().all(|x| x.is_finite()));
+        let (x, mut y) = (vec![1.0; n], vec![0.0; n]);
+        record.mul_hs(&mut y, &x).unwrap();
+        assert!(y.iter().all(|x| x.is_finite()));
+        assert_eq!(record.mul_hs(&mut y[..n - 1], &x), Err(Refusal::BadLength));
+
+        let (mut z, mut s) = (vec![0.0; n], vec![0.0; n]);
+        cone.unit_initialization(&mut z, &mut s).unwrap();
+        let zero = vec![0.0; n];
+        let both = record.compute_barrier(&z, &s, &zero, &zero, 0.5).unwrap();
+        assert!(both.is_finite() && record.barrier_primal(&s).unwrap().is_finite() && cone.barrier_dual(&z).unwrap().is_finite());
+    }
+}
+
+#[test]
+fn a_refused_update_keeps_the_record() {
+    for cone in [exponential(), power(), generalized()] {
+        let n = cone.numel();
+        let mut record = scaled(cone);
+        let before = record;
+        let bad = vec![f64::INFINITY; n];
+        assert_eq!(record.update(&bad, &bad, 1.0, Strategy::Dual), Err(Refusal::NotFinite));
+        assert_eq!(record, before);
+    }
+}
+
+#[test]
+fn corrections_are_for_three_dimensions() {
+    let mut eta = [0.5; 3];
+    for cone in [exponential(), power()] {
+        let record = scaled(cone);
+        record.higher_correction(&mut eta, &[0.1, 0.2, 0.3], &[0.3, 0.1, 0.2]).unwrap();
+        record.combined_ds_shift(&mut eta, &[0.1, 0.2, 0.3], &[0.3, 0.1, 0.2], 0.5).unwrap();
+    }
+    eta = [0.5; 3];
+    let record = scaled(generalized());
+    assert_eq!(record.higher_correction(&mut eta, &[0.0; 3], &[0.0; 3]), Err(Refusal::BadCone));
+    assert_eq!(record.combined_ds_shift(&mut eta, &[0.0; 3], &[0.0; 3], 0.5), Err(Refusal::BadCone));
+    assert_eq!(eta, [0.5; 3]);
+}
+
+#[test]
+fn small_vectors_are_copied() {
+    let cone = exponential();
+    let (mut out, s) = ([0.0; 3], [1.0, -2.0, -0.0]);
+    cone.affine_ds(&mut out, &s).unwrap();
+    assert_eq!(out.map(f64::to_bits), s.map(f64::to_bits));
+    cone.ds_from_dz_offset(&mut out, &s, &[4.0, 5.0, 6.0]).unwrap();
+    assert_eq!(out.map(f64::to_bits), s.map(f64::to_bits));
+    assert_eq!(cone.ds_from_dz_offset(&mut out, &s, &[f64::NAN; 3]), Err(Refusal::NotFinite));
+    cone.rectify_equilibration(&mut out, &[1.0, 2.0, 3.0]).unwrap();
+    assert_eq!(out, [2.0, 1.0, (1.0 / 3.0) * 2.0]);
+}
+
+#[test]
+fn kernels_take_every_double() {
+    assert_eq!(kernels::sqrt(2.0), 2f64.sqrt());
+    assert_eq!(kernels::sqrt(-0.0).to_bits(), (-0.0f64).to_bits());
+    assert_eq!(kernels::log(1.0).to_bits(), 0);
+    assert_eq!(kernels::exp(0.0), 1.0);
+    assert_eq!(kernels::powf(-3.0, 2.0), 9.0);
+    let nan = 0x7ff8_0000_0000_0000;
+    for x in [f64::NAN, -f64::NAN, f64::from_bits(0x7ff0_0000_0000_0001), f64::from_bits(0xfff7_0000_0000_0003)] {
+        assert_eq!(kernels::sqrt(x).to_bits(), nan);
+        assert_eq!(kernels::log(x).to_bits(), nan);
+        assert_eq!(kernels::exp(x).to_bits(), nan);
+        assert_eq!(kernels::powf(x, 1.0).to_bits(), nan);
+        assert_eq!(kernels::powf(x, 2.0).to_bits(), nan);
+    }
+    assert_eq!(kernels::sqrt(-1.0).to_bits(), nan);
+    assert_eq!(kernels::powf(-8.0, 3.0).to_bits(), nan);
+}
+
+#[test]
+fn refusals_speak() {
+    assert_eq!(Refusal::BadLength.number(), 2);
+    assert_eq!(Refusal::NotFinite.to_string(), "refused with 3: an input number is NaN or infinite");
+}

@@ -1,6 +1,6 @@
 -- The formulas behind the entries over a cone, chosen by kind. Definitions only; each names the Rust function, whose own definition stands in
 -- expcone, powcone or genpowcone. 01: "Closures become a choice by cone kind."
-use Prim.Native.Nat.{ℕ, _+_, _≤_}
+use Prim.Native.Nat.{_+_, _≤_}
 use mathlib.Core.Path.{_≡_}
 use mathlib.Core.Bool.{cond, false}
 use mathlib.Core.List.{List, map}

@@ -1,14 +1,11 @@
 -- A call that its rows let through: the cone is good, the slices have its length, and of kind 3 the arrays suffice. Assumes nothing.
-use mathlib.Core.Path.{_≡_, sym, _∙_, ap}
-use mathlib.Core.Bool.{Bool, true, false, not, _||_}
+use mathlib.Core.Path.{_≡_, _∙_}
+use mathlib.Core.Bool.{Bool, true}
 use mathlib.Core.List.{List}
 use Prim.Native.Nat.{ℕ, _+_, _≤_}
 use native.Mathlib.Omega.{arith}
-use lib.Dec.{eqb}
 use lib.Ieee.{Float}
 use lib.ListN.{length, take}
-use borrow.Author.Tests.{not-false}
-use Rattle.arith.proofs.Branches.{or-left}
 use Rattle.cone.specs.declared.Cone.{Cone}
 use Rattle.cone.specs.declared.Scaling.{Scaling}
 use Rattle.cone.specs.Judges.{coneOk, numelOf, blockOf}

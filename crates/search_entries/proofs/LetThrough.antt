@@ -1,6 +1,6 @@
 -- A call that its rows let through meets what the search asks for: slices of one length, finite and good settings. Assumes nothing.
 use mathlib.Core.Path.{_≡_, sym, _∙_}
-use mathlib.Core.Bool.{Bool, not, true, false, _||_, _&&_}
+use mathlib.Core.Bool.{Bool, not, true, _||_, _&&_}
 use mathlib.Core.List.{List}
 use native.Mathlib.Omega.{arith}
 use lib.Ieee.{Float}

@@ -22,7 +22,10 @@ finished-requires c κs = search needs
 
 returns-2 : tie.Need-returns-2
 unfolding barrierDualOf
-returns-2 c = c .finished .ensures ∙ ap numberOf (c .before .barrier .ensures) ∙ done _ _ _ _ (c .before .before .before .read-rows .ensures) (c .before .before .if1 .left)
+returns-2 c =
+    let let-through = c .before .before in
+    let judged = let-through .before in
+    c .finished .ensures ∙ ap numberOf (c .before .barrier .ensures) ∙ done _ _ _ _ (judged .read-rows .ensures) (let-through .if1 .left)
 
 pub barrier-dual-spec : {M : Type 1} → statement M
 barrier-dual-spec =

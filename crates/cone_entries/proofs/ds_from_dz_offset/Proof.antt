@@ -24,7 +24,11 @@ same-length c = search needs
 
 returns-2 : tie.Need-returns-2
 unfolding dsFromDzOffsetOf
-returns-2 c = ap (λ (l : List Float). record { answer = 0; slice = l }) (c .before .before .store .ensures) ∙ done _ _ _ _ (c .before .before .before .before .before .offset-rows .ensures) (c .before .before .before .before .if1 .left)
+returns-2 c =
+    let at-store = c .before .before in
+    let let-through = at-store .before .before in
+    let judged = let-through .before in
+    ap (λ (l : List Float). record { answer = 0; slice = l }) (at-store .store .ensures) ∙ done _ _ _ _ (judged .offset-rows .ensures) (let-through .if1 .left)
 
 pub ds-from-dz-offset-spec : {M : Type 1} → statement M
 ds-from-dz-offset-spec =

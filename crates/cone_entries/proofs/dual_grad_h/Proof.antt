@@ -29,15 +29,26 @@ refused-gradient-requires-2 c κs = search needs
 
 returns-2 : tie.Need-returns-2
 unfolding dualGradHOf
-returns-2 c = c .refused-gradient2 .ensures
-    ∙ refused _ _ _ _ (c .before .before .last-rows .ensures ∙ ap lastRows (c .before .before .before .gradients .ensures)) (c .before .if2 .taken)
-    ∙ done _ _ _ _ (c .before .before .before .before .before .read-rows .ensures) (c .before .before .before .before .if1 .left)
+returns-2 c =
+    let last-judged = c .before .before in
+    let at-gradients = last-judged .before in
+    let let-through = at-gradients .before in
+    let judged = let-through .before in
+    c .refused-gradient2 .ensures
+    ∙ refused _ _ _ _ (last-judged .last-rows .ensures ∙ ap lastRows (at-gradients .gradients .ensures)) (c .before .if2 .taken)
+    ∙ done _ _ _ _ (judged .read-rows .ensures) (let-through .if1 .left)
 
 returns-3 : tie.Need-returns-3
 unfolding dualGradHOf
-returns-3 c = ap gradOf (c .before .before .before .before .before .gradients .ensures)
-    ∙ done _ _ _ _ (c .before .before .before .before .last-rows .ensures ∙ ap lastRows (c .before .before .before .before .before .gradients .ensures)) (c .before .before .before .if2 .left)
-    ∙ done _ _ _ _ (c .before .before .before .before .before .before .before .read-rows .ensures) (c .before .before .before .before .before .before .if1 .left)
+returns-3 c =
+    let by-kind = c .before .before .before in
+    let last-judged = by-kind .before in
+    let at-gradients = last-judged .before in
+    let let-through = at-gradients .before in
+    let judged = let-through .before in
+    ap gradOf (at-gradients .gradients .ensures)
+    ∙ done _ _ _ _ (last-judged .last-rows .ensures ∙ ap lastRows (at-gradients .gradients .ensures)) (by-kind .if2 .left)
+    ∙ done _ _ _ _ (judged .read-rows .ensures) (let-through .if1 .left)
 
 pub dual-grad-h-spec : {M : Type 1} → statement M
 dual-grad-h-spec =

@@ -1,6 +1,4 @@
 -- A bad cone gets the record of no cone, any other its own. Assumes nothing.
-use mathlib.Core.Path.{_∙_, sym, ap}
-use Prim.Native.Nat.{ℕ}
 use Rattle.cone.proofs.Settled.{refused, done}
 use Rattle.cone_entries.specs.Entries.{freshOf}
 use borrow.Author.Needs.{needs}
@@ -21,14 +19,21 @@ fresh-requires c κs = search needs
 
 returns : tie.Need-returns
 unfolding freshOf
-returns c = simp (c .fresh .ensures, c .before .empty-cone .ensures) (refused _ _ _ _ (simp (c .before .before .before .row .ensures, c .before .before .before .before .cone-ok .ensures)) (c .before .before .if1 .taken))
+returns c =
+    let let-through = c .before .before in
+    let at-row = let-through .before in
+    let at-cone-ok = at-row .before in
+    simp (c .fresh .ensures, c .before .empty-cone .ensures) (refused _ _ _ _ (simp (at-row .row .ensures, at-cone-ok .cone-ok .ensures)) (let-through .if1 .taken))
 
 fresh-requires-2 : tie.Need-fresh-requires-2
 fresh-requires-2 c κs = search needs
 
 returns-2 : tie.Need-returns-2
 unfolding freshOf
-returns-2 c = simp (c .fresh2 .ensures) (done _ _ _ _ (simp (c .before .before .row .ensures, c .before .before .before .cone-ok .ensures)) (c .before .if1 .left))
+returns-2 c =
+    let at-row = c .before .before in
+    let at-cone-ok = at-row .before in
+    simp (c .fresh2 .ensures) (done _ _ _ _ (simp (at-row .row .ensures, at-cone-ok .cone-ok .ensures)) (c .before .if1 .left))
 
 pub fresh-spec : {M : Type 1} → statement M
 fresh-spec =

@@ -1,8 +1,5 @@
 -- A call that its rows refuse leaves with their number and no, one that they let through with the test's answer. Assumes nothing.
-use mathlib.Core.Path.{_∙_, ap}
-use mathlib.Core.Bool.{Bool}
 use Rattle.cone.proofs.Settled.{refused, done}
-use Rattle.cone.specs.declared.YesNo.{YesNo}
 use Rattle.cone_entries.specs.Entries.{isDualFeasibleOf}
 use borrow.Author.Needs.{needs}
 use Rattle.cone_entries.proofs.is_dual_feasible.Statement.{statement}

@@ -27,7 +27,13 @@ row-requires-3 c κs = search needs
 
 returns : tie.Need-returns
 unfolding offsetRows
-returns c = simp (c .row3 .ensures, c .before .row2 .ensures, c .before .before .row .ensures, c .before .before .before .all-finite2 .ensures, c .before .before .before .before .all-finite .ensures, c .before .before .before .before .before .cone-ok .ensures, c .before .before .before .before .before .before .numel .ensures)
+returns c =
+    let at-row = c .before .before in
+    let at-all-finite2 = at-row .before in
+    let at-all-finite = at-all-finite2 .before in
+    let at-cone-ok = at-all-finite .before in
+    let at-numel = at-cone-ok .before in
+    simp (c .row3 .ensures, c .before .row2 .ensures, at-row .row .ensures, at-all-finite2 .all-finite2 .ensures, at-all-finite .all-finite .ensures, at-cone-ok .cone-ok .ensures, at-numel .numel .ensures)
 
 pub offset-rows-spec : {M : Type 1} → statement M
 offset-rows-spec =

@@ -56,13 +56,24 @@ head-requires : tie.Need-head-requires
 head-requires c κs = search needs
 
 publish-requires : tie.Need-publish-requires
-publish-requires c κs = as-long (c .before .before .before .before .before .before .before .before .args .cone) (c .before .before .before .before .before .before .before .before .args .delta .now) (c .before .before .before .before .before .before .before .before .args .e .now) _ (c .before .before .before .before .before .copy-rows .ensures) (c .before .before .before .before .if1 .left) _ (search needs) (c .head .ensures)
+publish-requires c κs =
+    let at-if1 = c .before .before .before .before in
+    let judged = at-if1 .before in
+    let start = judged .before .before .before in
+    as-long (start .args .cone) (start .args .delta .now) (start .args .e .now) _ (judged .copy-rows .ensures) (at-if1 .if1 .left) _ (search needs) (c .head .ensures)
 
 same-length : tie.Need-same-length
 same-length c = search needs
 
 returns-2 : tie.Need-returns-2
-returns-2 c = answer (c .before .before .before .before .before .before .before .before .before .before .before .args .cone) (c .before .before .before .before .before .before .before .before .before .before .before .args .delta .now) (c .before .before .before .before .before .before .before .before .before .before .before .args .e .now) _ (c .before .before .before .before .before .before .before .before .copy-rows .ensures) (c .before .before .before .before .before .before .before .if1 .left) (c .before .before .publish .ensures) (c .before .before .before .head .ensures) (c .before .before .before .before .before .before .rectified .ensures)
+returns-2 c =
+    let published = c .before .before in
+    let at-head = published .before in
+    let at-rectified = at-head .before .before .before in
+    let at-if1 = at-rectified .before in
+    let judged = at-if1 .before in
+    let start = judged .before .before .before in
+    answer (start .args .cone) (start .args .delta .now) (start .args .e .now) _ (judged .copy-rows .ensures) (at-if1 .if1 .left) (published .publish .ensures) (at-head .head .ensures) (at-rectified .rectified .ensures)
 
 pub rectify-spec : {M : Type 1} → statement M
 rectify-spec =

@@ -1,7 +1,5 @@
 -- The answer says yes exactly where the call is done. Assumes nothing.
-use mathlib.Core.Path.{_∙_, ap}
-use Prim.Native.Nat.{ℕ}
-use Rattle.cone.specs.Refusals.{Lent}
+use mathlib.Core.Path.{ap}
 use Rattle.cone_entries.specs.Entries.{yesIfDone, rectifyEquilibrationOf}
 use borrow.Author.Needs.{needs}
 use Rattle.cone_entries.proofs.rectify_equilibration.Statement.{statement}

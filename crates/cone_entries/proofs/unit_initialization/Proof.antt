@@ -1,12 +1,10 @@
 -- A call that its rows refuse leaves with their number, one that they let through publishes the kind's point twice. Assumes nothing.
 use mathlib.Core.Path.{_≡_, _∙_, sym, ap}
-use mathlib.Core.Bool.{true}
 use mathlib.Core.List.{List}
 use Prim.Native.Nat.{ℕ}
 use native.Mathlib.Omega.{arith}
 use lib.Ieee.{Float}
 use lib.ListN.{length, take}
-use lib.Seq.{length-take-le}
 use borrow.Author.Tests.{eq-eqb, ne-eqb}
 use Rattle.cone.specs.declared.Cone.{Cone}
 use Rattle.cone.specs.Refusals.{LentTwo, publishTwoOf, refuseTwo}
@@ -64,7 +62,12 @@ head-requires : tie.Need-head-requires
 head-requires c κs = search needs
 
 publish-two-requires : tie.Need-publish-two-requires
-publish-two-requires c κs = both-cut (c .before .before .before .before .before .before .before .before .before .before .args .cone) _ _ _ (sym (c .before .before .before .before .before .before .before .unit-rows .ensures) ∙ c .before .before .before .before .before .before .if1 .left) (search needs) (c .before .before .head .ensures)
+publish-two-requires c κs =
+    let at-head = c .before .before in
+    let let-through = at-head .before .before .before .before in
+    let judged = let-through .before in
+    let start = judged .before .before .before in
+    both-cut (start .args .cone) _ _ _ (sym (judged .unit-rows .ensures) ∙ let-through .if1 .left) (search needs) (at-head .head .ensures)
 
 same-length : tie.Need-same-length
 same-length c = search needs
@@ -73,8 +76,16 @@ same-length-2 : tie.Need-same-length-2
 same-length-2 c = search needs
 
 returns-2 : tie.Need-returns-2
-returns-2 c = wide-answer (c .before .before .before .before .before .before .before .before .before .before .before .before .before .before .before .args .cone) (c .before .before .before .before .before .before .before .before .before .before .before .before .before .before .before .args .z .now) (c .before .before .before .before .before .before .before .before .before .before .before .before .before .before .before .args .s .now) _ (c .before .before .before .before .before .before .before .before .before .before .before .before .unit-rows .ensures) (c .before .before .before .before .before .before .before .before .before .before .before .if1 .left) (c .before .before .before .before .before .before .before .before .before .before .if2 .taken)
-    (c .before .before .before .before .publish-two .ensures) (c .before .before .before .before .before .before .before .head .ensures) (c .before .before .before .before .before .before .before .before .before .unit-wide .ensures)
+returns-2 c =
+    let published = c .before .before .before .before in
+    let at-head = published .before .before .before in
+    let at-unit-wide = at-head .before .before in
+    let by-kind = at-unit-wide .before in
+    let let-through = by-kind .before in
+    let judged = let-through .before in
+    let start = judged .before .before .before in
+    wide-answer (start .args .cone) (start .args .z .now) (start .args .s .now) _ (judged .unit-rows .ensures) (let-through .if1 .left) (by-kind .if2 .taken)
+    (published .publish-two .ensures) (at-head .head .ensures) (at-unit-wide .unit-wide .ensures)
 
 unit-three-requires : tie.Need-unit-three-requires
 unit-three-requires c κs = search needs
@@ -86,7 +97,13 @@ slice-aggregate-publish-two-2 : tie.Need-slice-aggregate-publish-two-2
 slice-aggregate-publish-two-2 c = search needs
 
 publish-two-requires-2 : tie.Need-publish-two-requires-2
-publish-two-requires-2 c κs = both-three (c .before .before .before .before .before .before .before .before .before .before .args .cone) _ _ (c .before .before .before .before .unit-three .result) (sym (c .before .before .before .before .before .before .before .unit-rows .ensures) ∙ c .before .before .before .before .before .before .if1 .left) (c .before .before .before .before .before .if2 .left) (search needs)
+publish-two-requires-2 c κs =
+    let at-unit-three = c .before .before .before .before in
+    let by-kind = at-unit-three .before in
+    let let-through = by-kind .before in
+    let judged = let-through .before in
+    let start = judged .before .before .before in
+    both-three (start .args .cone) _ _ (at-unit-three .unit-three .result) (sym (judged .unit-rows .ensures) ∙ let-through .if1 .left) (by-kind .if2 .left) (search needs)
 
 same-length-3 : tie.Need-same-length-3
 same-length-3 c = search needs
@@ -95,8 +112,15 @@ same-length-4 : tie.Need-same-length-4
 same-length-4 c = search needs
 
 returns-3 : tie.Need-returns-3
-returns-3 c = three-answer (c .before .before .before .before .before .before .before .before .before .before .before .before .before .before .before .args .cone) (c .before .before .before .before .before .before .before .before .before .before .before .before .before .before .before .args .z .now) (c .before .before .before .before .before .before .before .before .before .before .before .before .before .before .before .args .s .now) _ (c .before .before .before .before .before .before .before .before .before .before .before .before .unit-rows .ensures) (c .before .before .before .before .before .before .before .before .before .before .before .if1 .left) (c .before .before .before .before .before .before .before .before .before .before .if2 .left)
-    (c .before .before .before .before .publish-two2 .ensures) (c .before .before .before .before .before .before .before .before .before .unit-three .ensures)
+returns-3 c =
+    let published = c .before .before .before .before in
+    let at-unit-three = published .before .before .before .before .before in
+    let by-kind = at-unit-three .before in
+    let let-through = by-kind .before in
+    let judged = let-through .before in
+    let start = judged .before .before .before in
+    three-answer (start .args .cone) (start .args .z .now) (start .args .s .now) _ (judged .unit-rows .ensures) (let-through .if1 .left) (by-kind .if2 .left)
+    (published .publish-two2 .ensures) (at-unit-three .unit-three .ensures)
 
 pub unit-initialization-spec : {M : Type 1} → statement M
 unit-initialization-spec =

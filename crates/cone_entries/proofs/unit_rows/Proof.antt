@@ -18,7 +18,10 @@ row-requires-2 c κs = search needs
 
 returns : tie.Need-returns
 unfolding unitRows
-returns c = simp (c .row2 .ensures, c .before .row .ensures, c .before .before .cone-ok .ensures, c .before .before .before .numel .ensures)
+returns c =
+    let at-cone-ok = c .before .before in
+    let at-numel = at-cone-ok .before in
+    simp (c .row2 .ensures, c .before .row .ensures, at-cone-ok .cone-ok .ensures, at-numel .numel .ensures)
 
 pub unit-rows-spec : {M : Type 1} → statement M
 unit-rows-spec =

@@ -23,7 +23,10 @@ judged-requires c κs = search needs
 
 returns-2 : tie.Need-returns-2
 unfolding barrierPrimalOf
-returns-2 c = c .judged .ensures ∙ ap judgedOf (c .before .primal-barrier .ensures) ∙ done _ _ _ _ (c .before .before .before .barrier-rows .ensures) (c .before .before .if1 .left)
+returns-2 c =
+    let let-through = c .before .before in
+    let judged = let-through .before in
+    c .judged .ensures ∙ ap judgedOf (c .before .primal-barrier .ensures) ∙ done _ _ _ _ (judged .barrier-rows .ensures) (let-through .if1 .left)
 
 pub barrier-primal-spec : {M : Type 1} → statement M
 barrier-primal-spec =

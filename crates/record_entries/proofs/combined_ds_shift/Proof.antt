@@ -1,5 +1,5 @@
 -- A call that its rows refuse leaves with their number, one that they let through publishes the shift. Assumes nothing.
-use mathlib.Core.Path.{_≡_, _∙_, sym, ap, refl}
+use mathlib.Core.Path.{_≡_, _∙_, sym, ap}
 use mathlib.Core.List.{List}
 use Prim.Native.Nat.{ℕ}
 use lib.Ieee.{Float}
@@ -46,7 +46,10 @@ shift-requires : tie.Need-shift-requires
 shift-requires c κs = search needs
 
 publish-three-requires : tie.Need-publish-three-requires
-publish-three-requires c κs = correction-call _ _ _ _ _ (sym (c .before .before .before .before .before .correction-rows .ensures) ∙ c .before .before .before .before .if1 .left)
+publish-three-requires c κs =
+    let let-through = c .before .before .before .before in
+    let judged = let-through .before in
+    correction-call _ _ _ _ _ (sym (judged .correction-rows .ensures) ∙ let-through .if1 .left)
 
 same-length : tie.Need-same-length
 same-length c = search needs

@@ -23,7 +23,10 @@ judged-requires c κs = search needs
 
 returns-2 : tie.Need-returns-2
 unfolding computeBarrierOf
-returns-2 c = c .judged .ensures ∙ ap judgedOf (c .before .combined-barrier .ensures) ∙ done _ _ _ _ (c .before .before .before .compute-rows .ensures) (c .before .before .if1 .left)
+returns-2 c =
+    let let-through = c .before .before in
+    let judged = let-through .before in
+    c .judged .ensures ∙ ap judgedOf (c .before .combined-barrier .ensures) ∙ done _ _ _ _ (judged .compute-rows .ensures) (let-through .if1 .left)
 
 pub compute-barrier-spec : {M : Type 1} → statement M
 compute-barrier-spec =

@@ -1,5 +1,5 @@
 -- A call that its rows refuse leaves with their number, one that they let through publishes the block, or of kind 3 the diagonal. Assumes nothing.
-use mathlib.Core.Path.{_≡_, _∙_, sym, ap, refl}
+use mathlib.Core.Path.{_≡_, _∙_, sym, ap}
 use mathlib.Core.List.{List}
 use Prim.Native.Nat.{ℕ}
 use lib.Ieee.{Float}
@@ -41,26 +41,50 @@ cast-wide-block-2 : tie.Need-cast-wide-block-2
 cast-wide-block-2 c = search needs
 
 wide-block-requires : tie.Need-wide-block-requires
-wide-block-requires c κs = dims _ (block-call _ _ (sym (c .before .before .before .before .before .before .before .block-rows .ensures) ∙ c .before .before .before .before .before .before .if1 .left) .0) (c .before .before .before .before .if2 .taken)
+wide-block-requires c κs =
+    let by-kind = c .before .before .before .before in
+    let let-through = by-kind .before .before in
+    let judged = let-through .before in
+    dims _ (block-call _ _ (sym (judged .block-rows .ensures) ∙ let-through .if1 .left) .0) (by-kind .if2 .taken)
 
 publish-wide-requires : tie.Need-publish-wide-requires
-publish-wide-requires c κs = let b = block-call _ _ (sym (c .before .before .before .before .before .before .before .before .before .block-rows .ensures) ∙ c .before .before .before .before .before .before .before .before .if1 .left) in block-fits _ (b .0) _ (b .1)
+publish-wide-requires c κs =
+    let let-through = c .before .before .before .before .before .before .before .before in
+    let judged = let-through .before in
+    let b = block-call _ _ (sym (judged .block-rows .ensures) ∙ let-through .if1 .left) in block-fits _ (b .0) _ (b .1)
 
 same-length : tie.Need-same-length
 same-length c = search needs
 
 returns-2 : tie.Need-returns-2
-returns-2 c = diagonal-answer (c .before .before .before .before .before .before .before .before .before .before .before .before .before .before .args .scaling) (c .before .before .before .before .before .before .before .before .before .before .before .before .before .before .args .block .now) _ (c .before .before .before .before .before .before .before .before .before .before .before .before .block-rows .ensures) (c .before .before .before .before .before .before .before .before .before .before .before .if1 .left) (c .before .before .before .before .before .before .before .before .before .if2 .taken)
-    (c .before .before .publish-wide .ensures) (c .before .before .before .before .wide-block .ensures)
+returns-2 c =
+    let published = c .before .before in
+    let at-wide-block = published .before .before in
+    let by-kind = at-wide-block .before .before .before .before .before in
+    let let-through = by-kind .before .before in
+    let judged = let-through .before in
+    let start = judged .before .before in
+    diagonal-answer (start .args .scaling) (start .args .block .now) _ (judged .block-rows .ensures) (let-through .if1 .left) (by-kind .if2 .taken)
+    (published .publish-wide .ensures) (at-wide-block .wide-block .ensures)
 
 publish-six-requires : tie.Need-publish-six-requires
-publish-six-requires c κs = six-numbers _ _ (block-call _ _ (sym (c .before .before .before .before .before .before .block-rows .ensures) ∙ c .before .before .before .before .before .if1 .left) .1) (c .before .before .before .if2 .left)
+publish-six-requires c κs =
+    let by-kind = c .before .before .before in
+    let let-through = by-kind .before .before in
+    let judged = let-through .before in
+    six-numbers _ _ (block-call _ _ (sym (judged .block-rows .ensures) ∙ let-through .if1 .left) .1) (by-kind .if2 .left)
 
 same-length-2 : tie.Need-same-length-2
 same-length-2 c = search needs
 
 returns-3 : tie.Need-returns-3
-returns-3 c = block-answer (c .before .before .before .before .before .before .before .before .before .before .before .args .scaling) (c .before .before .before .before .before .before .before .before .before .before .before .args .block .now) _ (c .before .before .before .before .before .before .before .before .before .block-rows .ensures) (c .before .before .before .before .before .before .before .before .if1 .left) (c .before .before .before .before .before .before .if2 .left) (c .before .before .publish-six .ensures)
+returns-3 c =
+    let published = c .before .before in
+    let by-kind = published .before .before .before .before in
+    let let-through = by-kind .before .before in
+    let judged = let-through .before in
+    let start = judged .before .before in
+    block-answer (start .args .scaling) (start .args .block .now) _ (judged .block-rows .ensures) (let-through .if1 .left) (by-kind .if2 .left) (published .publish-six .ensures)
 
 pub get-hs-spec : {M : Type 1} → statement M
 get-hs-spec =

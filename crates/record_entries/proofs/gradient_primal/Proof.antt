@@ -1,5 +1,5 @@
 -- A call that its rows refuse leaves with their number, one that they let through with the answer of the kind. Assumes nothing.
-use mathlib.Core.Path.{_≡_, _∙_, sym, ap, refl}
+use mathlib.Core.Path.{_≡_, _∙_, sym}
 use mathlib.Core.List.{List}
 use Prim.Native.Nat.{ℕ}
 use lib.Ieee.{Float}
@@ -35,7 +35,10 @@ unfolding gradientPrimalOf
 returns c = refused _ _ _ _ (c .before .gradient-rows .ensures) (c .if1 .taken)
 
 wide-gradient-primal-requires : tie.Need-wide-gradient-primal-requires
-wide-gradient-primal-requires c κs = let g = gradient-call _ _ _ (sym (c .before .before .before .before .gradient-rows .ensures) ∙ c .before .before .before .if1 .left) in
+wide-gradient-primal-requires c κs =
+    let let-through = c .before .before .before in
+    let judged = let-through .before in
+    let g = gradient-call _ _ _ (sym (judged .gradient-rows .ensures) ∙ let-through .if1 .left) in
     let d = dims _ (g .0) (c .before .if2 .taken) in
     (point-at-most _ (g .0) _ (g .1), d .0, d .1)
 
@@ -43,16 +46,31 @@ same-length : tie.Need-same-length
 same-length c = search needs
 
 returns-2 : tie.Need-returns-2
-returns-2 c = wide-answer (c .before .before .before .before .before .before .before .before .before .before .args .scaling) (c .before .before .before .before .before .before .before .before .before .before .args .g .now) (c .before .before .before .before .before .before .before .before .before .before .args .s .now) _ (c .before .before .before .before .before .before .before .gradient-rows .ensures) (c .before .before .before .before .before .before .if1 .left) (c .before .before .before .before .if2 .taken) (c .before .before .wide-gradient-primal .ensures)
+returns-2 c =
+    let at-wide-gradient-primal = c .before .before in
+    let by-kind = at-wide-gradient-primal .before .before in
+    let let-through = by-kind .before .before in
+    let judged = let-through .before in
+    let start = judged .before .before .before in
+    wide-answer (start .args .scaling) (start .args .g .now) (start .args .s .now) _ (judged .gradient-rows .ensures) (let-through .if1 .left) (by-kind .if2 .taken) (at-wide-gradient-primal .wide-gradient-primal .ensures)
 
 three-gradient-primal-requires : tie.Need-three-gradient-primal-requires
-three-gradient-primal-requires c κs = three-numbers _ _ (gradient-call _ _ _ (sym (c .before .before .before .before .gradient-rows .ensures) ∙ c .before .before .before .if1 .left) .1) (c .before .if2 .left)
+three-gradient-primal-requires c κs =
+    let let-through = c .before .before .before in
+    let judged = let-through .before in
+    three-numbers _ _ (gradient-call _ _ _ (sym (judged .gradient-rows .ensures) ∙ let-through .if1 .left) .1) (c .before .if2 .left)
 
 same-length-2 : tie.Need-same-length-2
 same-length-2 c = search needs
 
 returns-3 : tie.Need-returns-3
-returns-3 c = three-answer (c .before .before .before .before .before .before .before .before .before .before .args .scaling) (c .before .before .before .before .before .before .before .before .before .before .args .g .now) (c .before .before .before .before .before .before .before .before .before .before .args .s .now) _ (c .before .before .before .before .before .before .before .gradient-rows .ensures) (c .before .before .before .before .before .before .if1 .left) (c .before .before .before .before .if2 .left) (c .before .before .three-gradient-primal .ensures)
+returns-3 c =
+    let at-three-gradient-primal = c .before .before in
+    let by-kind = at-three-gradient-primal .before .before in
+    let let-through = by-kind .before .before in
+    let judged = let-through .before in
+    let start = judged .before .before .before in
+    three-answer (start .args .scaling) (start .args .g .now) (start .args .s .now) _ (judged .gradient-rows .ensures) (let-through .if1 .left) (by-kind .if2 .left) (at-three-gradient-primal .three-gradient-primal .ensures)
 
 pub gradient-primal-spec : {M : Type 1} → statement M
 gradient-primal-spec =

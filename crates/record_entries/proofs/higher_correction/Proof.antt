@@ -1,5 +1,5 @@
 -- A call that its rows refuse leaves with their number, one that they let through publishes the correction. Assumes nothing.
-use mathlib.Core.Path.{_≡_, _∙_, sym, ap, refl}
+use mathlib.Core.Path.{_≡_, _∙_, sym, ap}
 use mathlib.Core.List.{List}
 use Prim.Native.Nat.{ℕ}
 use lib.Ieee.{Float}
@@ -40,14 +40,25 @@ correction-requires : tie.Need-correction-requires
 correction-requires c κs = search needs
 
 publish-three-requires : tie.Need-publish-three-requires
-publish-three-requires c κs = correction-call _ _ _ _ _ (sym (c .before .before .before .before .before .correction-rows .ensures) ∙ c .before .before .before .before .if1 .left)
+publish-three-requires c κs =
+    let let-through = c .before .before .before .before in
+    let judged = let-through .before in
+    correction-call _ _ _ _ _ (sym (judged .correction-rows .ensures) ∙ let-through .if1 .left)
 
 same-length : tie.Need-same-length
 same-length c = search needs
 
 returns-2 : tie.Need-returns-2
-returns-2 c = answer (c .before .before .before .before .before .before .before .before .before .before .before .before .args .scaling) (c .before .before .before .before .before .before .before .before .before .before .before .before .args .eta .now) (c .before .before .before .before .before .before .before .before .before .before .before .before .args .ds .now) (c .before .before .before .before .before .before .before .before .before .before .before .before .args .v .now) _ (c .before .before .before .before .before .before .before .before .correction-rows .ensures) (c .before .before .before .before .before .before .before .if1 .left)
-    (c .before .before .publish-three .ensures) (c .before .before .before .before .correction .ensures) (c .before .before .before .before .before .before .three-of .ensures) (c .before .before .before .before .before .three-of2 .ensures)
+returns-2 c =
+    let published = c .before .before in
+    let at-correction = published .before .before in
+    let at-three-of2 = at-correction .before in
+    let at-three-of = at-three-of2 .before in
+    let let-through = at-three-of .before in
+    let judged = let-through .before in
+    let start = judged .before .before .before .before in
+    answer (start .args .scaling) (start .args .eta .now) (start .args .ds .now) (start .args .v .now) _ (judged .correction-rows .ensures) (let-through .if1 .left)
+    (published .publish-three .ensures) (at-correction .correction .ensures) (at-three-of .three-of .ensures) (at-three-of2 .three-of2 .ensures)
 
 pub higher-correction-spec : {M : Type 1} → statement M
 higher-correction-spec =

@@ -1,5 +1,5 @@
 -- A call that its rows refuse leaves with their number, one that they let through publishes the kind's product. Assumes nothing.
-use mathlib.Core.Path.{_≡_, _∙_, sym, ap, refl}
+use mathlib.Core.Path.{_≡_, _∙_, sym, ap}
 use mathlib.Core.List.{List}
 use Prim.Native.Nat.{ℕ}
 use lib.Ieee.{Float}
@@ -36,17 +36,30 @@ unfolding mulHsOf
 returns c = refused _ _ _ _ (c .before .product-rows .ensures) (c .if1 .taken)
 
 wide-product-requires : tie.Need-wide-product-requires
-wide-product-requires c κs = let p = product-call _ _ _ (sym (c .before .before .before .product-rows .ensures) ∙ c .before .before .if1 .left) in product-fits _ (p .0) _ (p .2) (c .if2 .taken)
+wide-product-requires c κs =
+    let let-through = c .before .before in
+    let judged = let-through .before in
+    let p = product-call _ _ _ (sym (judged .product-rows .ensures) ∙ let-through .if1 .left) in product-fits _ (p .0) _ (p .2) (c .if2 .taken)
 
 publish-wide-requires : tie.Need-publish-wide-requires
-publish-wide-requires c κs = let p = product-call _ _ _ (sym (c .before .before .before .before .before .product-rows .ensures) ∙ c .before .before .before .before .if1 .left) in point-at-most _ (p .0) _ (p .1)
+publish-wide-requires c κs =
+    let let-through = c .before .before .before .before in
+    let judged = let-through .before in
+    let p = product-call _ _ _ (sym (judged .product-rows .ensures) ∙ let-through .if1 .left) in point-at-most _ (p .0) _ (p .1)
 
 same-length : tie.Need-same-length
 same-length c = search needs
 
 returns-2 : tie.Need-returns-2
-returns-2 c = wide-answer (c .before .before .before .before .before .before .before .before .before .before .before .args .scaling) (c .before .before .before .before .before .before .before .before .before .before .before .args .y .now) (c .before .before .before .before .before .before .before .before .before .before .before .args .x .now) _ (c .before .before .before .before .before .before .before .before .product-rows .ensures) (c .before .before .before .before .before .before .before .if1 .left) (c .before .before .before .before .before .if2 .taken)
-    (c .before .before .publish-wide .ensures) (c .before .before .before .before .wide-product .ensures)
+returns-2 c =
+    let published = c .before .before in
+    let at-wide-product = published .before .before in
+    let by-kind = at-wide-product .before in
+    let let-through = by-kind .before .before in
+    let judged = let-through .before in
+    let start = judged .before .before .before in
+    wide-answer (start .args .scaling) (start .args .y .now) (start .args .x .now) _ (judged .product-rows .ensures) (let-through .if1 .left) (by-kind .if2 .taken)
+    (published .publish-wide .ensures) (at-wide-product .wide-product .ensures)
 
 three-of-requires : tie.Need-three-of-requires
 three-of-requires c κs = search needs
@@ -55,14 +68,26 @@ mul-requires : tie.Need-mul-requires
 mul-requires c κs = search needs
 
 publish-three-requires : tie.Need-publish-three-requires
-publish-three-requires c κs = three-numbers _ _ (product-call _ _ _ (sym (c .before .before .before .before .before .before .before .before .product-rows .ensures) ∙ c .before .before .before .before .before .before .before .if1 .left) .1) (c .before .before .before .before .before .if2 .left)
+publish-three-requires c κs =
+    let by-kind = c .before .before .before .before .before in
+    let let-through = by-kind .before .before in
+    let judged = let-through .before in
+    three-numbers _ _ (product-call _ _ _ (sym (judged .product-rows .ensures) ∙ let-through .if1 .left) .1) (by-kind .if2 .left)
 
 same-length-2 : tie.Need-same-length-2
 same-length-2 c = search needs
 
 returns-3 : tie.Need-returns-3
-returns-3 c = three-answer (c .before .before .before .before .before .before .before .before .before .before .before .before .before .before .args .scaling) (c .before .before .before .before .before .before .before .before .before .before .before .before .before .before .args .y .now) (c .before .before .before .before .before .before .before .before .before .before .before .before .before .before .args .x .now) _ (c .before .before .before .before .before .before .before .before .before .before .before .product-rows .ensures) (c .before .before .before .before .before .before .before .before .before .before .if1 .left) (c .before .before .before .before .before .before .before .before .if2 .left)
-    (c .before .before .publish-three .ensures) (c .before .before .before .before .mul .ensures) (c .before .before .before .before .before .three-of .ensures)
+returns-3 c =
+    let published = c .before .before in
+    let at-mul = published .before .before in
+    let at-three-of = at-mul .before in
+    let by-kind = at-three-of .before .before .before in
+    let let-through = by-kind .before .before in
+    let judged = let-through .before in
+    let start = judged .before .before .before in
+    three-answer (start .args .scaling) (start .args .y .now) (start .args .x .now) _ (judged .product-rows .ensures) (let-through .if1 .left) (by-kind .if2 .left)
+    (published .publish-three .ensures) (at-mul .mul .ensures) (at-three-of .three-of .ensures)
 
 pub mul-hs-spec : {M : Type 1} → statement M
 mul-hs-spec =

@@ -8,7 +8,7 @@ use Rattle.arith.proofs.Branches.{taken, left}
 use Rattle.cone.specs.declared.Scaling.{Scaling}
 use Rattle.cone.specs.declared.Rounds.{Rounds}
 use Rattle.cone.specs.Points.{threeOf}
-use Rattle.cone.specs.Refusals.{Lent, publishOf}
+use Rattle.cone.specs.Refusals.{publishOf}
 use Rattle.record_formulas.specs.declared.formulas.Gradient.{Gradient}
 use Rattle.record_formulas.specs.Outcomes.{countedOf, withRounds, refuseRounds}
 use Rattle.record_formulas.specs.Formulas.{threeGradient}
@@ -41,7 +41,10 @@ three-gradient-requires : tie.Need-three-gradient-requires
 three-gradient-requires c κs = search needs
 
 returns : tie.Need-returns
-returns c = panicked (c .before .before .before .before .before .before .args .scaling) (c .before .before .before .before .before .before .args .g .now) (c .before .before .before .before .before .before .args .s .now) (c .before .three-gradient .ensures) (c .before .before .three-of .ensures) (c .if1 .taken)
+returns c =
+    let at-three-of = c .before .before in
+    let start = at-three-of .before .before .before .before in
+    panicked (start .args .scaling) (start .args .g .now) (start .args .s .now) (c .before .three-gradient .ensures) (at-three-of .three-of .ensures) (c .if1 .taken)
 
 publish-three-requires : tie.Need-publish-three-requires
 publish-three-requires c κs = search needs
@@ -53,8 +56,14 @@ same-length : tie.Need-same-length
 same-length c = search needs
 
 returns-2 : tie.Need-returns-2
-returns-2 c = published (c .before .before .before .before .before .before .before .before .before .before .before .before .args .scaling) (c .before .before .before .before .before .before .before .before .before .before .before .before .args .g .now) (c .before .before .before .before .before .before .before .before .before .before .before .before .args .s .now) (c .before .before .before .before .before .before .before .three-gradient .ensures) (c .before .before .before .before .before .before .before .before .three-of .ensures) (c .before .before .before .before .before .before .if1 .left)
-    (c .before .before .before .publish-three .ensures) (c .counted .ensures)
+returns-2 c =
+    let at-publish-three = c .before .before .before in
+    let let-through = at-publish-three .before .before .before in
+    let at-three-gradient = let-through .before in
+    let at-three-of = at-three-gradient .before in
+    let start = at-three-of .before .before .before .before in
+    published (start .args .scaling) (start .args .g .now) (start .args .s .now) (at-three-gradient .three-gradient .ensures) (at-three-of .three-of .ensures) (let-through .if1 .left)
+    (at-publish-three .publish-three .ensures) (c .counted .ensures)
 
 pub three-gradient-primal-spec : {M : Type 1} → statement M
 three-gradient-primal-spec =

@@ -23,14 +23,23 @@ last-rows-requires c κs = search needs
 
 returns-2 : tie.Need-returns-2
 unfolding updateScalingOf
-returns-2 c = refused _ _ _ _ (c .before .last-rows .ensures ∙ ap lastRows (c .before .before .new-record .ensures)) (c .if2 .taken)
-    ∙ done _ _ _ _ (c .before .before .before .before .before .update-rows .ensures) (c .before .before .before .before .if1 .left)
+returns-2 c =
+    let at-new-record = c .before .before in
+    let let-through = at-new-record .before .before in
+    let judged = let-through .before in
+    refused _ _ _ _ (c .before .last-rows .ensures ∙ ap lastRows (at-new-record .new-record .ensures)) (c .if2 .taken)
+    ∙ done _ _ _ _ (judged .update-rows .ensures) (let-through .if1 .left)
 
 returns-3 : tie.Need-returns-3
 unfolding updateScalingOf
-returns-3 c = ap completed (c .before .before .before .new-record .ensures)
-    ∙ done _ _ _ _ (c .before .before .last-rows .ensures ∙ ap lastRows (c .before .before .before .new-record .ensures)) (c .before .if2 .left)
-    ∙ done _ _ _ _ (c .before .before .before .before .before .before .update-rows .ensures) (c .before .before .before .before .before .if1 .left)
+returns-3 c =
+    let last-judged = c .before .before in
+    let at-new-record = last-judged .before in
+    let let-through = at-new-record .before .before in
+    let judged = let-through .before in
+    ap completed (at-new-record .new-record .ensures)
+    ∙ done _ _ _ _ (last-judged .last-rows .ensures ∙ ap lastRows (at-new-record .new-record .ensures)) (c .before .if2 .left)
+    ∙ done _ _ _ _ (judged .update-rows .ensures) (let-through .if1 .left)
 
 pub update-scaling-spec : {M : Type 1} → statement M
 update-scaling-spec =

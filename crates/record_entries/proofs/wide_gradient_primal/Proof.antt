@@ -1,12 +1,12 @@
 -- The published gradient with its count. Assumes nothing.
-use mathlib.Core.Path.{_≡_, _∙_, sym, ap, refl}
+use mathlib.Core.Path.{_≡_, _∙_, ap}
 use mathlib.Core.List.{List}
 use Prim.Native.Nat.{ℕ}
 use lib.Ieee.{Float}
 use lib.ListN.{length, take}
 use Rattle.cone.specs.declared.Scaling.{Scaling}
 use Rattle.cone.specs.declared.Rounds.{Rounds}
-use Rattle.cone.specs.Refusals.{Lent, publishOf}
+use Rattle.cone.specs.Refusals.{publishOf}
 use Rattle.genpowcone.specs.declared.Gradient.{Gradient}
 use Rattle.record_formulas.specs.Outcomes.{countedOf, withRounds}
 use Rattle.record_formulas.specs.Formulas.{wideGradient}
@@ -44,7 +44,11 @@ same-length : tie.Need-same-length
 same-length c = search needs
 
 returns : tie.Need-returns
-returns c = published (c .before .before .before .before .before .before .before .before .before .before .before .before .before .before .before .args .scaling) (c .before .before .before .before .before .before .before .before .before .before .before .before .before .before .before .args .g .now) (c .before .before .before .before .before .before .before .before .before .before .before .before .before .before .before .args .s .now) (c .before .before .before .before .before .before .wide-gradient .ensures) (c .before .before .before .publish-wide .ensures) (c .counted .ensures)
+returns c =
+    let at-publish-wide = c .before .before .before in
+    let at-wide-gradient = at-publish-wide .before .before .before in
+    let start = at-wide-gradient .before .before .before .before .before .before .before .before .before in
+    published (start .args .scaling) (start .args .g .now) (start .args .s .now) (at-wide-gradient .wide-gradient .ensures) (at-publish-wide .publish-wide .ensures) (c .counted .ensures)
 
 pub wide-gradient-primal-spec : {M : Type 1} → statement M
 wide-gradient-primal-spec =

@@ -22,7 +22,11 @@ same-length c = search needs
 
 returns-2 : tie.Need-returns-2
 unfolding backtrackSearchOf
-returns-2 c = ap found (c .before .before .backtrack-search .ensures) ∙ done _ _ _ _ (c .before .before .before .before .before .search-rows .ensures) (c .before .before .before .before .if1 .left)
+returns-2 c =
+    let at-backtrack-search = c .before .before in
+    let let-through = at-backtrack-search .before .before in
+    let judged = let-through .before in
+    ap found (at-backtrack-search .backtrack-search .ensures) ∙ done _ _ _ _ (judged .search-rows .ensures) (let-through .if1 .left)
 
 pub backtrack-search-spec : {M : Type 1} → statement M
 backtrack-search-spec =

@@ -16,7 +16,10 @@ all-finite-requires-4 : tie.Need-all-finite-requires-4
 all-finite-requires-4 c κs = search needs
 
 returns : tie.Need-returns
-returns c = simp (c .before .before .before .all-finite .ensures, c .before .before .all-finite2 .ensures, c .before .all-finite3 .ensures, c .all-finite4 .ensures)
+returns c =
+    let at-all-finite2 = c .before .before in
+    let at-all-finite = at-all-finite2 .before in
+    simp (at-all-finite .all-finite .ensures, at-all-finite2 .all-finite2 .ensures, c .before .all-finite3 .ensures, c .all-finite4 .ensures)
 
 pub sides-finite-spec : {M : Type 1} → statement M
 sides-finite-spec =

@@ -19,10 +19,17 @@ unfolding stepLengthOf
 returns c = refused _ _ _ _ (c .before .step-rows .ensures) (c .if1 .taken)
 
 backtrack-search-requires : tie.Need-backtrack-search-requires
-backtrack-search-requires c κs = both-searchable _ _ _ _ _ (c .before .before .before .before .before .before .before .before .before .args .dualpoint .now) (c .before .before .before .before .before .before .before .before .before .args .primalpoint .now) _ (sym (c .before .before .step-rows .ensures) ∙ c .before .if1 .left) .0
+backtrack-search-requires c κs =
+    let judged = c .before .before in
+    let start = judged .before .before .before .before .before .before .before in
+    both-searchable _ _ _ _ _ (start .args .dualpoint .now) (start .args .primalpoint .now) _ (sym (judged .step-rows .ensures) ∙ c .before .if1 .left) .0
 
 backtrack-search-requires-2 : tie.Need-backtrack-search-requires-2
-backtrack-search-requires-2 c κs = both-searchable _ _ _ _ _ (c .before .before .before .before .before .before .before .before .before .before .before .before .before .args .dualpoint .now) (c .before .before .before .before .before .before .before .before .before .before .before .before .before .args .primalpoint .now) _ (sym (c .before .before .before .before .before .before .step-rows .ensures) ∙ c .before .before .before .before .before .if1 .left) .1
+backtrack-search-requires-2 c κs =
+    let let-through = c .before .before .before .before .before in
+    let judged = let-through .before in
+    let start = judged .before .before .before .before .before .before .before in
+    both-searchable _ _ _ _ _ (start .args .dualpoint .now) (start .args .primalpoint .now) _ (sym (judged .step-rows .ensures) ∙ let-through .if1 .left) .1
 
 same-length : tie.Need-same-length
 same-length c = search needs
@@ -32,8 +39,13 @@ same-length-2 c = search needs
 
 returns-2 : tie.Need-returns-2
 unfolding stepLengthOf
-returns-2 c = both (c .before .before .before .before .before .before .backtrack-search .ensures) (c .before .before .backtrack-search2 .ensures)
-    ∙ done _ _ _ _ (c .before .before .before .before .before .before .before .before .before .step-rows .ensures) (c .before .before .before .before .before .before .before .before .if1 .left)
+returns-2 c =
+    let at-backtrack-search2 = c .before .before in
+    let at-backtrack-search = at-backtrack-search2 .before .before .before .before in
+    let let-through = at-backtrack-search .before .before in
+    let judged = let-through .before in
+    both (at-backtrack-search .backtrack-search .ensures) (at-backtrack-search2 .backtrack-search2 .ensures)
+    ∙ done _ _ _ _ (judged .step-rows .ensures) (let-through .if1 .left)
 
 pub step-length-spec : {M : Type 1} → statement M
 step-length-spec =

@@ -1,5 +1,4 @@
 -- `barrier` asks the cone of the kind. Assumes nothing.
-use mathlib.Core.Path.{_∙_, ap}
 use borrow.Author.Tests.{ne-eqb}
 use Rattle.cone_entries.specs.Formulas.{barrierOf}
 use borrow.Author.Needs.{needs}
@@ -45,7 +44,9 @@ returns-2 c = simp (c .before .before .match .keys2) (simp (← c .before .three
 
 returns-3 : tie.Need-returns-3
 unfolding barrierOf
-returns-3 c = simp (c .before .before .before .before .match .keys3) (simp (← c .before .head .ensures) (c .barrier-dual3 .ensures))
+returns-3 c =
+    let arm = c .before .before .before .before in
+    simp (arm .match .keys3) (simp (← c .before .head .ensures) (c .barrier-dual3 .ensures))
 
 returns-4 : tie.Need-returns-4
 unfolding barrierOf

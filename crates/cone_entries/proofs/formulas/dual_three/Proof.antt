@@ -1,5 +1,4 @@
 -- `dual_three` asks the cone of the kind. Assumes nothing.
-use mathlib.Core.Path.{_∙_, ap}
 use borrow.Author.Tests.{eq-eqb, ne-eqb}
 use Rattle.cone_entries.specs.Formulas.{dualThree}
 use borrow.Author.Needs.{needs}
@@ -18,7 +17,10 @@ plain-three-requires c κs = search needs
 
 returns : tie.Need-returns
 unfolding dualThree
-returns c = simp (eq-eqb _ _ (c .before .before .before .before .before .if1 .taken), c .plain-three .ensures, c .before .before .before .update-dual-grad-h .ensures)
+returns c =
+    let at-update-dual-grad-h = c .before .before .before in
+    let let-through = at-update-dual-grad-h .before .before in
+    simp (eq-eqb _ _ (let-through .if1 .taken), c .plain-three .ensures, at-update-dual-grad-h .update-dual-grad-h .ensures)
 
 update-dual-grad-h-requires-2 : tie.Need-update-dual-grad-h-requires-2
 update-dual-grad-h-requires-2 c κs = search needs
@@ -28,7 +30,10 @@ plain-three-requires-2 c κs = search needs
 
 returns-2 : tie.Need-returns-2
 unfolding dualThree
-returns-2 c = simp (ne-eqb _ _ (c .before .before .before .before .if1 .left), c .plain-three2 .ensures, c .before .before .before .update-dual-grad-h2 .ensures)
+returns-2 c =
+    let at-update-dual-grad-h2 = c .before .before .before in
+    let let-through = at-update-dual-grad-h2 .before in
+    simp (ne-eqb _ _ (let-through .if1 .left), c .plain-three2 .ensures, at-update-dual-grad-h2 .update-dual-grad-h2 .ensures)
 
 pub dual-three-spec : {M : Type 1} → statement M
 dual-three-spec =

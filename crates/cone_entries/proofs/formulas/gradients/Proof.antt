@@ -16,7 +16,10 @@ head-requires : tie.Need-head-requires
 head-requires c κs = search needs
 
 update-dual-grad-h-requires : tie.Need-update-dual-grad-h-requires
-update-dual-grad-h-requires c κs = wide-fits _ _ (c .before .before .before .before .before .before .pre) (c .before .before .before .before .if1 .taken) (search needs) (c .head .ensures)
+update-dual-grad-h-requires c κs =
+    let let-through = c .before .before .before .before in
+    let start = let-through .before .before in
+    wide-fits _ _ (start .pre) (let-through .if1 .taken) (search needs) (c .head .ensures)
 
 no-three-requires : tie.Need-no-three-requires
 no-three-requires c κs = search needs
@@ -26,7 +29,12 @@ attempted-requires c κs = search needs
 
 returns : tie.Need-returns
 unfolding gradientsOf
-returns c = simp (eq-eqb _ _ (c .before .before .before .before .before .before .before .before .if1 .taken), c .attempted .ensures, c .before .before .no-three .ensures, c .before .before .before .update-dual-grad-h .ensures, c .before .before .before .before .head .ensures)
+returns c =
+    let at-no-three = c .before .before in
+    let at-update-dual-grad-h = at-no-three .before in
+    let at-head = at-update-dual-grad-h .before in
+    let let-through = at-head .before .before .before .before in
+    simp (eq-eqb _ _ (let-through .if1 .taken), c .attempted .ensures, at-no-three .no-three .ensures, at-update-dual-grad-h .update-dual-grad-h .ensures, at-head .head .ensures)
 
 three-of-requires : tie.Need-three-of-requires
 three-of-requires c κs = search needs
@@ -42,7 +50,11 @@ attempted-requires-2 c κs = search needs
 
 returns-2 : tie.Need-returns-2
 unfolding gradientsOf
-returns-2 c = simp (ne-eqb _ _ (c .before .before .before .before .if1 .left), c .attempted2 .ensures, c .before .no-wide .ensures, c .before .before .dual-three .ensures, c .before .before .before .three-of .ensures)
+returns-2 c =
+    let at-dual-three = c .before .before in
+    let at-three-of = at-dual-three .before in
+    let let-through = at-three-of .before in
+    simp (ne-eqb _ _ (let-through .if1 .left), c .attempted2 .ensures, c .before .no-wide .ensures, at-dual-three .dual-three .ensures, at-three-of .three-of .ensures)
 
 pub gradients-spec : {M : Type 1} → statement M
 gradients-spec =

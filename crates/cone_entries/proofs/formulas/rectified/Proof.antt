@@ -54,12 +54,15 @@ loop-less c = omega arith
 
 loop-again : tie.Need-loop-again Inv-loop μ-loop
 unfolding rectifiedOf
-loop-again c = (
-  omega arith,
-  omega arith,
-  ap (set (c .before .before .loop .d) (c .before .before .loop .i)) (turn (c .before .before .before .before .before .args .e .now) (c .before .before .loop .i) _ (c .before .before .before .mean .ensures) (omega arith))
-      ∙ iter-next _ _ _ (c .before .before .loop .inv .2),
-)
+loop-again c =
+    let at-loop = c .before .before in
+    let at-mean = at-loop .before in
+    let start = at-mean .before .before in (
+      omega arith,
+      omega arith,
+      ap (set (at-loop .loop .d) (at-loop .loop .i)) (turn (start .args .e .now) (at-loop .loop .i) _ (at-mean .mean .ensures) (omega arith))
+          ∙ iter-next _ _ _ (at-loop .loop .inv .2),
+    )
 
 returns : tie.Need-returns Inv-loop μ-loop
 unfolding wideOf rectifiedOf

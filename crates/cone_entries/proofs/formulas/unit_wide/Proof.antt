@@ -1,8 +1,6 @@
 -- `unit_wide` hands the used exponents on. Assumes nothing.
-use mathlib.Core.Path.{_∙_, ap}
 use native.Mathlib.Omega.{arith}
 use Rattle.cone_entries.proofs.Lengths.{used-at-most}
-use lib.ListN.{length, length-take}
 use Rattle.cone_entries.specs.Formulas.{unitWide}
 use borrow.Author.Needs.{needs}
 use Rattle.cone_entries.proofs.formulas.unit_wide.Statement.{statement}
@@ -18,7 +16,9 @@ head-requires : tie.Need-head-requires
 head-requires c κs = search needs
 
 unit-initialization-requires : tie.Need-unit-initialization-requires
-unit-initialization-requires c κs = omega (arith, used-at-most (c .before .before .before .before .args .cone .dim1) (c .before .before .before .before .args .cone .exps) (search needs) (c .head .ensures))
+unit-initialization-requires c κs =
+    let start = c .before .before .before .before in
+    omega (arith, used-at-most (start .args .cone .dim1) (start .args .cone .exps) (search needs) (c .head .ensures))
 
 returns : tie.Need-returns
 unfolding unitWide

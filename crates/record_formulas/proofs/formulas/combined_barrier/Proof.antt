@@ -13,12 +13,17 @@ cast-wide-combined-2 : tie.Need-cast-wide-combined-2
 cast-wide-combined-2 c = search needs
 
 wide-combined-requires : tie.Need-wide-combined-requires
-wide-combined-requires c κs = let k = c .before .before .before .before .before .if1 .taken in
-    (c .before .before .before .before .before .before .before .before .before .before .before .pre .0 .dims k .0, c .before .before .before .before .before .before .before .before .before .before .before .pre .0 .dims k .1, sized-at-most _ _ (c .before .before .before .before .before .before .before .before .before .before .before .pre .1) k, sized-at-most _ _ (c .before .before .before .before .before .before .before .before .before .before .before .pre .0) k)
+wide-combined-requires c κs =
+    let let-through = c .before .before .before .before .before in
+    let start = let-through .before .before .before .before .before .before in
+    let k = let-through .if1 .taken in
+    (start .pre .0 .dims k .0, start .pre .0 .dims k .1, sized-at-most _ _ (start .pre .1) k, sized-at-most _ _ (start .pre .0) k)
 
 returns : tie.Need-returns
 unfolding combinedBarrierOf
-returns c = simp (eq-eqb _ _ (c .before .before .before .before .before .before .if1 .taken), c .wide-combined .ensures)
+returns c =
+    let let-through = c .before .before .before .before .before .before in
+    simp (eq-eqb _ _ (let-through .if1 .taken), c .wide-combined .ensures)
 
 three-of-requires : tie.Need-three-of-requires
 three-of-requires c κs = search needs
@@ -37,7 +42,12 @@ three-combined-requires c κs = search needs
 
 returns-2 : tie.Need-returns-2
 unfolding combinedBarrierOf
-returns-2 c = simp (ne-eqb _ _ (c .before .before .before .before .before .if1 .left)) (simp (← c .before .before .before .before .three-of .ensures, ← c .before .before .before .three-of2 .ensures, ← c .before .before .three-of3 .ensures, ← c .before .three-of4 .ensures) (c .three-combined .ensures))
+returns-2 c =
+    let at-three-of3 = c .before .before in
+    let at-three-of2 = at-three-of3 .before in
+    let at-three-of = at-three-of2 .before in
+    let let-through = at-three-of .before in
+    simp (ne-eqb _ _ (let-through .if1 .left)) (simp (← at-three-of .three-of .ensures, ← at-three-of2 .three-of2 .ensures, ← at-three-of3 .three-of3 .ensures, ← c .before .three-of4 .ensures) (c .three-combined .ensures))
 
 pub combined-barrier-spec : {M : Type 1} → statement M
 combined-barrier-spec =

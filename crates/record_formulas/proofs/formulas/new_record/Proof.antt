@@ -6,7 +6,9 @@ use Rattle.record_formulas.proofs.formulas.new_record.Statement.{statem
 use Rattle.record_formulas.proofs.formulas.new_record.Tie as tie
 
 new-wide-requires : tie.Need-new-wide-requires
-new-wide-requires c κs = (c .before .before .before .pre .dims (c .if1 .taken) .0, c .before .before .before .pre .dims (c .if1 .taken) .1, c .before .before .before .pre .sized (c .if1 .taken))
+new-wide-requires c κs =
+    let start = c .before .before .before in
+    (start .pre .dims (c .if1 .taken) .0, start .pre .dims (c .if1 .taken) .1, start .pre .sized (c .if1 .taken))
 
 returns : tie.Need-returns
 unfolding newRecordOf
@@ -23,7 +25,10 @@ new-three-requires c κs = search needs
 
 returns-2 : tie.Need-returns-2
 unfolding newRecordOf
-returns-2 c = simp (ne-eqb _ _ (c .before .before .before .if1 .left)) (simp (← c .before .before .three-of .ensures, ← c .before .three-of2 .ensures) (c .new-three .ensures))
+returns-2 c =
+    let at-three-of = c .before .before in
+    let let-through = at-three-of .before in
+    simp (ne-eqb _ _ (let-through .if1 .left)) (simp (← at-three-of .three-of .ensures, ← c .before .three-of2 .ensures) (c .new-three .ensures))
 
 pub new-record-spec : {M : Type 1} → statement M
 new-record-spec =

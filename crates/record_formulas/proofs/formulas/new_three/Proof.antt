@@ -21,7 +21,11 @@ attempted-requires c κs = search needs
 
 returns : tie.Need-returns
 unfolding newThree
-returns c = simp (c .attempted .ensures, c .before .no-wide .ensures, c .before .before .before .update-hs .ensures, c .before .before .before .before .alpha-if-power .ensures, c .before .before .before .before .before .before .before .dual-three .ensures)
+returns c =
+    let at-update-hs = c .before .before .before in
+    let at-alpha-if-power = at-update-hs .before in
+    let at-dual-three = at-alpha-if-power .before .before .before in
+    simp (c .attempted .ensures, c .before .no-wide .ensures, at-update-hs .update-hs .ensures, at-alpha-if-power .alpha-if-power .ensures, at-dual-three .dual-three .ensures)
 
 pub new-three-spec : {M : Type 1} → statement M
 new-three-spec =

@@ -15,7 +15,9 @@ head-requires : tie.Need-head-requires
 head-requires c κs = search needs
 
 update-dual-grad-h-requires : tie.Need-update-dual-grad-h-requires
-update-dual-grad-h-requires c κs = point-fits (c .before .before .before .before .before .args .cone .dim1) (c .before .before .before .before .before .args .cone .dim2) (c .before .before .before .before .before .args .cone .exps) (c .before .before .before .before .before .args .z .now) (c .before .before .before .before .before .pre) (search needs) (c .head .ensures)
+update-dual-grad-h-requires c κs =
+    let start = c .before .before .before .before .before in
+    point-fits (start .args .cone .dim1) (start .args .cone .dim2) (start .args .cone .exps) (start .args .z .now) (start .pre) (search needs) (c .head .ensures)
 
 wide-of-requires : tie.Need-wide-of-requires
 wide-of-requires c κs = search needs
@@ -31,7 +33,12 @@ attempted-requires c κs = search needs
 
 returns : tie.Need-returns
 unfolding newWide
-returns c = simp (c .attempted .ensures, c .before .no-three .ensures, c .before .before .wide-at .ensures, c .before .before .before .wide-of .ensures, c .before .before .before .before .before .update-dual-grad-h .ensures, c .before .before .before .before .before .before .head .ensures)
+returns c =
+    let at-wide-at = c .before .before in
+    let at-wide-of = at-wide-at .before in
+    let at-update-dual-grad-h = at-wide-of .before .before in
+    let at-head = at-update-dual-grad-h .before in
+    simp (c .attempted .ensures, c .before .no-three .ensures, at-wide-at .wide-at .ensures, at-wide-of .wide-of .ensures, at-update-dual-grad-h .update-dual-grad-h .ensures, at-head .head .ensures)
 
 pub new-wide-spec : {M : Type 1} → statement M
 new-wide-spec =

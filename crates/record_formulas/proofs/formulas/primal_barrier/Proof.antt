@@ -13,11 +13,16 @@ cast-wide-barrier-2 : tie.Need-cast-wide-barrier-2
 cast-wide-barrier-2 c = search needs
 
 wide-barrier-requires : tie.Need-wide-barrier-requires
-wide-barrier-requires c κs = c .before .before .before .before .before .before .before .before .pre .dims (c .before .before .before .before .if1 .taken)
+wide-barrier-requires c κs =
+    let let-through = c .before .before .before .before in
+    let start = let-through .before .before .before .before in
+    start .pre .dims (let-through .if1 .taken)
 
 returns : tie.Need-returns
 unfolding primalBarrierOf
-returns c = simp (eq-eqb _ _ (c .before .before .before .before .before .if1 .taken), c .wide-barrier .ensures)
+returns c =
+    let let-through = c .before .before .before .before .before in
+    simp (eq-eqb _ _ (let-through .if1 .taken), c .wide-barrier .ensures)
 
 array-read-barrier-primal : tie.Need-array-read-barrier-primal
 array-read-barrier-primal c = search needs
@@ -30,7 +35,10 @@ barrier-primal-requires c κs = search needs
 
 returns-2 : tie.Need-returns-2
 unfolding primalBarrierOf
-returns-2 c = simp (ne-eqb _ _ (c .before .before .before .if1 .left), eq-eqb _ _ (c .before .before .if2 .taken), c .barrier-primal .ensures, c .before .three-of .ensures)
+returns-2 c =
+    let by-kind = c .before .before in
+    let let-through = by-kind .before in
+    simp (ne-eqb _ _ (let-through .if1 .left), eq-eqb _ _ (by-kind .if2 .taken), c .barrier-primal .ensures, c .before .three-of .ensures)
 
 three-of-requires-2 : tie.Need-three-of-requires-2
 three-of-requires-2 c κs = search needs
@@ -40,7 +48,10 @@ barrier-primal-requires-2 c κs = search needs
 
 returns-3 : tie.Need-returns-3
 unfolding primalBarrierOf
-returns-3 c = simp (ne-eqb _ _ (c .before .before .before .if1 .left), ne-eqb _ _ (c .before .before .if2 .left), c .barrier-primal2 .ensures, c .before .three-of2 .ensures)
+returns-3 c =
+    let by-kind = c .before .before in
+    let let-through = by-kind .before in
+    simp (ne-eqb _ _ (let-through .if1 .left), ne-eqb _ _ (by-kind .if2 .left), c .barrier-primal2 .ensures, c .before .three-of2 .ensures)
 
 pub primal-barrier-spec : {M : Type 1} → statement M
 primal-barrier-spec =

@@ -14,7 +14,9 @@ gradient-primal-requires c κs = search needs
 
 returns : tie.Need-returns
 unfolding threeGradient
-returns c = simp (eq-eqb _ _ (c .before .before .before .if1 .taken), c .before .gradient-primal .ensures)
+returns c =
+    let let-through = c .before .before .before in
+    simp (eq-eqb _ _ (let-through .if1 .taken), c .before .gradient-primal .ensures)
 
 gradient-primal-requires-2 : tie.Need-gradient-primal-requires-2
 gradient-primal-requires-2 c κs = search needs

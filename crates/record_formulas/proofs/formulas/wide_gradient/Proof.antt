@@ -18,11 +18,16 @@ head-requires-2 : tie.Need-head-requires-2
 head-requires-2 c κs = search needs
 
 gradient-primal-requires : tie.Need-gradient-primal-requires
-gradient-primal-requires c κs = parts-fit (c .before .before .before .before .before .args .dim1) (c .before .before .before .before .before .args .dim2) (c .before .before .before .before .before .args .t1) (c .before .before .before .before .before .args .t4) (c .before .before .before .before .before .pre .0) (c .before .before .before .before .before .pre .1) (search needs) (search needs) (c .before .before .head .ensures) (c .head2 .ensures)
+gradient-primal-requires c κs =
+    let at-head = c .before .before in
+    let start = at-head .before .before .before in
+    parts-fit (start .args .dim1) (start .args .dim2) (start .args .t1) (start .args .t4) (start .pre .0) (start .pre .1) (search needs) (search needs) (at-head .head .ensures) (c .head2 .ensures)
 
 returns : tie.Need-returns
 unfolding wideGradient
-returns c = simp (← c .before .before .before .head .ensures, ← c .before .head2 .ensures) (c .gradient-primal .ensures)
+returns c =
+    let at-head = c .before .before .before in
+    simp (← at-head .head .ensures, ← c .before .head2 .ensures) (c .gradient-primal .ensures)
 
 pub wide-gradient-spec : {M : Type 1} → statement M
 wide-gradient-spec =

@@ -13,13 +13,19 @@ head-requires : tie.Need-head-requires
 head-requires c κs = search needs
 
 publish-requires : tie.Need-publish-requires
-publish-requires c κs = cut _ 64 (c .before .before .before .before .args .t2) (c .before .before .before .before .pre) (search needs) (c .head .ensures)
+publish-requires c κs =
+    let start = c .before .before .before .before in
+    cut _ 64 (start .args .t2) (start .pre) (search needs) (c .head .ensures)
 
 same-length : tie.Need-same-length
 same-length c = search needs
 
 returns : tie.Need-returns
-returns c = c .before .before .publish .ensures ∙ ap (publishOf (c .before .before .before .before .before .before .before .args .out .now)) (c .before .before .before .head .ensures)
+returns c =
+    let published = c .before .before in
+    let at-head = published .before in
+    let start = at-head .before .before .before .before in
+    published .publish .ensures ∙ ap (publishOf (start .args .out .now)) (at-head .head .ensures)
 
 pub publish-wide-spec : {M : Type 1} → statement M
 publish-wide-spec =

@@ -14,6 +14,12 @@
 //!
 //! A call that is refused changes nothing that it was lent: slices keep their contents, a record stays as it was. The numbers of a
 //! [`Refusal`] are those of the library's scope document. No call allocates, and none panics.
+//!
+//! The library is x86-64 alone. Structs pass by value: a call with a [`Scaling`] copies its 2,744 bytes, and takes up to 26 KB of stack, as bench/run measures it.
+//!
+//! Why the calls are safe to make: the library takes every number, length and code and answers all of them; a lent slice is the pointer and
+//! length of a Rust slice, read or written within that length alone; and the borrows keep the slices of one call from overlapping, which is
+//! the one thing that the C face asks of its caller.
 #![no_std]
 #![deny(missing_docs)]
 
@@ -186,7 +192,7 @@ impl Cone {
         number(unsafe { face::spindle_barrier_dual(*self, z.as_ptr(), z.len()) })
     }
 
-    /// The gradient and the Hessian of the dual barrier at z.
+    /// The gradient and the Hessian of the dual barrier at z. [`Refusal::OutOfRange`] where a generalized cone's ζ is not above 0.
     pub fn dual_gradient(&self, z: &[f64]) -> Result<DualGradient, Refusal> {
         let out = unsafe { face::spindle_dual_grad_h(*self, z.as_ptr(), z.len()) };
         Refusal::check(out.code)?;
@@ -211,7 +217,8 @@ impl Cone {
         Ok(Found { step: out.step, tests: out.count })
     }
 
-    /// Both searches of a round: the dual step and the primal step, each with its tested point.
+    /// Both searches of a round: along dz from z in the dual cone, then along ds from s in the primal cone. Hands back the dual and the
+    /// primal answer; `dual_point` and `primal_point` become the tested points, or z and s for step 0.
     #[allow(clippy::too_many_arguments)]
     pub fn step_length(
         &self,
@@ -233,12 +240,12 @@ impl Cone {
         Ok((Found { step: out.dual_step, tests: out.dual_count }, Found { step: out.primal_step, tests: out.primal_count }))
     }
 
-    /// Writes the starting points.
+    /// Writes the starting points, z and s.
     pub fn unit_initialization(&self, z: &mut [f64], s: &mut [f64]) -> Result<(), Refusal> {
         Refusal::check(unsafe { face::spindle_unit_initialization(*self, z.as_mut_ptr(), z.len(), s.as_mut_ptr(), s.len()) })
     }
 
-    /// Writes e's mean over each of its numbers.
+    /// Writes e's mean over each of its numbers, so that the whole cone is scaled by one.
     pub fn rectify_equilibration(&self, delta: &mut [f64], e: &[f64]) -> Result<(), Refusal> {
         yes_no(unsafe { face::spindle_rectify_equilibration(*self, delta.as_mut_ptr(), delta.len(), e.as_ptr(), e.len()) }).map(|_| ())
     }
@@ -280,11 +287,11 @@ pub struct Wide {
     pub mu: f64,
     /// The dual gradient at z.
     pub grad: [f64; 64],
-    /// The Hessian is μ·(D + pp' - qq' - rr').
+    /// The scaling is μ·(D + pp' - qq' - rr'), where q stands in the head's places and r in the tail's.
     pub p: [f64; 64],
-    /// See `p`.
+    /// The head's vector of the scaling: see `p`.
     pub q: [f64; 32],
-    /// See `p`.
+    /// The tail's vector of the scaling: see `p`.
     pub r: [f64; 32],
     /// The head of the diagonal D.
     pub d1: [f64; 32],
@@ -332,7 +339,8 @@ impl Scaling {
         &self.wide
     }
 
-    /// Scales anew at (s, z). A refused update leaves the record as it was.
+    /// Scales anew at (s, z). μ counts for generalized cones and for [`Strategy::Dual`]; it is judged always. A refused update leaves the
+    /// record as it was.
     pub fn update(&mut self, s: &[f64], z: &[f64], mu: f64, strategy: Strategy) -> Result<(), Refusal> {
         let out = unsafe { face::spindle_update_scaling(*self, s.as_ptr(), s.len(), z.as_ptr(), z.len(), mu, strategy as u32) };
         Refusal::check(out.code)?;
@@ -352,7 +360,7 @@ impl Scaling {
         number(unsafe { face::spindle_barrier_primal(*self, s.as_ptr(), s.len()) })
     }
 
-    /// Both barriers at (z + α·dz, s + α·ds), summed.
+    /// The dual barrier at z + α·dz and the primal barrier at s + α·ds, summed.
     pub fn compute_barrier(&self, z: &[f64], s: &[f64], dz: &[f64], ds: &[f64], alpha: f64) -> Result<f64, Refusal> {
         number(unsafe {
             face::spindle_compute_barrier(
@@ -371,14 +379,14 @@ impl Scaling {
         Refusal::check(unsafe { face::spindle_mul_hs(*self, y.as_mut_ptr(), y.len(), x.as_ptr(), x.len()) })
     }
 
-    /// Writes the third-order correction; zeros where the Hessian has no Cholesky factor. Not for generalized cones.
+    /// Writes the third-order correction η for the steps ds and v; zeros where the Hessian has no Cholesky factor. Not for generalized cones.
     pub fn higher_correction(&self, eta: &mut [f64], ds: &[f64], v: &[f64]) -> Result<(), Refusal> {
         Refusal::check(unsafe {
             face::spindle_higher_correction(*self, eta.as_mut_ptr(), eta.len(), ds.as_ptr(), ds.len(), v.as_ptr(), v.len())
         })
     }
 
-    /// Writes the combined step's shift. Not for generalized cones.
+    /// Writes the combined step's shift: the dual gradient times σμ, less the third-order correction. Not for generalized cones.
     pub fn combined_ds_shift(&self, shift: &mut [f64], step_z: &[f64], step_s: &[f64], sigma_mu: f64) -> Result<(), Refusal> {
         Refusal::check(unsafe {
             face::spindle_combined_ds_shift(

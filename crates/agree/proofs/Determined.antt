@@ -72,10 +72,10 @@ Determines n ps r Post A seen =
 -- ---- two outcomes of one slice, and of two, that equal the same
 
 module _ {A : Type 0} where
-  one : {x y : Lent A} → x ≡ y → (x .answer ≡ y .answer) × (x .slice ≡ y .slice)
+  pub one : {x y : Lent A} → x ≡ y → (x .answer ≡ y .answer) × (x .slice ≡ y .slice)
   one e = (ap (λ (o : Lent A). o .answer) e, ap (λ (o : Lent A). o .slice) e)
 
-  two : {x y : LentTwo A} → x ≡ y → (x .answer ≡ y .answer) × _≡_ {A = List Float × List Float} (x .first, x .second) (y .first, y .second)
+  pub two : {x y : LentTwo A} → x ≡ y → (x .answer ≡ y .answer) × _≡_ {A = List Float × List Float} (x .first, x .second) (y .first, y .second)
   two e = (ap (λ (o : LentTwo A). o .answer) e, ap (λ (o : LentTwo A). (o .first, o .second)) e)
 
 -- ---- the four kernels

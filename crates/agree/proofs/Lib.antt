@@ -1,2 +1,3 @@
--- A lemma for each export.
+-- Determined: a lemma for each export. Inside: one for each public function behind them.
 pub mod Determined
+pub mod Inside

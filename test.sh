@@ -19,8 +19,8 @@ esac
 
 # Rust's installer puts its commands here, which not every shell has on its PATH.
 [ ! -d "${HOME:-}/.cargo/bin" ] || PATH=$PATH:$HOME/.cargo/bin
-for tool in rt cc python3; do
-    command -v $tool >/dev/null 2>&1 || die "the command $tool is not on the PATH (the Rattle kit brings rt)"
+for tool in rt cc rustc cargo python3; do
+    command -v $tool >/dev/null 2>&1 || die "the command $tool is not on the PATH (the Rattle kit brings rt; Rust and the others stand beside it)"
 done
 
 say "layout of .rt and .antt files"
@@ -52,15 +52,11 @@ sed '/^build: /d' target/log/plan.txt | diff - examples/plan.stdout || die "exam
 say "the kernels from outside (a short run of tests/kernels/run)"
 tests/kernels/run --short
 
-if rustc --version >/dev/null 2>&1 && cargo --version >/dev/null 2>&1; then
-    say "the port against the Rust, call by call (a short run of oracle/compare.sh)"
-    oracle/compare.sh --calls 300000
+say "the port against the Rust, call by call (a short run of oracle/compare.sh)"
+oracle/compare.sh --calls 300000
 
-    say "the Rust crate bindings/rust"
-    tools/rust-tests
-else
-    say "SKIPPED: there is no rustc and cargo here, so the port is not compared with the Rust, but for the fixed list that rt ci replays"
-fi
+say "the Rust crate bindings/rust"
+tools/rust-tests
 
 say "proofs, must-fail edits and programs, from nothing (rt ci)"
 exec rt ci

@@ -1,5 +1,6 @@
 -- The same for every public function inside the library: its contract, too, leaves one outcome. A caller that keeps to a `requires` gets no other.
--- Not here: algebra's `head` and `tail`, which hand back a part of the slice that they were lent; their contracts fix what the part holds, not where it lies. Assumes nothing.
+-- Not here: algebra's `head` and `tail`, which hand back a part of the slice that they were lent; their contracts fix what the part holds, not where it lies.
+-- Nor expcone's `wright_omega` and logarithm's `entry`, which stand in private modules that no other crate can name. Assumes nothing.
 use mathlib.Core.Path.{_≡_, _∙_, sym, ap, refl}
 use mathlib.Core.List.{List}
 use Prim.Native.Nat.{ℕ}

@@ -17,6 +17,8 @@ use Rattle.wide.proofs.product.Kinds as wide-product-kinds
 use Rattle.wide.proofs.product.Reads as wide-product
 use Rattle.wide.proofs.high.Kinds as wide-high-kinds
 use Rattle.wide.proofs.high.Reads as wide-high
+use Rattle.wide.proofs.left.Kinds as wide-left-kinds
+use Rattle.wide.proofs.left.Reads as wide-left
 use Rattle.double.proofs.nan.Kinds as double-nan-kinds
 use Rattle.double.proofs.nan.Reads as double-nan
 use Rattle.double.proofs.is_finite.Kinds as double-is-finite-kinds
@@ -375,6 +377,9 @@ wide-product-agrees κs a x y s t p q = (p ∙ sym q, refl)
 
 pub wide-high-agrees : Determines 0 wide-high-kinds.ps wide-high-kinds.r wide-high.Post (Unit {0}) (λ κs s. tt)
 wide-high-agrees κs a x y s t p q = (p ∙ sym q, refl)
+
+pub wide-left-agrees : Determines 0 wide-left-kinds.ps wide-left-kinds.r wide-left.Post (Unit {0}) (λ κs s. tt)
+wide-left-agrees κs a x y s t p q = (p ∙ sym q, refl)
 
 -- ---- double: a double taken apart and put together
 

@@ -5,35 +5,34 @@ ghost use Rattle.exponential.specs.Steps.{thirdIn64, coefficient, horner
 use wide::high;
 
 // 2^62/i!, rounded down. The next one would be 0, so that the sum of forty terms ends here.
-const COEFFICIENTS: [u64; 21] = [
-    4611686018427387904,
-    4611686018427387904,
-    2305843009213693952,
-    768614336404564650,
-    192153584101141162,
-    38430716820228232,
-    6405119470038038,
-    915017067148291,
-    114377133393536,
-    12708570377059,
-    1270857037705,
-    115532457973,
-    9627704831,
-    740592679,
-    52899477,
-    3526631,
-    220414,
-    12965,
-    720,
-    37,
-    1,
-];
-
+// A `match` and no array: an array that is indexed by a variable is put on the stack at every call.
 fn coefficient(i: usize) -> u64
     requires { ⌜ i < 21 ⌝ }
     ensures { λ r. ⌜ r ≡ coefficient i ⌝ }
 {
-    COEFFICIENTS[i]
+    match i {
+        0 => 4611686018427387904,
+        1 => 4611686018427387904,
+        2 => 2305843009213693952,
+        3 => 768614336404564650,
+        4 => 192153584101141162,
+        5 => 38430716820228232,
+        6 => 6405119470038038,
+        7 => 915017067148291,
+        8 => 114377133393536,
+        9 => 12708570377059,
+        10 => 1270857037705,
+        11 => 115532457973,
+        12 => 9627704831,
+        13 => 740592679,
+        14 => 52899477,
+        15 => 3526631,
+        16 => 220414,
+        17 => 12965,
+        18 => 720,
+        19 => 37,
+        _ => 1,
+    }
 }
 
 // The sum in units of 2^-62, at r units of 2^-64, by Horner's rule: the last term first.

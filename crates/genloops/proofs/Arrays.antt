@@ -5,7 +5,7 @@ use Prim.Native.Nat.{ℕ, zero, suc, _+_, _≤_, _<_, min}
 use mathlib.Core.Path.{_≡_, refl, sym, subst, _∙_, ap}
 use mathlib.Core.List.{List, [], _∷_, map}
 use mathlib.Core.Logic.{_⊎_, inl, inr}
-use native.Mathlib.Nat.{not-suc-le-zero, eq-or-lt-of-le, le-of-suc-le-suc, zero-min, min-zero, suc-min-suc}
+use native.Mathlib.Nat.{not-suc-le-zero, eq-or-lt-of-le, le-of-suc-le-suc}
 use native.Mathlib.Omega.{arith}
 use lib.ListN.{length, take, set, replicate, length-set, length-take, length-map, length-replicate, getD-replicate, List·getD-map}
 use lib.Seq.{getD-set-same, getD-set-other, getD-take, ext-getD}
@@ -14,6 +14,7 @@ use Rattle.arith.specs.Turns.{iter}
 use Rattle.double.specs.Operators.{_⊕_, _⊗_, at}
 use Rattle.double.specs.Numbers.{#0}
 use Rattle.algebra.specs.Vectors.{movedOf}
+use Rattle.algebra.proofs.Moved.{moved-length, moved-place}
 use Rattle.genloops.specs.Places.{put, putFrom, narrow, wide, withTail, negatedAt, movedAt}
 
 module _ (f : ℕ → Float) (g : List Float) where
@@ -130,20 +131,6 @@ negated-front xs fits =
     subst (λ (n : ℕ). take n (wide (negatedAt xs) n) ≡ map neg xs) (length-map xs neg)
     (wide-front (negatedAt xs) (map neg xs) (subst (λ (n : ℕ). n ≤ 64) (sym (length-map xs neg)) fits)
     (λ i h. sym (List·getD-map neg xs i nan)))
-
--- these two are about algebra's movedOf alone
-pub moved-length : (x : List Float) (a : Float) (dx : List Float) → length (movedOf x a dx) ≡ min (length x) (length dx)
-unfolding movedOf
-moved-length [] a dx = sym (zero-min (length dx))
-moved-length (x ∷ xs) a [] = sym (min-zero (suc (length xs)))
-moved-length (x ∷ xs) a (d ∷ dx) = ap suc (moved-length xs a dx) ∙ sym (suc-min-suc (length xs) (length dx))
-
-pub moved-place : (x : List Float) (a : Float) (dx : List Float) (i : ℕ) → i < length x → i < length dx → at (movedOf x a dx) i ≡ at x i ⊕ a ⊗ at dx i
-unfolding movedOf
-moved-place [] a dx i h l = absurd (not-suc-le-zero h)
-moved-place (x ∷ xs) a [] i h l = absurd (not-suc-le-zero l)
-moved-place (x ∷ xs) a (d ∷ dx) zero h l = refl
-moved-place (x ∷ xs) a (d ∷ dx) (suc i) h l = moved-place xs a dx i (le-of-suc-le-suc h) (le-of-suc-le-suc l)
 
 pub moved-front
     : (x : List Float) (a : Float) (dx : List Float)

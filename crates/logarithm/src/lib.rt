@@ -11,7 +11,7 @@ ghost use Prim.Native.Nat.{_*_, _^_, _/_, _<_, _≤_};
 ghost use Rattle.logarithm.specs.Steps.{shortSeriesOf, mantissaOf, scaledOf, positiveOf, logOf};
 
 // floor(d·2^60 / n), in five steps of which each fits a u64.
-fn quotient(d: u64, n: u64) -> u64
+fn long_division(d: u64, n: u64) -> u64
     requires { ⌜ (d < 2 ^ 44) × (0 < n) × (512 * d < n) × (n < 2 ^ 54) ⌝ }
     ensures { λ r. ⌜ r ≡ d * 2 ^ 60 / n ⌝ }
 {
@@ -21,6 +21,29 @@ fn quotient(d: u64, n: u64) -> u64
     let e = c % n * 1024;
     let f = e % n * 1024;
     a / n * 1099511627776 + b / n * 1073741824 + c / n * 1048576 + e / n * 1024 + f / n
+}
+
+// floor(d·2^60 / n), by an estimate that is checked: q is the quotient if d·2^60 is q·n and a rest below n. About one in fifteen is not, and is left to the long division.
+fn quotient(d: u64, n: u64) -> u64
+    requires { ⌜ (d < 2 ^ 44) × (0 < n) × (512 * d < n) × (n < 2 ^ 54) ⌝ }
+    ensures { λ r. ⌜ r ≡ d * 2 ^ 60 / n ⌝ }
+{
+    // 1, the other powers of two, and 1+i/256 times these: the estimate would be wrong.
+    if d == 0 {
+        return 0;
+    }
+    // An estimate, of which nothing is claimed: x is d and y is n / 2^60; beside 2^52 - 1/2 there is no place for a fraction of x / y, and it is rounded down.
+    let x = f64::from_bits(0x4330_0000_0000_0000 + d) - 4503599627370496.0;
+    let y = f64::from_bits(0x3f70_0000_0000_0000 + n / 2);
+    let q = double::to_bits(x / y + 4503599627370495.5) % 0x10_0000_0000_0000;
+    let dividend = wide::Halves {
+        hi: d / 16,
+        lo: d % 16 * 0x1000_0000_0000_0000,
+    };
+    if wide::left(dividend, wide::product(q, n)) < n {
+        return q;
+    }
+    long_division(d, n)
 }
 
 // 2 (t + t³/3 + t⁵/5), t and the answer in units of 2^-64.

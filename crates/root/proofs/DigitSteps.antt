@@ -1,4 +1,4 @@
--- One turn of `near_root`, which finds one digit of the root, and what holds after the last. Assumes nothing.
+-- One turn of `digit_by_digit`, which finds one digit of the root, and what holds after the last. Assumes nothing.
 use mathlib.Core.Path.{_≡_, sym, ap, _∙_}
 use mathlib.Core.Bool.{cond}
 use Prim.Native.Nat.{ℕ, _+_, _-_, _*_, _/_, _%_, _^_, _≤_, _<_}
@@ -7,8 +7,8 @@ use native.Mathlib.Numerals.{add-one}
 use native.Mathlib.Omega.{arith}
 use lib.Dec.{ltb}
 use lib.Pow.{pow-mono}
-use Rattle.root.specs.Steps.{wholeRoot, roundRoot, nearRoot}
-use Rattle.root.proofs.WholeRoots.{unique, whole-is}
+use Rattle.root.specs.Steps.{nearRoot}
+use Rattle.root.proofs.RoundedRoots.{by-rest}
 
 -- The state after i turns on the number m * 2^64. The digits passed, and rest, which has those still to come at the top of 64 bits, are m * 4^i:
 -- said in this way no shift depends on i.
@@ -50,11 +50,5 @@ held-lt : (m : ℕ) → m < 2 ^ 54 → m * 2 ^ 52 < 4 ^ 53
 held-lt m h = omega arith
 
 -- so root is the whole root, and rem the rest that decides the rounding
-by-rest : (n root rem : ℕ) → root * root + rem ≡ n → rem ≤ 2 * root → n < 4 ^ 53 → nearRoot n ≡ cond (ltb root rem) (root + 1) root
-unfolding nearRoot roundRoot
-by-rest n root rem e b l =
-    let r : n - root * root ≡ rem = omega arith in
-    ap (roundRoot n) (unique n (wholeRoot 53 n) root (whole-is 53 n l) (omega arith, omega arith)) ∙ ap (λ (k : ℕ). cond (ltb root k) (root + 1) root) r
-
 pub ended : (m root rem rest : ℕ) → m < 2 ^ 54 → Turn (m * 1024) 53 root rem rest → nearRoot (m * 2 ^ 52) ≡ cond (ltb root rem) (root + 1) root
 ended m root rem rest h t = by-rest (m * 2 ^ 52) root rem (passed m root rem rest (t .held) (t .left)) (t .small) (held-lt m h)

@@ -1,7 +1,7 @@
-// The whole product of two 64-bit numbers, which the language has no type for: its two halves.
+// The whole product of two 64-bit numbers, which the language has no type for: its two halves. And what a number of two halves has over another.
 ghost use mathlib.Core.Path.{_≡_};
 ghost use Prim.Native.Nat.{_*_, _^_, _/_};
-ghost use Rattle.wide.specs.Products.{productOf};
+ghost use Rattle.wide.specs.Products.{wholeOf, productOf, leftOf};
 
 // hi * 2^64 + lo
 pub struct Halves {
@@ -20,9 +20,11 @@ pub fn product(a: u64, b: u64) -> Halves
     let low = a0 * b0;
     let mid = a1 * b0 + low / 0x1_0000_0000;
     let cross = a0 * b1 + mid % 0x1_0000_0000;
+    // cross % 2^32, from the partial products once more: so the compiler recognises both halves, and makes one multiplication of the four.
+    let digit = (a0 * b1 + a1 * b0 % 0x1_0000_0000 + low / 0x1_0000_0000) % 0x1_0000_0000;
     Halves {
         hi: a1 * b1 + mid / 0x1_0000_0000 + cross / 0x1_0000_0000,
-        lo: cross % 0x1_0000_0000 * 0x1_0000_0000 + low % 0x1_0000_0000,
+        lo: digit * 0x1_0000_0000 + low % 0x1_0000_0000,
     }
 }
 
@@ -31,4 +33,22 @@ pub fn high(a: u64, b: u64) -> u64
     ensures { λ r. ⌜ r ≡ a * b / 2 ^ 64 ⌝ }
 {
     product(a, b).hi
+}
+
+// What n has over p, if that is known to be small: the largest u64 where it is as much or more, or where p is above n.
+pub fn left(n: Halves, p: Halves) -> u64
+    ensures { λ r. ⌜ r ≡ leftOf (wholeOf n) (wholeOf p) ⌝ }
+{
+    if p.hi == n.hi {
+        if p.lo <= n.lo {
+            return n.lo - p.lo;
+        }
+    } else if p.hi < n.hi {
+        if n.hi - p.hi == 1 {
+            if n.lo < p.lo {
+                return n.lo + (u64::MAX - p.lo) + 1;
+            }
+        }
+    }
+    u64::MAX
 }

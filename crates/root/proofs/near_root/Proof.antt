@@ -1,100 +1,160 @@
--- `near_root` meets its contract. The loop's invariant is `Turn`: what the digits passed and the rest hold is the number times 4^i. The measure is the turns left.
--- Assumes nothing.
-use Prim.Native.Nat.{ℕ, _+_, _-_, _*_, _^_, _<_}
-use mathlib.Core.Path.{_≡_, sym, ap, subst, _∙_}
-use mathlib.Core.Bool.{Bool, cond}
-use mathlib.Core.Logic.{⊎-elim}
+-- `near_root` meets its contract: a rest that passes a test is what the number under the root has over r (r - 1), and two tests are the two bounds of the nearest root.
+-- Nothing is used of the estimate: r is in range since it is a remainder and a constant. Where the check fails, the digits answer. Assumes nothing.
+use borrow.Author.Needs.{needs}
+use mathlib.Core.Path.{_≡_, ap, _∙_}
+use Prim.Native.Nat.{ℕ, _+_, _-_, _*_, _/_, _%_, _^_, _≤_, _<_}
+use native.Mathlib.Nat.{div-le-self}
 use native.Mathlib.Omega.{arith}
-use borrow.Author.Tests.{lt-ltb, le-ltb}
-use lib.Dec.{ltb}
+use Rattle.double.proofs.Made.{number}
+use Rattle.wide.specs.declared.Halves.{Halves}
+use Rattle.wide.specs.Products.{wholeOf, productOf, leftOf}
+use Rattle.wide.proofs.Products.{halves-make-product}
+use Rattle.wide.proofs.Differences.{over}
 use Rattle.root.specs.Steps.{nearRoot}
-use Rattle.root.proofs.DigitSteps.{Turn, root-lt, start, set, clear, ended}
+use Rattle.root.proofs.RoundedRoots.{product-below, is-nearest}
 use Rattle.root.proofs.near_root.Statement.{statement}
 use Rattle.root.proofs.near_root.Tie as tie
 
-abbrev Inv-loop : tie.InvT-loop
-Inv-loop m root₀ rem₀ rest₀ i₀ root rem rest i = Turn (m * 1024) i root rem rest
+-- a rest below the largest u64 is what m * 2^52 has over the product
+rest-is :
+    (m r rest : ℕ) (p : Halves) → p ≡ productOf r (r - 1) → rest ≡ leftOf (wholeOf (record { hi = m / 2 ^ 12; lo = m % 2 ^ 12 * 2 ^ 52 })) (wholeOf p) → rest < 2 ^ 64 - 1
+    → rest + r * (r - 1) ≡ m * 2 ^ 52
+unfolding wholeOf
+rest-is m r rest p ep er small =
+    let n = m / 2 ^ 12 * 2 ^ 64 + m % 2 ^ 12 * 2 ^ 52 in
+    let product : wholeOf p ≡ r * (r - 1) = ap wholeOf ep ∙ halves-make-product r (r - 1) in
+    omega (arith, over n (wholeOf p) (omega arith))
 
-abbrev μ-loop : tie.MeasureT-loop
-μ-loop m root₀ rem₀ rest₀ i₀ root rem rest i = 53 - i
+-- which of three numbers it tells
+module _ (n r rest : ℕ) (small : n < 4 ^ 53) (e : rest + r * (r - 1) ≡ n) where
+  first : 0 < rest → rest ≤ 2 * r → r ≡ nearRoot n
+  first a b = let p = product-below r in is-nearest n r small (omega arith) (omega arith)
 
-short : (h : tie.At-loop Inv-loop μ-loop) → h .loop .root < 2 ^ 53
-short h = root-lt (h .loop .inv)
+  second : 2 * r < rest → rest ≤ 4 * r + 2 → r + 1 ≡ nearRoot n
+  second a b = let p = product-below r in is-nearest n (r + 1) small (omega (arith, product-below (r + 1))) (omega arith)
 
-loop-holds : tie.Need-loop-holds Inv-loop μ-loop
-loop-holds c = start (c .args .m) (c .pre)
+  third : 4 * r + 2 < rest → rest ≤ 6 * r + 6 → r + 2 ≡ nearRoot n
+  third a b = let p = product-below r in is-nearest n (r + 2) small (omega (arith, product-below (r + 2))) (omega arith)
 
-mul-have : tie.Need-mul-have Inv-loop μ-loop
-mul-have c = omega (arith, short (c .before), c .before .loop .inv .small)
+-- at the check: the argument, the number under the root, the candidate and the rest
+abbrev m : tie.After-left → ℕ
+m c = c .before .before .before .args .m
 
-add-have : tie.Need-add-have Inv-loop μ-loop
-add-have c = omega (arith, short (c .before), c .before .loop .inv .small, c .before .loop .inv .left)
+abbrev n : tie.After-left → ℕ
+n c = m c * 2 ^ 52
 
-mul-trial : tie.Need-mul-trial Inv-loop μ-loop
-mul-trial c = omega (arith, short (c .before))
+abbrev r : tie.After-left → ℕ
+r c = c .before .before .to-bits .result % 2 ^ 53 + (2 ^ 52 - 1)
 
-add-trial : tie.Need-add-trial Inv-loop μ-loop
-add-trial c = omega (arith, short (c .before))
+abbrev rest : tie.After-left → ℕ
+rest c = c .left .result
 
-mul-root : tie.Need-mul-root Inv-loop μ-loop
-mul-root c = omega (arith, short (c .before .before))
+known : (c : tie.After-left) → rest c < 2 ^ 64 - 1 → rest c + r c * (r c - 1) ≡ n c
+known c = rest-is (m c) (r c) (rest c) _ (c .before .product .ensures) (c .left .ensures)
 
-add-root : tie.Need-add-root Inv-loop μ-loop
-add-root c = omega (arith, short (c .before .before))
+-- the digits put into x: its pattern stays below an infinity's
+shifted : (c : tie.Start) → c .args .m / 2 ^ (c .args .m / 2 ^ 53) ≤ c .args .m
+shifted c = div-le-self _ _
 
-mul-root-2 : tie.Need-mul-root-2 Inv-loop μ-loop
-mul-root-2 c = omega (arith, short (c .before .before))
+add-x : tie.Need-add-x
+add-x c = search needs
 
-add-i : tie.Need-add-i Inv-loop μ-loop
-add-i c = omega arith
+mul-x : tie.Need-mul-x
+mul-x c = search needs
 
-loop-less : tie.Need-loop-less Inv-loop μ-loop
-loop-less c = omega arith
+shr-x : tie.Need-shr-x
+shr-x c = search needs
 
-loop-again : tie.Need-loop-again Inv-loop μ-loop
-loop-again c =
-    let h = c .before .before in
-    let t = h .loop .inv in
-    let more : h .loop .i < 53 = omega arith in
-    ⊎-elim (λ w. rw (w .1, w .2) (set t more (w .0 .taken))) (λ w. rw (w .1, w .2) (clear t more (w .0 .left))) (c .if1 .came)
+add-x-2 : tie.Need-add-x-2
+add-x-2 c = omega (arith, shifted c)
 
-add-result : tie.Need-add-result Inv-loop μ-loop
-add-result c = omega (arith, short (c .before .before))
+float-from-bits-x : tie.Need-float-from-bits-x
+float-from-bits-x c = number _ (omega (arith, shifted c))
 
-is : (c : tie.After-loop Inv-loop μ-loop) → nearRoot (c .before .before .args .m * 2 ^ 52) ≡ cond (ltb (c .before .loop .root) (c .before .loop .rem)) (c .before .loop .root + 1) (c .before .loop .root)
-is c =
-    let l = c .before .loop in
-    let m = c .before .before .args .m in
-    let e : l .i ≡ 53 = omega (arith, l .inv .count) in
-    ended m (l .root) (l .rem) (l .rest) (c .before .before .pre) (subst (λ (k : ℕ). Turn (m * 1024) k (l .root) (l .rem) (l .rest)) e (l .inv))
+to-bits-requires : tie.Need-to-bits-requires
+to-bits-requires c κs = search needs
 
-returns : tie.Need-returns Inv-loop μ-loop
+add-r : tie.Need-add-r
+add-r c = search needs
+
+mul-t11 : tie.Need-mul-t11
+mul-t11 c = search needs
+
+sub-product : tie.Need-sub-product
+sub-product c = search needs
+
+product-requires : tie.Need-product-requires
+product-requires c κs = search needs
+
+left-requires : tie.Need-left-requires
+left-requires c κs = search needs
+
+mul-if2 : tie.Need-mul-if2
+mul-if2 c = search needs
+
+returns : tie.Need-returns
 returns c =
-    let l = c .before .before .loop in
-    sym (is (c .before) ∙ ap (λ (t : Bool). cond t (l .root + 1) (l .root)) (lt-ltb (l .root) (l .rem) (omega arith)))
+    let s = c .before .before in
+    first (n s) (r s) (rest s) (omega arith) (known s (omega arith)) (omega arith) (omega arith)
 
-returns-2 : tie.Need-returns-2 Inv-loop μ-loop
+mul-if3 : tie.Need-mul-if3
+mul-if3 c = search needs
+
+add-if3 : tie.Need-add-if3
+add-if3 c = search needs
+
+add-result : tie.Need-add-result
+add-result c = search needs
+
+returns-2 : tie.Need-returns-2
 returns-2 c =
-    let l = c .before .before .loop in
-    sym (is (c .before) ∙ ap (λ (t : Bool). cond t (l .root + 1) (l .root)) (le-ltb (l .root) (l .rem) (omega arith)))
+    let s = c .before .before .before in
+    second (n s) (r s) (rest s) (omega arith) (known s (omega arith)) (omega arith) (omega arith)
+
+mul-if4 : tie.Need-mul-if4
+mul-if4 c = search needs
+
+add-if4 : tie.Need-add-if4
+add-if4 c = search needs
+
+add-result-2 : tie.Need-add-result-2
+add-result-2 c = search needs
+
+returns-3 : tie.Need-returns-3
+returns-3 c =
+    let s = c .before .before .before .before in
+    third (n s) (r s) (rest s) (omega arith) (known s (omega arith)) (omega arith) (omega arith)
+
+digit-by-digit-requires : tie.Need-digit-by-digit-requires
+digit-by-digit-requires c κs = search needs
+
+returns-4 : tie.Need-returns-4
+returns-4 c = search needs
 
 pub near-root-spec : {M : Type 1} → statement M
 near-root-spec =
     tie.close
     (tie.spec
-    Inv-loop
-    μ-loop
-    loop-holds
-    mul-have
-    add-have
-    mul-trial
-    add-trial
-    mul-root
-    add-root
-    mul-root-2
-    add-i
-    loop-less
-    loop-again
-    add-result
+    add-x
+    mul-x
+    shr-x
+    add-x-2
+    float-from-bits-x
+    to-bits-requires
+    add-r
+    mul-t11
+    sub-product
+    product-requires
+    left-requires
+    mul-if2
     returns
-    returns-2)
+    mul-if3
+    add-if3
+    add-result
+    returns-2
+    mul-if4
+    add-if4
+    add-result-2
+    returns-3
+    digit-by-digit-requires
+    returns-4)

@@ -8,7 +8,8 @@ use lib.Ieee.{Float, nan}
 use denote.Ref.{now}
 use borrow.Author.Needs.{needs}
 use Rattle.search.specs.Points.{trialPoint}
-use Rattle.search.proofs.Points.{length-point, place-of-point, Filled, filled-none, filled-more, filled-all}
+use Rattle.algebra.proofs.Moved.{moved-place}
+use Rattle.search.proofs.Points.{length-point, Filled, filled-none, filled-more, filled-all}
 use Rattle.search.proofs.put_trial.Statement.{statement}
 use Rattle.search.proofs.put_trial.Tie as tie
 
@@ -63,7 +64,7 @@ loop-again c =
     let n = target-length s in
     let below : i < length (now (s .args .q)) = omega arith in
     filled-more (target s) (now (s .args .point)) (h .loop .point) i _ nan (s .pre .1 ∙ sym n) (h .loop .inv) (omega arith)
-    (sym (place-of-point (now (s .args .q)) (now (s .args .dq)) (s .args .alpha) i nan below (omega arith)))
+    (sym (moved-place (now (s .args .q)) (s .args .alpha) (now (s .args .dq)) i below (omega arith)))
 
 same-length : tie.Need-same-length Inv-loop μ-loop
 same-length c = search needs

@@ -21,17 +21,29 @@ mul-cross c = omega (arith, room (c .args .a) (c .args .b) (omega arith) (omega 
 add-cross : tie.Need-add-cross
 add-cross c = omega (arith, room (c .args .a) (c .args .b) (omega arith) (omega arith))
 
-mul-t10 : tie.Need-mul-t10
-mul-t10 c = omega (arith, room (c .args .a) (c .args .b) (omega arith) (omega arith))
+mul-digit : tie.Need-mul-digit
+mul-digit c = omega (arith, room (c .args .a) (c .args .b) (omega arith) (omega arith))
 
-add-t12 : tie.Need-add-t12
-add-t12 c = omega (arith, room (c .args .a) (c .args .b) (omega arith) (omega arith))
+mul-digit-2 : tie.Need-mul-digit-2
+mul-digit-2 c = omega (arith, room (c .args .a) (c .args .b) (omega arith) (omega arith))
 
-add-t14 : tie.Need-add-t14
-add-t14 c = omega (arith, room (c .args .a) (c .args .b) (omega arith) (omega arith))
+add-digit : tie.Need-add-digit
+add-digit c = omega (arith, room (c .args .a) (c .args .b) (omega arith) (omega arith))
 
-mul-t16 : tie.Need-mul-t16
-mul-t16 c = search needs
+add-digit-2 : tie.Need-add-digit-2
+add-digit-2 c = omega (arith, room (c .args .a) (c .args .b) (omega arith) (omega arith))
+
+mul-t11 : tie.Need-mul-t11
+mul-t11 c = omega (arith, room (c .args .a) (c .args .b) (omega arith) (omega arith))
+
+add-t15 : tie.Need-add-t15
+add-t15 c = omega (arith, room (c .args .a) (c .args .b) (omega arith) (omega arith))
+
+add-t13 : tie.Need-add-t13
+add-t13 c = omega (arith, room (c .args .a) (c .args .b) (omega arith) (omega arith))
+
+mul-t12 : tie.Need-mul-t12
+mul-t12 c = search needs
 
 add-t18 : tie.Need-add-t18
 add-t18 c = search needs
@@ -48,9 +60,13 @@ product-spec =
     add-mid
     mul-cross
     add-cross
-    mul-t10
-    add-t12
-    add-t14
-    mul-t16
+    mul-digit
+    mul-digit-2
+    add-digit
+    add-digit-2
+    mul-t11
+    add-t15
+    add-t13
+    mul-t12
     add-t18
     returns)

@@ -3,6 +3,7 @@
 #
 #   sh test.sh            everything, from nothing
 #   sh test.sh --quick    only the checks of files: layout, listed crates, paths
+#   sh test.sh --outside  only what runs over the archive: the C example, the kernels, the comparison with the Rust, the Rust crate
 #
 # Exit status 0 only if everything passed.
 set -eu
@@ -12,8 +13,8 @@ say() { echo "test: $*"; }
 die() { echo "test: $*" >&2; exit 1; }
 
 case ${1:-} in
-'' | --quick) ;;
--h | --help) sed -n '2,7s/^# \{0,1\}//p' "$0"; exit 0 ;;
+'' | --quick | --outside) ;;
+-h | --help) sed -n '2,8s/^# \{0,1\}//p' "$0"; exit 0 ;;
 *) die "no such option: $1 (try --help)" ;;
 esac
 
@@ -22,6 +23,29 @@ esac
 for tool in rt cc rustc cargo python3; do
     command -v $tool >/dev/null 2>&1 || die "the command $tool is not on the PATH (the Rattle kit brings rt; Rust and the others stand beside it)"
 done
+
+# What needs libspindle.a.
+outside() {
+    say "the library, its archive, and examples/plan.c over it"
+    mkdir -p target/log
+    sh build.sh >target/log/plan.txt 2>&1 || { tail -n 20 target/log/plan.txt >&2; die "sh build.sh failed"; }
+    sed '/^build: /d' target/log/plan.txt | diff - examples/plan.stdout || die "examples/plan.c wrote something else than examples/plan.stdout"
+
+    say "the kernels from outside (a short run of tests/kernels/run)"
+    tests/kernels/run --short
+
+    say "the port against the Rust, call by call (a short run of oracle/compare.sh)"
+    oracle/compare.sh --calls 300000
+
+    say "the Rust crate bindings/rust"
+    tools/rust-tests
+}
+
+if [ "${1:-}" = --outside ]; then
+    outside
+    say "what runs over the archive passed"
+    exit 0
+fi
 
 say "layout of .rt and .antt files"
 rt fmt --check || die "some files are not in the layout: run rt fmt"
@@ -44,19 +68,24 @@ $found"
 
 [ "${1:-}" != --quick ] || { say "quick checks passed"; exit 0; }
 
-say "the library, its archive, and examples/plan.c over it"
-mkdir -p target/log
-sh build.sh >target/log/plan.txt 2>&1 || { tail -n 20 target/log/plan.txt >&2; die "sh build.sh failed"; }
-sed '/^build: /d' target/log/plan.txt | diff - examples/plan.stdout || die "examples/plan.c wrote something else than examples/plan.stdout"
-
-say "the kernels from outside (a short run of tests/kernels/run)"
-tests/kernels/run --short
-
-say "the port against the Rust, call by call (a short run of oracle/compare.sh)"
-oracle/compare.sh --calls 300000
-
-say "the Rust crate bindings/rust"
-tools/rust-tests
+# rt ci removes target/, and the archive with it. So what needs the archive runs beside it, in a copy of the files.
+copy=$(mktemp -d)
+beside=
+trap '[ -z "$beside" ] || kill "$beside" 2>/dev/null || true; rm -rf "$copy"' EXIT
+trap 'exit 1' HUP INT TERM
+mkdir "$copy/files"
+tar -cf - --exclude=./target --exclude=./.git . | tar -xf - -C "$copy/files"
+say "what runs over the archive goes on beside rt ci, in a copy of the files; it is shown after it"
+sh "$copy/files/test.sh" --outside >"$copy/outside.txt" 2>&1 &
+beside=$!
 
 say "proofs, must-fail edits and programs, from nothing (rt ci)"
-exec rt ci
+# The last line is held back until the runs over the archive have ended, too.
+{ rt ci 2>&1 && echo 0 >"$copy/status" || echo 1 >"$copy/status"; } | tee "$copy/ci.txt" | sed -u '$d'
+passed=0
+wait "$beside" || passed=1
+beside=
+cat "$copy/outside.txt"
+[ $passed = 0 ] || die "a run over the archive failed"
+tail -n 1 "$copy/ci.txt"
+exit "$(cat "$copy/status")"

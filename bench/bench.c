@@ -424,6 +424,34 @@ static void kernels(Plan *p, int rounds, double port_total)
     printf("  %-18s %15s %9s %13s %9.1f %7.1f %%\n", "all four", "", "", "", all, all / (port_total * 10));
 }
 
+/* ---- what passing the records costs by itself: as many calls as a plan makes, of functions that do nothing */
+
+static uint32_t nothing(Scaling record) { return record.cone.kind; }
+
+static Updated nothing_new(Scaling record) { return (Updated) { 0, record }; }
+
+static double passing(const Plan *p, int rounds)
+{
+    uint32_t (*volatile taken)(Scaling) = nothing;
+    Updated (*volatile updated)(Scaling) = nothing_new;
+    Scaling *records = fresh_records(p);
+    uint32_t kinds = 0;
+    double before = now();
+    for (int round = 0; round < rounds; round++) {
+        for (size_t i = 0; i < p->in.cones; i++) {
+            Updated r = updated(records[i]);
+            records[i] = r.record;
+        }
+        /* the block, two products, shift or gradient, the barrier */
+        for (int call = 0; call < 5; call++)
+            for (size_t i = 0; i < p->in.cones; i++) kinds += taken(records[i]);
+    }
+    double time = now() - before;
+    if (!kinds) refused("passing", 0, 0);
+    free(records);
+    return time;
+}
+
 /* ---- by size of a cone, by tests of a search */
 
 static void sizes(int rounds, int runs)
@@ -628,6 +656,12 @@ int main(int count, char **words)
         double port = r.time[PORT][entry], rust = r.time[RUST][entry], own = r.time[OWN][entry];
         printf("  %-18s %8.1f %5.1f %% %8.1f %8.1f %11.2f %10.2f\n", entry_names[entry], port * 1e3, 100 * port / sum[PORT], rust * 1e3, own * 1e3, port / rust, port / own);
     }
+    double passed = passing(&p, rounds);
+    for (int run = 1; run < runs; run++) {
+        double again = passing(&p, rounds);
+        if (again < passed) passed = again;
+    }
+    printf("  %-18s %8.1f %5.1f %%   (as many calls, of functions that do nothing)\n", "records by value", passed * 1e3, 100 * passed / sum[PORT]);
     if (!brief) {
         kernels(&p, rounds, sum[PORT]);
         sizes(rounds, runs);

@@ -109,14 +109,6 @@ use Rattle.cone.proofs.wide_of.Kinds as cone-wide-of-kinds
 use Rattle.cone.proofs.wide_of.Reads as cone-wide-of
 use Rattle.cone.proofs.judge.all_finite.Kinds as cone-judge-all-finite-kinds
 use Rattle.cone.proofs.judge.all_finite.Reads as cone-judge-all-finite
-use Rattle.cone.proofs.judge.finite3.Kinds as cone-judge-finite3-kinds
-use Rattle.cone.proofs.judge.finite3.Reads as cone-judge-finite3
-use Rattle.cone.proofs.judge.finite6.Kinds as cone-judge-finite6-kinds
-use Rattle.cone.proofs.judge.finite6.Reads as cone-judge-finite6
-use Rattle.cone.proofs.judge.finite32.Kinds as cone-judge-finite32-kinds
-use Rattle.cone.proofs.judge.finite32.Reads as cone-judge-finite32
-use Rattle.cone.proofs.judge.finite64.Kinds as cone-judge-finite64-kinds
-use Rattle.cone.proofs.judge.finite64.Reads as cone-judge-finite64
 use Rattle.cone.proofs.judge.cone_ok.Kinds as cone-judge-cone-ok-kinds
 use Rattle.cone.proofs.judge.cone_ok.Reads as cone-judge-cone-ok
 use Rattle.cone.proofs.judge.numel.Kinds as cone-judge-numel-kinds
@@ -341,8 +333,6 @@ use Rattle.record_formulas.proofs.formulas.shift.Kinds as record-formulas-formu
 use Rattle.record_formulas.proofs.formulas.shift.Reads as record-formulas-formulas-shift
 use Rattle.record_formulas.proofs.publish.publish_three.Kinds as record-formulas-publish-publish-three-kinds
 use Rattle.record_formulas.proofs.publish.publish_three.Reads as record-formulas-publish-publish-three
-use Rattle.record_formulas.proofs.publish.publish_six.Kinds as record-formulas-publish-publish-six-kinds
-use Rattle.record_formulas.proofs.publish.publish_six.Reads as record-formulas-publish-publish-six
 use Rattle.record_formulas.proofs.publish.publish_wide.Kinds as record-formulas-publish-publish-wide-kinds
 use Rattle.record_formulas.proofs.publish.publish_wide.Reads as record-formulas-publish-publish-wide
 use Rattle.record_formulas.proofs.publish.counted.Kinds as record-formulas-publish-counted-kinds
@@ -529,18 +519,6 @@ cone-wide-of-agrees κs a x y s t p q = (p ∙ sym q, refl)
 
 pub cone-judge-all-finite-agrees : Determines 1 cone-judge-all-finite-kinds.ps cone-judge-all-finite-kinds.r cone-judge-all-finite.Post (Unit {0}) (λ κs s. tt)
 cone-judge-all-finite-agrees κs a x y s t p q = (p ∙ sym q, refl)
-
-pub cone-judge-finite3-agrees : Determines 0 cone-judge-finite3-kinds.ps cone-judge-finite3-kinds.r cone-judge-finite3.Post (Unit {0}) (λ κs s. tt)
-cone-judge-finite3-agrees κs a x y s t p q = (p ∙ sym q, refl)
-
-pub cone-judge-finite6-agrees : Determines 0 cone-judge-finite6-kinds.ps cone-judge-finite6-kinds.r cone-judge-finite6.Post (Unit {0}) (λ κs s. tt)
-cone-judge-finite6-agrees κs a x y s t p q = (p ∙ sym q, refl)
-
-pub cone-judge-finite32-agrees : Determines 0 cone-judge-finite32-kinds.ps cone-judge-finite32-kinds.r cone-judge-finite32.Post (Unit {0}) (λ κs s. tt)
-cone-judge-finite32-agrees κs a x y s t p q = (p ∙ sym q, refl)
-
-pub cone-judge-finite64-agrees : Determines 0 cone-judge-finite64-kinds.ps cone-judge-finite64-kinds.r cone-judge-finite64.Post (Unit {0}) (λ κs s. tt)
-cone-judge-finite64-agrees κs a x y s t p q = (p ∙ sym q, refl)
 
 pub cone-judge-cone-ok-agrees : Determines 0 cone-judge-cone-ok-kinds.ps cone-judge-cone-ok-kinds.r cone-judge-cone-ok.Post (Unit {0}) (λ κs s. tt)
 cone-judge-cone-ok-agrees κs a x y s t p q = (p ∙ sym q, refl)
@@ -878,7 +856,7 @@ record-formulas-formulas-new-record-agrees κs a x y s t p q = (p ∙ sym q, ref
 pub record-formulas-formulas-three-gradient-agrees : Determines 0 record-formulas-formulas-three-gradient-kinds.ps record-formulas-formulas-three-gradient-kinds.r record-formulas-formulas-three-gradient.Post (Unit {0}) (λ κs s. tt)
 record-formulas-formulas-three-gradient-agrees κs a x y s t p q = (p ∙ sym q, refl)
 
-pub record-formulas-formulas-wide-gradient-agrees : Determines 1 record-formulas-formulas-wide-gradient-kinds.ps record-formulas-formulas-wide-gradient-kinds.r record-formulas-formulas-wide-gradient.Post (Unit {0}) (λ κs s. tt)
+pub record-formulas-formulas-wide-gradient-agrees : Determines 2 record-formulas-formulas-wide-gradient-kinds.ps record-formulas-formulas-wide-gradient-kinds.r record-formulas-formulas-wide-gradient.Post (Unit {0}) (λ κs s. tt)
 record-formulas-formulas-wide-gradient-agrees κs a x y s t p q = (p ∙ sym q, refl)
 
 pub record-formulas-formulas-primal-barrier-agrees : Determines 1 record-formulas-formulas-primal-barrier-kinds.ps record-formulas-formulas-primal-barrier-kinds.r record-formulas-formulas-primal-barrier.Post (Unit {0}) (λ κs s. tt)
@@ -887,7 +865,7 @@ record-formulas-formulas-primal-barrier-agrees κs a x y s t p q = (p ∙ sym q,
 pub record-formulas-formulas-combined-barrier-agrees : Determines 4 record-formulas-formulas-combined-barrier-kinds.ps record-formulas-formulas-combined-barrier-kinds.r record-formulas-formulas-combined-barrier.Post (Unit {0}) (λ κs s. tt)
 record-formulas-formulas-combined-barrier-agrees κs a x y s t p q = (p ∙ sym q, refl)
 
-pub record-formulas-formulas-wide-block-agrees : Determines 0 record-formulas-formulas-wide-block-kinds.ps record-formulas-formulas-wide-block-kinds.r record-formulas-formulas-wide-block.Post (Unit {0}) (λ κs s. tt)
+pub record-formulas-formulas-wide-block-agrees : Determines 1 record-formulas-formulas-wide-block-kinds.ps record-formulas-formulas-wide-block-kinds.r record-formulas-formulas-wide-block.Post (Unit {0}) (λ κs s. tt)
 record-formulas-formulas-wide-block-agrees κs a x y s t p q = (p ∙ sym q, refl)
 
 pub record-formulas-formulas-wide-product-agrees : Determines 1 record-formulas-formulas-wide-product-kinds.ps record-formulas-formulas-wide-product-kinds.r record-formulas-formulas-wide-product.Post (Unit {0}) (λ κs s. tt)
@@ -902,10 +880,7 @@ record-formulas-formulas-shift-agrees κs a x y s t p q = (p ∙ sym q, refl)
 pub record-formulas-publish-publish-three-agrees : Determines 1 record-formulas-publish-publish-three-kinds.ps record-formulas-publish-publish-three-kinds.r record-formulas-publish-publish-three.Post (List Float) (λ κs s. now (s .0))
 record-formulas-publish-publish-three-agrees κs a x y s t p q = one {A = ℕ} (p ∙ sym q)
 
-pub record-formulas-publish-publish-six-agrees : Determines 1 record-formulas-publish-publish-six-kinds.ps record-formulas-publish-publish-six-kinds.r record-formulas-publish-publish-six.Post (List Float) (λ κs s. now (s .0))
-record-formulas-publish-publish-six-agrees κs a x y s t p q = one {A = ℕ} (p ∙ sym q)
-
-pub record-formulas-publish-publish-wide-agrees : Determines 1 record-formulas-publish-publish-wide-kinds.ps record-formulas-publish-publish-wide-kinds.r record-formulas-publish-publish-wide.Post (List Float) (λ κs s. now (s .0))
+pub record-formulas-publish-publish-wide-agrees : Determines 2 record-formulas-publish-publish-wide-kinds.ps record-formulas-publish-publish-wide-kinds.r record-formulas-publish-publish-wide.Post (List Float) (λ κs s. now (s .0))
 record-formulas-publish-publish-wide-agrees κs a x y s t p q = one {A = ℕ} (p ∙ sym q)
 
 pub record-formulas-publish-counted-agrees : Determines 0 record-formulas-publish-counted-kinds.ps record-formulas-publish-counted-kinds.r record-formulas-publish-counted.Post (Unit {0}) (λ κs s. tt)

@@ -19,37 +19,18 @@ pub const TOLERANCE: f64 = 9.094947017729282379150390625e-13;
 pub fn all_finite(xs: &[f64]) -> bool
     ensures { λ r. ⌜ r ≡ allOf finite (now (xs .entry)) ⌝ }
 {
+    let mut all = true;
     for i in 0..xs.len() {
-        if !is_finite(xs[i]) {
-            return false;
-        }
+        all = all & is_finite(xs[i]);
     }
-    true
+    all
 }
 
-// The same of an array, or of its first n places.
-pub fn finite3(a: [f64; 3]) -> bool
-    ensures { λ r. ⌜ r ≡ allOf finite a ⌝ }
+// The same of the first n places.
+fn head_finite(xs: &[f64], n: usize) -> bool
+    ensures { λ r. ⌜ r ≡ allOf finite (take n (now (xs .entry))) ⌝ }
 {
-    all_finite(&a)
-}
-
-pub fn finite6(a: [f64; 6]) -> bool
-    ensures { λ r. ⌜ r ≡ allOf finite a ⌝ }
-{
-    all_finite(&a)
-}
-
-pub fn finite32(a: [f64; 32], n: usize) -> bool
-    ensures { λ r. ⌜ r ≡ allOf finite (take n a) ⌝ }
-{
-    all_finite(head(&a, n))
-}
-
-pub fn finite64(a: [f64; 64], n: usize) -> bool
-    ensures { λ r. ⌜ r ≡ allOf finite (take n a) ⌝ }
-{
-    all_finite(head(&a, n))
+    all_finite(head(xs, n))
 }
 
 // ---- the cone
@@ -69,12 +50,11 @@ fn exponent_ok(a: f64) -> bool
 fn all_exponents(xs: &[f64]) -> bool
     ensures { λ r. ⌜ r ≡ allOf exponentOk (now (xs .entry)) ⌝ }
 {
+    let mut all = true;
     for i in 0..xs.len() {
-        if !exponent_ok(xs[i]) {
-            return false;
-        }
+        all = all & exponent_ok(xs[i]);
     }
-    true
+    all
 }
 
 // The difference is exact where it matters: a sum between 1/2 and 2 less 1 is a double.
@@ -101,11 +81,10 @@ pub fn cone_ok(cone: Cone) -> bool
     ensures { λ r. ⌜ r ≡ coneOk cone ⌝ }
 {
     let kind = cone.kind;
-    let exps = cone.exps;
     match kind {
         1 => true,
-        2 => power_ok(exps[0]),
-        3 => wide_ok(cone.dim1, cone.dim2, &exps),
+        2 => power_ok(cone.exps[0]),
+        3 => wide_ok(cone.dim1, cone.dim2, &cone.exps),
         _ => false,
     }
 }
@@ -157,11 +136,7 @@ pub fn strategy_ok(strategy: u32) -> bool
 pub fn three_finite(t: Three) -> bool
     ensures { λ r. ⌜ r ≡ threeFinite t ⌝ }
 {
-    let z = t.z;
-    let grad = t.grad;
-    let hdual = t.hdual;
-    let hs = t.hs;
-    finite3(z) & finite3(grad) & finite6(hdual) & finite6(hs)
+    all_finite(&t.z) & all_finite(&t.grad) & all_finite(&t.hdual) & all_finite(&t.hs)
 }
 
 pub fn wide_finite(w: Wide, dim1: u32, dim2: u32) -> bool
@@ -169,31 +144,22 @@ pub fn wide_finite(w: Wide, dim1: u32, dim2: u32) -> bool
 {
     let n1 = dim1 as usize;
     let n2 = dim2 as usize;
-    let z = w.z;
-    let grad = w.grad;
-    let p = w.p;
-    let q = w.q;
-    let r = w.r;
-    let d1 = w.d1;
-    finite64(z, n1 + n2)
+    head_finite(&w.z, n1 + n2)
         & is_finite(w.mu)
-        & finite64(grad, n1 + n2)
-        & finite64(p, n1 + n2)
-        & finite32(q, n1)
-        & finite32(r, n2)
-        & finite32(d1, n1)
+        & head_finite(&w.grad, n1 + n2)
+        & head_finite(&w.p, n1 + n2)
+        & head_finite(&w.q, n1)
+        & head_finite(&w.r, n2)
+        & head_finite(&w.d1, n1)
         & is_finite(w.d2)
 }
 
 pub fn record_finite(scaling: Scaling) -> bool
     ensures { λ r. ⌜ r ≡ recordFinite scaling ⌝ }
 {
-    let cone = scaling.cone;
-    let kind = cone.kind;
+    let kind = scaling.cone.kind;
     if kind == 3 {
-        let wide = scaling.wide;
-        return wide_finite(wide, cone.dim1, cone.dim2);
+        return wide_finite(scaling.wide, scaling.cone.dim1, scaling.cone.dim2);
     }
-    let three = scaling.three;
-    three_finite(three)
+    three_finite(scaling.three)
 }

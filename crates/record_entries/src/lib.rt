@@ -11,6 +11,7 @@ use cone::Rounds;
 use cone::Scaling;
 use cone::Updated;
 use cone::refusal::last_rows;
+use cone::refusal::publish;
 use cone::three_of;
 use double::is_finite;
 use record_formulas::formulas::combined_barrier;
@@ -24,7 +25,6 @@ use record_formulas::formulas::wide_gradient;
 use record_formulas::formulas::wide_product;
 use record_formulas::publish::counted;
 use record_formulas::publish::judged;
-use record_formulas::publish::publish_six;
 use record_formulas::publish::publish_three;
 use record_formulas::publish::publish_wide;
 use record_rows::barrier_rows;
@@ -46,8 +46,7 @@ pub fn update_scaling(scaling: Scaling, s: &[f64], z: &[f64], mu: f64, strategy:
             scaling,
         };
     }
-    let cone = scaling.cone;
-    let attempt = new_record(cone, s, z, mu, strategy);
+    let attempt = new_record(scaling.cone, s, z, mu, strategy);
     let last = last_rows(attempt);
     if last != 0 {
         return Updated {
@@ -68,8 +67,7 @@ fn three_gradient_primal(scaling: Scaling, g: &mut [f64], s: &[f64]) -> Rounds
     requires { ⌜ length (now g) ≡ 3 ⌝ }
     ensures { λ r. ⌜ record { answer = r; slice = now (g .exit) } ≡ threeGradientOf scaling (now (g .entry)) (now (s .entry)) ⌝ }
 {
-    let cone = scaling.cone;
-    let a = three_gradient(cone, three_of(s));
+    let a = three_gradient(scaling.cone, three_of(s));
     if a.panics {
         return Rounds { code: 6, rounds: 0 };
     }
@@ -82,13 +80,10 @@ fn wide_gradient_primal(scaling: Scaling, g: &mut [f64], s: &[f64]) -> Rounds
     requires { ⌜ (length (now g) ≤ 64) × (scaling .cone .dim1 ≤ 32) × (scaling .cone .dim2 ≤ 32) ⌝ }
     ensures { λ r. ⌜ record { answer = r; slice = now (g .exit) } ≡ wideGradientOf scaling (now (g .entry)) (now (s .entry)) ⌝ }
 {
-    let cone = scaling.cone;
-    let exps = cone.exps;
-    let wide = scaling.wide;
-    let w = wide.r;
-    let a = wide_gradient(exps, cone.dim1 as usize, s, w, cone.dim2 as usize);
-    let ans = a.g;
-    let code = publish_wide(g, ans);
+    let dim1 = scaling.cone.dim1 as usize;
+    let dim2 = scaling.cone.dim2 as usize;
+    let a = wide_gradient(&scaling.cone.exps, dim1, s, &scaling.wide.r, dim2);
+    let code = publish_wide(g, &a.g);
     counted(code, a.rounds)
 }
 
@@ -100,8 +95,7 @@ pub fn gradient_primal(scaling: Scaling, g: &mut [f64], s: &[f64]) -> Rounds
     if code != 0 {
         return Rounds { code, rounds: 0 };
     }
-    let cone = scaling.cone;
-    let kind = cone.kind;
+    let kind = scaling.cone.kind;
     if kind == 3 {
         return wide_gradient_primal(scaling, g, s);
     }
@@ -144,18 +138,21 @@ pub fn get_hs(scaling: Scaling, block: &mut [f64]) -> u32
     if code != 0 {
         return code;
     }
-    let cone = scaling.cone;
-    let kind = cone.kind;
+    let kind = scaling.cone.kind;
     if kind == 3 {
-        let wide = scaling.wide;
-        let d1 = wide.d1;
-        let diagonal = wide_block(wide.mu, d1, cone.dim1 as usize, wide.d2, cone.dim2 as usize);
-        return publish_wide(block, diagonal);
+        let dim1 = scaling.cone.dim1 as usize;
+        let dim2 = scaling.cone.dim2 as usize;
+        let diagonal = wide_block(
+            scaling.wide.mu,
+            &scaling.wide.d1,
+            dim1,
+            scaling.wide.d2,
+            dim2,
+        );
+        return publish_wide(block, &diagonal);
     }
     // Hs data is already in packed triu form, so just copy
-    let three = scaling.three;
-    let hs = three.hs;
-    publish_six(block, hs)
+    publish(block, &scaling.three.hs)
 }
 
 pub fn mul_hs(scaling: Scaling, y: &mut [f64], x: &[f64]) -> u32
@@ -165,11 +162,10 @@ pub fn mul_hs(scaling: Scaling, y: &mut [f64], x: &[f64]) -> u32
     if code != 0 {
         return code;
     }
-    let cone = scaling.cone;
-    let kind = cone.kind;
+    let kind = scaling.cone.kind;
     if kind == 3 {
         let product = wide_product(scaling, x);
-        return publish_wide(y, product);
+        return publish_wide(y, &product);
     }
     let three = scaling.three;
     let hs = three.hs;

@@ -25,8 +25,7 @@ fn alpha_if_power(cone: Cone) -> f64
 {
     let kind = cone.kind;
     if kind == 2 {
-        let exps = cone.exps;
-        return exps[0];
+        return cone.exps[0];
     }
     0.0
 }
@@ -52,31 +51,18 @@ fn new_three(cone: Cone, s: [f64; 3], z: [f64; 3], mu: f64, strategy: u32) -> At
 fn wide_at(w: Wide, z: [f64; 64], mu: f64) -> Wide
     ensures { λ r. ⌜ r ≡ wideAt w z mu ⌝ }
 {
-    let grad = w.grad;
-    let p = w.p;
-    let q = w.q;
-    let r = w.r;
-    let d1 = w.d1;
-    Wide {
-        z,
-        mu,
-        grad,
-        p,
-        q,
-        r,
-        d1,
-        d2: w.d2,
-    }
+    let mut new = w;
+    new.z = z;
+    new.mu = mu;
+    new
 }
 
 fn new_wide(cone: Cone, z: &[f64], mu: f64) -> Attempt
     requires { ⌜ (cone .dim1 ≤ 32) × (cone .dim2 ≤ 32) × (length (now z) ≡ cone .dim1 + cone .dim2) ⌝ }
     ensures { λ r. ⌜ r ≡ newWide cone (now (z .entry)) mu ⌝ }
 {
-    let exps = cone.exps;
-    let dual = genpowcone::update_dual_grad_h(head(&exps, cone.dim1 as usize), z);
-    let w = dual.wide;
-    let wide = wide_at(w, wide_of(z), mu);
+    let dual = genpowcone::update_dual_grad_h(head(&cone.exps, cone.dim1 as usize), z);
+    let wide = wide_at(dual.wide, wide_of(z), mu);
     let three = no_three();
     attempted(cone, dual.panics, three, wide)
 }
@@ -106,8 +92,7 @@ pub fn three_gradient(cone: Cone, s: [f64; 3]) -> Gradient
 {
     let kind = cone.kind;
     if kind == 2 {
-        let exps = cone.exps;
-        let power = powcone::gradient_primal(exps[0], s);
+        let power = powcone::gradient_primal(cone.exps[0], s);
         let g = power.g;
         return Gradient {
             panics: false,
@@ -124,47 +109,46 @@ pub fn three_gradient(cone: Cone, s: [f64; 3]) -> Gradient
     }
 }
 
-// The exponents in use, and the tail that the record keeps, are cut from arrays by value.
-pub fn wide_gradient(
-    exps: [f64; 32],
+// The exponents in use, and the tail that the record keeps, are the heads of what is lent.
+pub fn wide_gradient<'a>(
+    exps: &'a [f64],
     dim1: usize,
     s: &[f64],
-    w: [f64; 32],
+    w: &'a [f64],
     dim2: usize,
 ) -> genpowcone::Gradient
     requires { ⌜ (dim1 ≤ 32) × (dim2 ≤ 32) ⌝ }
-    ensures { λ r. ⌜ r ≡ wideGradient exps dim1 (now (s .entry)) w dim2 ⌝ }
+    ensures { λ r. ⌜ r ≡ wideGradient (now (exps .entry)) dim1 (now (s .entry)) (now (w .entry)) dim2 ⌝ }
 {
-    genpowcone::gradient_primal(head(&exps, dim1), s, head(&w, dim2))
+    genpowcone::gradient_primal(head(exps, dim1), s, head(w, dim2))
 }
 
 // ---- barriers
 
-fn wide_barrier(exps: [f64; 32], dim1: usize, s: &[f64], w: [f64; 32], dim2: usize) -> f64
+fn wide_barrier<'a>(exps: &'a [f64], dim1: usize, s: &[f64], w: &'a [f64], dim2: usize) -> f64
     requires { ⌜ (dim1 ≤ 32) × (dim2 ≤ 32) ⌝ }
-    ensures { λ r. ⌜ r ≡ wideBarrier exps dim1 (now (s .entry)) w dim2 ⌝ }
+    ensures { λ r. ⌜ r ≡ wideBarrier (now (exps .entry)) dim1 (now (s .entry)) (now (w .entry)) dim2 ⌝ }
 {
-    genpowcone::barrier_primal(head(&exps, dim1), s, head(&w, dim2))
+    genpowcone::barrier_primal(head(exps, dim1), s, head(w, dim2))
 }
 
 pub fn primal_barrier(scaling: Scaling, s: &[f64]) -> Valued
     requires { ⌜ WideCall (scaling .cone) (now s) ⌝ }
     ensures { λ r. ⌜ r ≡ primalBarrierOf scaling (now (s .entry)) ⌝ }
 {
-    let cone = scaling.cone;
-    let kind = cone.kind;
-    let exps = cone.exps;
+    let kind = scaling.cone.kind;
     if kind == 3 {
-        let wide = scaling.wide;
-        let w = wide.r;
-        let value = wide_barrier(exps, cone.dim1 as usize, s, w, cone.dim2 as usize);
+        let dim1 = scaling.cone.dim1 as usize;
+        let dim2 = scaling.cone.dim2 as usize;
+        let value = wide_barrier(&scaling.cone.exps, dim1, s, &scaling.wide.r, dim2);
         return Valued {
             panics: false,
             value,
         };
     }
     if kind == 2 {
-        let value = powcone::barrier_primal(exps[0], three_of(s));
+        let cone = scaling.cone;
+        let value = powcone::barrier_primal(cone.exps[0], three_of(s));
         return Valued {
             panics: false,
             value,
@@ -177,21 +161,21 @@ pub fn primal_barrier(scaling: Scaling, s: &[f64]) -> Valued
     }
 }
 
-fn wide_combined(
-    exps: [f64; 32],
+fn wide_combined<'a>(
+    exps: &'a [f64],
     dim1: usize,
     z: &[f64],
     s: &[f64],
     dz: &[f64],
     ds: &[f64],
     alpha: f64,
-    w: [f64; 32],
+    w: &'a [f64],
     dim2: usize,
 ) -> f64
     requires { ⌜ (dim1 ≤ 32) × (dim2 ≤ 32) × (length (now s) ≤ 64) × (length (now z) ≤ 64) ⌝ }
-    ensures { λ r. ⌜ r ≡ wideCombined exps dim1 (now (z .entry)) (now (s .entry)) (now (dz .entry)) (now (ds .entry)) alpha w dim2 ⌝ }
+    ensures { λ r. ⌜ r ≡ wideCombined (now (exps .entry)) dim1 (now (z .entry)) (now (s .entry)) (now (dz .entry)) (now (ds .entry)) alpha (now (w .entry)) dim2 ⌝ }
 {
-    genpowcone::compute_barrier(head(&exps, dim1), z, s, dz, ds, alpha, head(&w, dim2))
+    genpowcone::compute_barrier(head(exps, dim1), z, s, dz, ds, alpha, head(w, dim2))
 }
 
 fn three_combined(
@@ -206,8 +190,7 @@ fn three_combined(
 {
     let kind = cone.kind;
     if kind == 2 {
-        let exps = cone.exps;
-        let value = powcone::compute_barrier(exps[0], z, s, dz, ds, alpha);
+        let value = powcone::compute_barrier(cone.exps[0], z, s, dz, ds, alpha);
         return Valued {
             panics: false,
             value,
@@ -231,22 +214,20 @@ pub fn combined_barrier(
     requires { ⌜ (WideCall (scaling .cone) (now z)) × (WideCall (scaling .cone) (now s)) ⌝ }
     ensures { λ r. ⌜ r ≡ combinedBarrierOf scaling (now (z .entry)) (now (s .entry)) (now (dz .entry)) (now (ds .entry)) alpha ⌝ }
 {
-    let cone = scaling.cone;
-    let kind = cone.kind;
+    let kind = scaling.cone.kind;
     if kind == 3 {
-        let exps = cone.exps;
-        let wide = scaling.wide;
-        let w = wide.r;
+        let dim1 = scaling.cone.dim1 as usize;
+        let dim2 = scaling.cone.dim2 as usize;
         let value = wide_combined(
-            exps,
-            cone.dim1 as usize,
+            &scaling.cone.exps,
+            dim1,
             z,
             s,
             dz,
             ds,
             alpha,
-            w,
-            cone.dim2 as usize,
+            &scaling.wide.r,
+            dim2,
         );
         return Valued {
             panics: false,
@@ -254,7 +235,7 @@ pub fn combined_barrier(
         };
     }
     three_combined(
-        cone,
+        scaling.cone,
         three_of(z),
         three_of(s),
         three_of(dz),
@@ -265,20 +246,19 @@ pub fn combined_barrier(
 
 // ---- get_Hs, mul_Hs of kind 3
 
-pub fn wide_block(mu: f64, d1: [f64; 32], dim1: usize, d2: f64, dim2: usize) -> [f64; 64]
+pub fn wide_block(mu: f64, d1: &[f64], dim1: usize, d2: f64, dim2: usize) -> [f64; 64]
     requires { ⌜ (dim1 ≤ 32) × (dim2 ≤ 32) ⌝ }
-    ensures { λ r. ⌜ r ≡ wideBlock mu d1 dim1 d2 dim2 ⌝ }
+    ensures { λ r. ⌜ r ≡ wideBlock mu (now (d1 .entry)) dim1 d2 dim2 ⌝ }
 {
-    genpowcone::get_hs(mu, head(&d1, dim1), d2, dim2)
+    genpowcone::get_hs(mu, head(d1, dim1), d2, dim2)
 }
 
 pub fn wide_product(scaling: Scaling, x: &[f64]) -> [f64; 64]
     requires { ⌜ (scaling .cone .dim1 ≤ 32) × (length (now x) ≤ scaling .cone .dim1 + 32) ⌝ }
     ensures { λ r. ⌜ r ≡ wideProduct scaling (now (x .entry)) ⌝ }
 {
-    let cone = scaling.cone;
-    let wide = scaling.wide;
-    genpowcone::mul_hs(wide, cone.dim1 as usize, x)
+    let dim1 = scaling.cone.dim1 as usize;
+    genpowcone::mul_hs(scaling.wide, dim1, x)
 }
 
 // ---- correction and combined shift of kinds 1 and 2
@@ -286,14 +266,13 @@ pub fn wide_product(scaling: Scaling, x: &[f64]) -> [f64; 64]
 pub fn correction(scaling: Scaling, ds: [f64; 3], v: [f64; 3]) -> [f64; 3]
     ensures { λ r. ⌜ r ≡ correctionOf scaling ds v ⌝ }
 {
-    let cone = scaling.cone;
     let three = scaling.three;
     let h = three.hdual;
     let z = three.z;
-    let kind = cone.kind;
+    let kind = scaling.cone.kind;
     if kind == 2 {
-        let exps = cone.exps;
-        return powcorrection::higher_correction(exps[0], h, z, ds, v);
+        let cone = scaling.cone;
+        return powcorrection::higher_correction(cone.exps[0], h, z, ds, v);
     }
     expcone::higher_correction(h, z, ds, v)
 }
@@ -301,15 +280,14 @@ pub fn correction(scaling: Scaling, ds: [f64; 3], v: [f64; 3]) -> [f64; 3]
 pub fn shift(scaling: Scaling, stepz: [f64; 3], steps: [f64; 3], sigmamu: f64) -> [f64; 3]
     ensures { λ r. ⌜ r ≡ shiftOf scaling stepz steps sigmamu ⌝ }
 {
-    let cone = scaling.cone;
     let three = scaling.three;
     let h = three.hdual;
     let z = three.z;
     let grad = three.grad;
-    let kind = cone.kind;
+    let kind = scaling.cone.kind;
     if kind == 2 {
-        let exps = cone.exps;
-        return powcorrection::combined_ds_shift(exps[0], h, z, grad, stepz, steps, sigmamu);
+        let cone = scaling.cone;
+        return powcorrection::combined_ds_shift(cone.exps[0], h, z, grad, stepz, steps, sigmamu);
     }
     expcone::combined_ds_shift(h, z, grad, stepz, steps, sigmamu)
 }

@@ -23,20 +23,13 @@ pub fn publish_three(out: &mut [f64], ans: [f64; 3]) -> u32
     publish(out, &ans)
 }
 
-pub fn publish_six(out: &mut [f64], ans: [f64; 6]) -> u32
-    requires { ⌜ length (now out) ≡ 6 ⌝ }
-    ensures { λ r. ⌜ record { answer = r; slice = now (out .exit) } ≡ publishOf (now (out .entry)) ans ⌝ }
-{
-    publish(out, &ans)
-}
-
-// As many of the 64 places as the slice has.
-pub fn publish_wide(out: &mut [f64], ans: [f64; 64]) -> u32
-    requires { ⌜ length (now out) ≤ 64 ⌝ }
-    ensures { λ r. ⌜ record { answer = r; slice = now (out .exit) } ≡ publishOf (now (out .entry)) (take (length (now (out .entry))) ans) ⌝ }
+// As many places as the slice has.
+pub fn publish_wide(out: &mut [f64], ans: &[f64]) -> u32
+    requires { ⌜ length (now out) ≤ length (now ans) ⌝ }
+    ensures { λ r. ⌜ record { answer = r; slice = now (out .exit) } ≡ publishOf (now (out .entry)) (take (length (now (out .entry))) (now (ans .entry))) ⌝ }
 {
     let n = out.len();
-    publish(out, head(&ans, n))
+    publish(out, head(ans, n))
 }
 
 // A published gradient's count; a refusal counts 0.

@@ -1,11 +1,11 @@
 -- A call that its rows let through: the cone is good, the slices have its length, and of kind 3 the arrays suffice. Assumes nothing.
-use mathlib.Core.Path.{_≡_, _∙_}
+use mathlib.Core.Path.{_≡_, _∙_, ap}
 use mathlib.Core.Bool.{Bool, true}
 use mathlib.Core.List.{List}
 use Prim.Native.Nat.{ℕ, _+_, _≤_}
 use native.Mathlib.Omega.{arith}
 use lib.Ieee.{Float}
-use lib.ListN.{length, take}
+use lib.ListN.{length, take, length-take}
 use Rattle.cone.specs.declared.Cone.{Cone}
 use Rattle.cone.specs.declared.Scaling.{Scaling}
 use Rattle.cone.specs.Judges.{coneOk, numelOf, blockOf}
@@ -87,11 +87,10 @@ point-fits n m exps z p l e =
     let u = used-length n exps l (p .0) e in
     (omega (arith, u, p .0), omega (arith, u, p .1, p .2))
 
--- two parts of 32 places
-pub parts-fit : (n m : ℕ) (exps w : List Float) {α t : List Float} → n ≤ 32 → m ≤ 32 → length exps ≡ 32 → length w ≡ 32 → α ≡ take n exps → t ≡ take m w
-    → length α + length t ≤ 64
-parts-fit n m exps w hn hm l k e f = omega (arith, used-length n exps l hn e, used-length m w k hm f)
+-- two parts of at most 32 places each
+pub parts-fit : (n m : ℕ) (exps w : List Float) {α t : List Float} → n ≤ 32 → m ≤ 32 → α ≡ take n exps → t ≡ take m w → length α + length t ≤ 64
+parts-fit n m exps w hn hm e f = omega (arith, ap length e ∙ length-take n exps, ap length f ∙ length-take m w)
 
--- a part of 32 places beside a count
-pub part-fits : (n m : ℕ) (d : List Float) {t : List Float} → n ≤ 32 → m ≤ 32 → length d ≡ 32 → t ≡ take n d → length t + m ≤ 64
-part-fits n m d hn hm l e = omega (arith, used-length n d l hn e)
+-- a part of at most 32 places beside a count
+pub part-fits : (n m : ℕ) (d : List Float) {t : List Float} → n ≤ 32 → m ≤ 32 → t ≡ take n d → length t + m ≤ 64
+part-fits n m d hn hm e = omega (arith, ap length e ∙ length-take n d)

@@ -14,12 +14,11 @@ use double::is_finite;
 pub fn update_rows(scaling: Scaling, s: &[f64], z: &[f64], mu: f64, strategy: u32) -> u32
     ensures { λ r. ⌜ r ≡ updateRows scaling (now (s .entry)) (now (z .entry)) mu strategy ⌝ }
 {
-    let cone = scaling.cone;
-    let n = numel(cone);
+    let n = numel(scaling.cone);
     let bad2 = (s.len() != n) | (z.len() != n);
     let bad3 = !(record_finite(scaling) & all_finite(s) & all_finite(z) & is_finite(mu));
     row(
-        !cone_ok(cone),
+        !cone_ok(scaling.cone),
         1,
         row(bad2, 2, row(bad3, 3, row(!strategy_ok(strategy), 4, 0))),
     )
@@ -29,19 +28,17 @@ pub fn update_rows(scaling: Scaling, s: &[f64], z: &[f64], mu: f64, strategy: u3
 fn unscaled_wide(scaling: Scaling) -> bool
     ensures { λ r. ⌜ r ≡ unscaledWide scaling ⌝ }
 {
-    let cone = scaling.cone;
-    (cone.kind == 3) & !scaling.scaled
+    (scaling.cone.kind == 3) & !scaling.scaled
 }
 
 pub fn gradient_rows(scaling: Scaling, g: usize, s: &[f64]) -> u32
     ensures { λ r. ⌜ r ≡ gradientRows scaling g (now (s .entry)) ⌝ }
 {
-    let cone = scaling.cone;
-    let n = numel(cone);
+    let n = numel(scaling.cone);
     let bad2 = (g != n) | (s.len() != n);
     let bad3 = !(record_finite(scaling) & all_finite(s));
     row(
-        !cone_ok(cone),
+        !cone_ok(scaling.cone),
         1,
         row(bad2, 2, row(bad3, 3, row(unscaled_wide(scaling), 5, 0))),
     )
@@ -50,11 +47,10 @@ pub fn gradient_rows(scaling: Scaling, g: usize, s: &[f64]) -> u32
 pub fn barrier_rows(scaling: Scaling, s: &[f64]) -> u32
     ensures { λ r. ⌜ r ≡ barrierRows scaling (now (s .entry)) ⌝ }
 {
-    let cone = scaling.cone;
-    let n = numel(cone);
+    let n = numel(scaling.cone);
     let bad3 = !(record_finite(scaling) & all_finite(s));
     row(
-        !cone_ok(cone),
+        !cone_ok(scaling.cone),
         1,
         row(
             s.len() != n,
@@ -81,12 +77,11 @@ pub fn compute_rows(
 ) -> u32
     ensures { λ r. ⌜ r ≡ computeRows scaling (now (z .entry)) (now (s .entry)) (now (dz .entry)) (now (ds .entry)) alpha ⌝ }
 {
-    let cone = scaling.cone;
-    let n = numel(cone);
+    let n = numel(scaling.cone);
     let bad2 = (z.len() != n) | (s.len() != n) | (dz.len() != n) | (ds.len() != n);
     let bad3 = !(record_finite(scaling) & sides_finite(z, s, dz, ds) & is_finite(alpha));
     row(
-        !cone_ok(cone),
+        !cone_ok(scaling.cone),
         1,
         row(bad2, 2, row(bad3, 3, row(unscaled_wide(scaling), 5, 0))),
     )
@@ -95,11 +90,10 @@ pub fn compute_rows(
 pub fn block_rows(scaling: Scaling, block: usize) -> u32
     ensures { λ r. ⌜ r ≡ blockRows scaling block ⌝ }
 {
-    let cone = scaling.cone;
-    let n = block_len(cone);
+    let n = block_len(scaling.cone);
     let bad3 = !record_finite(scaling);
     row(
-        !cone_ok(cone),
+        !cone_ok(scaling.cone),
         1,
         row(block != n, 2, row(bad3, 3, row(!scaling.scaled, 5, 0))),
     )
@@ -108,12 +102,11 @@ pub fn block_rows(scaling: Scaling, block: usize) -> u32
 pub fn product_rows(scaling: Scaling, y: usize, x: &[f64]) -> u32
     ensures { λ r. ⌜ r ≡ productRows scaling y (now (x .entry)) ⌝ }
 {
-    let cone = scaling.cone;
-    let n = numel(cone);
+    let n = numel(scaling.cone);
     let bad2 = (y != n) | (x.len() != n);
     let bad3 = !(record_finite(scaling) & all_finite(x));
     row(
-        !cone_ok(cone),
+        !cone_ok(scaling.cone),
         1,
         row(bad2, 2, row(bad3, 3, row(!scaling.scaled, 5, 0))),
     )
@@ -123,8 +116,7 @@ pub fn product_rows(scaling: Scaling, y: usize, x: &[f64]) -> u32
 pub fn correction_rows(scaling: Scaling, out: usize, a: &[f64], b: &[f64], numbers: bool) -> u32
     ensures { λ r. ⌜ r ≡ correctionRows scaling out (now (a .entry)) (now (b .entry)) numbers ⌝ }
 {
-    let cone = scaling.cone;
-    let bad1 = !cone_ok(cone) | (cone.kind == 3);
+    let bad1 = !cone_ok(scaling.cone) | (scaling.cone.kind == 3);
     let bad2 = (out != 3) | (a.len() != 3) | (b.len() != 3);
     let bad3 = !(record_finite(scaling) & all_finite(a) & all_finite(b) & numbers);
     row(

@@ -1,24 +1,27 @@
--- One turn of a loop that tests every place of a slice, where it stops, and its end; over any test. Assumes nothing.
-use mathlib.Core.Path.{_≡_, refl, _∙_}
-use mathlib.Core.Bool.{Bool, true, false}
+-- One turn of a loop that tests every place of a slice, and its end; over any test. `all` is what the loop holds: whether the places behind it passed. Assumes nothing.
+use mathlib.Core.Path.{_≡_, refl, sym, _∙_, ap}
+use mathlib.Core.Bool.{Bool, true, false, _&&_}
 use mathlib.Core.List.{List, [], _∷_}
-use Prim.Native.Nat.{ℕ, _+_, _<_, _≤_}
+use Prim.Native.Nat.{ℕ, suc, _+_, _<_, _≤_}
 use native.Mathlib.Numerals.{add-one}
-use native.Mathlib.Omega.{arith}
 use lib.ListN.{length, getD, drop, drop-of-length-le}
 use lib.Seq.{drop-cons}
 use lib.Ieee.{Float, nan}
 use Rattle.cone.specs.Judges.{allOf}
 
-module _ (p : Float → Bool) (xs : List Float) (i : ℕ) where
-  pub all-stop : i < length xs → p (getD xs i nan) ≡ false → allOf p (drop i xs) ≡ false
-  unfolding allOf
-  all-stop h e = rw (drop-cons xs i nan, e)
+and-assoc : (a b c : Bool) → (a && (b && c)) ≡ (a && b && c)
+and-assoc true b c = refl
+and-assoc false b c = refl
 
-  pub all-step : i < length xs → p (getD xs i nan) ≡ true → allOf p (drop i xs) ≡ allOf p (drop (i + 1) xs)
-  unfolding allOf
-  all-step h e = rw (add-one, drop-cons xs i nan, e)
+and-true : (a : Bool) → (a && true) ≡ a
+and-true true = refl
+and-true false = refl
 
-  pub all-end : length xs ≤ i → allOf p (drop i xs) ≡ true
+module _ (p : Float → Bool) (xs : List Float) (i : ℕ) (all : Bool) where
+  pub all-next : i < length xs → (all && allOf p (drop i xs)) ≡ (all && p (getD xs i nan) && allOf p (drop (i + 1) xs))
   unfolding allOf
-  all-end h = rw (drop-of-length-le xs {i = i} h)
+  all-next h = rw (add-one, drop-cons xs i nan) (and-assoc all (p (getD xs i nan)) (allOf p (drop (suc i) xs)))
+
+  pub all-ended : length xs ≤ i → (all && allOf p (drop i xs)) ≡ all
+  unfolding allOf
+  all-ended h = rw (drop-of-length-le xs {i = i} h) (and-true all)

@@ -2,6 +2,7 @@
 use mathlib.Core.Path.{_≡_, _∙_, sym, ap}
 use mathlib.Core.List.{List}
 use Prim.Native.Nat.{ℕ}
+use native.Mathlib.Omega.{arith}
 use lib.Ieee.{Float}
 use lib.ListN.{length, take}
 use borrow.Author.Tests.{eq-eqb, ne-eqb}
@@ -34,24 +35,28 @@ returns : tie.Need-returns
 unfolding getHsOf
 returns c = refused _ _ _ _ (c .before .block-rows .ensures) (c .if1 .taken)
 
-cast-wide-block : tie.Need-cast-wide-block
-cast-wide-block c = search needs
+cast-dim1 : tie.Need-cast-dim1
+cast-dim1 c = search needs
 
-cast-wide-block-2 : tie.Need-cast-wide-block-2
-cast-wide-block-2 c = search needs
+cast-dim2 : tie.Need-cast-dim2
+cast-dim2 c = search needs
 
 wide-block-requires : tie.Need-wide-block-requires
 wide-block-requires c κs =
-    let by-kind = c .before .before .before .before in
-    let let-through = by-kind .before .before in
+    let by-kind = c .before .before .before in
+    let let-through = by-kind .before in
     let judged = let-through .before in
     dims _ (block-call _ _ (sym (judged .block-rows .ensures) ∙ let-through .if1 .left) .0) (by-kind .if2 .taken)
 
+slice-aggregate-publish-wide : tie.Need-slice-aggregate-publish-wide
+slice-aggregate-publish-wide c = search needs
+
 publish-wide-requires : tie.Need-publish-wide-requires
 publish-wide-requires c κs =
-    let let-through = c .before .before .before .before .before .before .before .before in
+    let let-through = c .before .before .before .before .before .before .before in
     let judged = let-through .before in
-    let b = block-call _ _ (sym (judged .block-rows .ensures) ∙ let-through .if1 .left) in block-fits _ (b .0) _ (b .1)
+    let b = block-call _ _ (sym (judged .block-rows .ensures) ∙ let-through .if1 .left) in
+    omega (arith, block-fits _ (b .0) _ (b .1))
 
 same-length : tie.Need-same-length
 same-length c = search needs
@@ -59,20 +64,20 @@ same-length c = search needs
 returns-2 : tie.Need-returns-2
 returns-2 c =
     let published = c .before .before in
-    let at-wide-block = published .before .before in
-    let by-kind = at-wide-block .before .before .before .before .before in
-    let let-through = by-kind .before .before in
+    let at-wide-block = published .before .before .before in
+    let by-kind = at-wide-block .before .before .before .before in
+    let let-through = by-kind .before in
     let judged = let-through .before in
     let start = judged .before .before in
-    diagonal-answer (start .args .scaling) (start .args .block .now) _ (judged .block-rows .ensures) (let-through .if1 .left) (by-kind .if2 .taken)
+    diagonal-answer _ (start .args .block .now) _ (judged .block-rows .ensures) (let-through .if1 .left) (by-kind .if2 .taken)
     (published .publish-wide .ensures) (at-wide-block .wide-block .ensures)
 
-publish-six-requires : tie.Need-publish-six-requires
-publish-six-requires c κs =
-    let by-kind = c .before .before .before in
-    let let-through = by-kind .before .before in
+publish-requires : tie.Need-publish-requires
+publish-requires c κs =
+    let by-kind = c .before .before .before .before in
+    let let-through = by-kind .before in
     let judged = let-through .before in
-    six-numbers _ _ (block-call _ _ (sym (judged .block-rows .ensures) ∙ let-through .if1 .left) .1) (by-kind .if2 .left)
+    omega (arith, six-numbers _ _ (block-call _ _ (sym (judged .block-rows .ensures) ∙ let-through .if1 .left) .1) (by-kind .if2 .left))
 
 same-length-2 : tie.Need-same-length-2
 same-length-2 c = search needs
@@ -80,11 +85,11 @@ same-length-2 c = search needs
 returns-3 : tie.Need-returns-3
 returns-3 c =
     let published = c .before .before in
-    let by-kind = published .before .before .before .before in
-    let let-through = by-kind .before .before in
+    let by-kind = published .before .before .before .before .before in
+    let let-through = by-kind .before in
     let judged = let-through .before in
     let start = judged .before .before in
-    block-answer (start .args .scaling) (start .args .block .now) _ (judged .block-rows .ensures) (let-through .if1 .left) (by-kind .if2 .left) (published .publish-six .ensures)
+    block-answer _ (start .args .block .now) _ (judged .block-rows .ensures) (let-through .if1 .left) (by-kind .if2 .left) (published .publish .ensures)
 
 pub get-hs-spec : {M : Type 1} → statement M
 get-hs-spec =
@@ -92,12 +97,13 @@ get-hs-spec =
     (tie.spec
     block-rows-requires
     returns
-    cast-wide-block
-    cast-wide-block-2
+    cast-dim1
+    cast-dim2
     wide-block-requires
+    slice-aggregate-publish-wide
     publish-wide-requires
     same-length
     returns-2
-    publish-six-requires
+    publish-requires
     same-length-2
     returns-3)

@@ -36,7 +36,7 @@ returns c = refused _ _ _ _ (c .before .gradient-rows .ensures) (c .if1 .taken)
 
 wide-gradient-primal-requires : tie.Need-wide-gradient-primal-requires
 wide-gradient-primal-requires c κs =
-    let let-through = c .before .before .before in
+    let let-through = c .before .before in
     let judged = let-through .before in
     let g = gradient-call _ _ _ (sym (judged .gradient-rows .ensures) ∙ let-through .if1 .left) in
     let d = dims _ (g .0) (c .before .if2 .taken) in
@@ -49,14 +49,14 @@ returns-2 : tie.Need-returns-2
 returns-2 c =
     let at-wide-gradient-primal = c .before .before in
     let by-kind = at-wide-gradient-primal .before .before in
-    let let-through = by-kind .before .before in
+    let let-through = by-kind .before in
     let judged = let-through .before in
     let start = judged .before .before .before in
     wide-answer (start .args .scaling) (start .args .g .now) (start .args .s .now) _ (judged .gradient-rows .ensures) (let-through .if1 .left) (by-kind .if2 .taken) (at-wide-gradient-primal .wide-gradient-primal .ensures)
 
 three-gradient-primal-requires : tie.Need-three-gradient-primal-requires
 three-gradient-primal-requires c κs =
-    let let-through = c .before .before .before in
+    let let-through = c .before .before in
     let judged = let-through .before in
     three-numbers _ _ (gradient-call _ _ _ (sym (judged .gradient-rows .ensures) ∙ let-through .if1 .left) .1) (c .before .if2 .left)
 
@@ -67,7 +67,7 @@ returns-3 : tie.Need-returns-3
 returns-3 c =
     let at-three-gradient-primal = c .before .before in
     let by-kind = at-three-gradient-primal .before .before in
-    let let-through = by-kind .before .before in
+    let let-through = by-kind .before in
     let judged = let-through .before in
     let start = judged .before .before .before in
     three-answer (start .args .scaling) (start .args .g .now) (start .args .s .now) _ (judged .gradient-rows .ensures) (let-through .if1 .left) (by-kind .if2 .left) (at-three-gradient-primal .three-gradient-primal .ensures)

@@ -2,6 +2,7 @@
 use mathlib.Core.Path.{_≡_, _∙_, sym, ap}
 use mathlib.Core.List.{List}
 use Prim.Native.Nat.{ℕ}
+use native.Mathlib.Omega.{arith}
 use lib.Ieee.{Float}
 use lib.ListN.{length, take}
 use borrow.Author.Tests.{eq-eqb, ne-eqb}
@@ -37,15 +38,19 @@ returns c = refused _ _ _ _ (c .before .product-rows .ensures) (c .if1 .taken)
 
 wide-product-requires : tie.Need-wide-product-requires
 wide-product-requires c κs =
-    let let-through = c .before .before in
+    let let-through = c .before in
     let judged = let-through .before in
     let p = product-call _ _ _ (sym (judged .product-rows .ensures) ∙ let-through .if1 .left) in product-fits _ (p .0) _ (p .2) (c .if2 .taken)
+
+slice-aggregate-publish-wide : tie.Need-slice-aggregate-publish-wide
+slice-aggregate-publish-wide c = search needs
 
 publish-wide-requires : tie.Need-publish-wide-requires
 publish-wide-requires c κs =
     let let-through = c .before .before .before .before in
     let judged = let-through .before in
-    let p = product-call _ _ _ (sym (judged .product-rows .ensures) ∙ let-through .if1 .left) in point-at-most _ (p .0) _ (p .1)
+    let p = product-call _ _ _ (sym (judged .product-rows .ensures) ∙ let-through .if1 .left) in
+    omega (arith, point-at-most _ (p .0) _ (p .1))
 
 same-length : tie.Need-same-length
 same-length c = search needs
@@ -53,9 +58,9 @@ same-length c = search needs
 returns-2 : tie.Need-returns-2
 returns-2 c =
     let published = c .before .before in
-    let at-wide-product = published .before .before in
+    let at-wide-product = published .before .before .before in
     let by-kind = at-wide-product .before in
-    let let-through = by-kind .before .before in
+    let let-through = by-kind .before in
     let judged = let-through .before in
     let start = judged .before .before .before in
     wide-answer (start .args .scaling) (start .args .y .now) (start .args .x .now) _ (judged .product-rows .ensures) (let-through .if1 .left) (by-kind .if2 .taken)
@@ -70,7 +75,7 @@ mul-requires c κs = search needs
 publish-three-requires : tie.Need-publish-three-requires
 publish-three-requires c κs =
     let by-kind = c .before .before .before .before .before in
-    let let-through = by-kind .before .before in
+    let let-through = by-kind .before in
     let judged = let-through .before in
     three-numbers _ _ (product-call _ _ _ (sym (judged .product-rows .ensures) ∙ let-through .if1 .left) .1) (by-kind .if2 .left)
 
@@ -83,7 +88,7 @@ returns-3 c =
     let at-mul = published .before .before in
     let at-three-of = at-mul .before in
     let by-kind = at-three-of .before .before .before in
-    let let-through = by-kind .before .before in
+    let let-through = by-kind .before in
     let judged = let-through .before in
     let start = judged .before .before .before in
     three-answer (start .args .scaling) (start .args .y .now) (start .args .x .now) _ (judged .product-rows .ensures) (let-through .if1 .left) (by-kind .if2 .left)
@@ -96,6 +101,7 @@ mul-hs-spec =
     product-rows-requires
     returns
     wide-product-requires
+    slice-aggregate-publish-wide
     publish-wide-requires
     same-length
     returns-2

@@ -43,7 +43,7 @@ three-gradient-requires c κs = search needs
 returns : tie.Need-returns
 returns c =
     let at-three-of = c .before .before in
-    let start = at-three-of .before .before .before .before in
+    let start = at-three-of .before .before .before in
     panicked (start .args .scaling) (start .args .g .now) (start .args .s .now) (c .before .three-gradient .ensures) (at-three-of .three-of .ensures) (c .if1 .taken)
 
 publish-three-requires : tie.Need-publish-three-requires
@@ -61,7 +61,7 @@ returns-2 c =
     let let-through = at-publish-three .before .before .before in
     let at-three-gradient = let-through .before in
     let at-three-of = at-three-gradient .before in
-    let start = at-three-of .before .before .before .before in
+    let start = at-three-of .before .before .before in
     published (start .args .scaling) (start .args .g .now) (start .args .s .now) (at-three-gradient .three-gradient .ensures) (at-three-of .three-of .ensures) (let-through .if1 .left)
     (at-publish-three .publish-three .ensures) (c .counted .ensures)
 

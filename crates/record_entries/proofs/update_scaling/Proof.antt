@@ -16,7 +16,7 @@ unfolding updateScalingOf
 returns c = refused _ _ _ _ (c .before .update-rows .ensures) (c .if1 .taken)
 
 new-record-requires : tie.Need-new-record-requires
-new-record-requires c κs = update-call _ _ _ _ _ (sym (c .before .before .update-rows .ensures) ∙ c .before .if1 .left)
+new-record-requires c κs = update-call _ _ _ _ _ (sym (c .before .update-rows .ensures) ∙ c .if1 .left)
 
 last-rows-requires : tie.Need-last-rows-requires
 last-rows-requires c κs = search needs
@@ -25,7 +25,7 @@ returns-2 : tie.Need-returns-2
 unfolding updateScalingOf
 returns-2 c =
     let at-new-record = c .before .before in
-    let let-through = at-new-record .before .before in
+    let let-through = at-new-record .before in
     let judged = let-through .before in
     refused _ _ _ _ (c .before .last-rows .ensures ∙ ap lastRows (at-new-record .new-record .ensures)) (c .if2 .taken)
     ∙ done _ _ _ _ (judged .update-rows .ensures) (let-through .if1 .left)
@@ -35,7 +35,7 @@ unfolding updateScalingOf
 returns-3 c =
     let last-judged = c .before .before in
     let at-new-record = last-judged .before in
-    let let-through = at-new-record .before .before in
+    let let-through = at-new-record .before in
     let judged = let-through .before in
     ap completed (at-new-record .new-record .ensures)
     ∙ done _ _ _ _ (last-judged .last-rows .ensures ∙ ap lastRows (at-new-record .new-record .ensures)) (c .before .if2 .left)

@@ -25,11 +25,11 @@ published r g s {a = a} {out = out} e q t =
     ∙ ap (withRounds (a .rounds)) q
     ∙ ap (λ (b : Gradient). withRounds (b .rounds) (publishOf g (take (length g) (b .g)))) e
 
-cast-wide-gradient : tie.Need-cast-wide-gradient
-cast-wide-gradient c = search needs
+cast-dim1 : tie.Need-cast-dim1
+cast-dim1 c = search needs
 
-cast-wide-gradient-2 : tie.Need-cast-wide-gradient-2
-cast-wide-gradient-2 c = search needs
+cast-dim2 : tie.Need-cast-dim2
+cast-dim2 c = search needs
 
 wide-gradient-requires : tie.Need-wide-gradient-requires
 wide-gradient-requires c κs = search needs
@@ -46,16 +46,16 @@ same-length c = search needs
 returns : tie.Need-returns
 returns c =
     let at-publish-wide = c .before .before .before in
-    let at-wide-gradient = at-publish-wide .before .before .before in
-    let start = at-wide-gradient .before .before .before .before .before .before .before .before .before in
-    published (start .args .scaling) (start .args .g .now) (start .args .s .now) (at-wide-gradient .wide-gradient .ensures) (at-publish-wide .publish-wide .ensures) (c .counted .ensures)
+    let at-wide-gradient = at-publish-wide .before .before .before .before .before in
+    let start = at-wide-gradient .before .before .before .before .before .before .before .before in
+    published _ (start .args .g .now) (start .args .s .now) (at-wide-gradient .wide-gradient .ensures) (at-publish-wide .publish-wide .ensures) (c .counted .ensures)
 
 pub wide-gradient-primal-spec : {M : Type 1} → statement M
 wide-gradient-primal-spec =
     tie.close
     (tie.spec
-    cast-wide-gradient
-    cast-wide-gradient-2
+    cast-dim1
+    cast-dim2
     wide-gradient-requires
     publish-wide-requires
     counted-requires

@@ -1,22 +1,21 @@
--- `all_finite` meets its contract. The loop's invariant: all of the slice passes exactly if what is left of it does. The measure is
--- what is left of the length. Assumes nothing.
-use mathlib.Core.Path.{_≡_, refl, sym, _∙_}
-use Prim.Native.Nat.{_≤_, _-_}
+-- `all_finite` meets its contract. The loop's invariant: all of the slice passes exactly if what is behind does and what is left of it does. The measure is what is left of the length. Assumes nothing.
+use mathlib.Core.Path.{_≡_, refl, sym, _∙_, ap}
+use mathlib.Core.Bool.{Bool, _&&_}
+use Prim.Native.Nat.{_≤_, _-_, _+_}
 use native.Mathlib.Omega.{arith}
 use lib.ListN.{length, drop}
 use lib.Ieee.Scale.{finite}
-use borrow.Author.Needs.{needs}
-use borrow.Author.Tests.{not-true, not-false}
 use Rattle.cone.specs.Judges.{allOf}
-use Rattle.cone.proofs.judge.Folds.{all-stop, all-step, all-end}
+use borrow.Author.Needs.{needs}
+use Rattle.cone.proofs.judge.Folds.{all-next, all-ended}
 use Rattle.cone.proofs.judge.all_finite.Statement.{statement}
 use Rattle.cone.proofs.judge.all_finite.Tie as tie
 
 abbrev Inv-loop : tie.InvT-loop
-Inv-loop xs i₀ i-end i = (i ≤ length xs) × (i-end ≡ length xs) × (allOf finite xs ≡ allOf finite (drop i xs))
+Inv-loop xs all₀ i₀ i-end all i = (i ≤ length xs) × (i-end ≡ length xs) × (allOf finite xs ≡ (all && allOf finite (drop i xs)))
 
 abbrev μ-loop : tie.MeasureT-loop
-μ-loop xs i₀ i-end i = length xs - i
+μ-loop xs all₀ i₀ i-end all i = length xs - i
 
 loop-holds : tie.Need-loop-holds Inv-loop μ-loop
 loop-holds c = (omega arith, refl, refl)
@@ -30,11 +29,6 @@ shared-slice-read-is-finite c = omega arith
 is-finite-requires : tie.Need-is-finite-requires Inv-loop μ-loop
 is-finite-requires c κs = search needs
 
-returns : tie.Need-returns Inv-loop μ-loop
-returns c =
-    let t = c .before .before in
-    sym (t .before .before .loop .inv .2 ∙ all-stop finite (t .before .before .before .before .args .xs .now) (t .before .before .loop .i) (omega arith) (sym (c .before .is-finite .ensures) ∙ not-true _ (c .if1 .taken)))
-
 add-i : tie.Need-add-i Inv-loop μ-loop
 add-i c = omega arith
 
@@ -43,24 +37,12 @@ loop-less c = omega arith
 
 loop-again : tie.Need-loop-again Inv-loop μ-loop
 loop-again c =
-    let t = c .before .before in
-    (omega arith, omega arith, t .before .before .loop .inv .2 ∙ all-step finite (t .before .before .before .before .args .xs .now) (t .before .before .loop .i) (omega arith) (sym (c .before .is-finite .ensures) ∙ not-false _ (c .if1 .left)))
+    let xs = c .before .before .before .before .before .args .xs .now in
+    let at-i = c .before .before .before .loop in
+    (omega arith, refl, at-i .inv .2 ∙ all-next finite xs (at-i .i) (at-i .all) (omega arith) ∙ ap (λ (t : Bool). at-i .all && t && allOf finite (drop (at-i .i + 1) xs)) (sym (c .is-finite .ensures)))
 
-returns-2 : tie.Need-returns-2 Inv-loop μ-loop
-returns-2 c = sym (c .before .loop .inv .2 ∙ all-end finite (c .before .before .before .args .xs .now) (c .before .loop .i) (omega arith))
+returns : tie.Need-returns Inv-loop μ-loop
+returns c = sym (c .before .loop .inv .2 ∙ all-ended finite _ (c .before .loop .i) (c .before .loop .all) (omega arith))
 
 pub all-finite-spec : {M : Type 1} → statement M
-all-finite-spec =
-    tie.close
-    (tie.spec
-    Inv-loop
-    μ-loop
-    loop-holds
-    mul-is-finite
-    shared-slice-read-is-finite
-    is-finite-requires
-    returns
-    add-i
-    loop-less
-    loop-again
-    returns-2)
+all-finite-spec = tie.close (tie.spec Inv-loop μ-loop loop-holds mul-is-finite shared-slice-read-is-finite is-finite-requires add-i loop-less loop-again returns)

@@ -5,14 +5,11 @@ use borrow.Author.Needs.{needs}
 use Rattle.cone.proofs.judge.cone_ok.Statement.{statement}
 use Rattle.cone.proofs.judge.cone_ok.Tie as tie
 
-array-read-power-ok : tie.Need-array-read-power-ok
-array-read-power-ok c = search needs
+element-copy-out-power-ok : tie.Need-element-copy-out-power-ok
+element-copy-out-power-ok c = search needs
 
 power-ok-requires : tie.Need-power-ok-requires
 power-ok-requires c κs = search needs
-
-slice-aggregate-wide-ok : tie.Need-slice-aggregate-wide-ok
-slice-aggregate-wide-ok c = search needs
 
 wide-ok-requires : tie.Need-wide-ok-requires
 wide-ok-requires c κs = search needs
@@ -23,11 +20,11 @@ returns c = simp (c .match .keys1)
 
 returns-2 : tie.Need-returns-2
 unfolding coneOk
-returns-2 c = simp (c .before .match .keys2) (c .power-ok .ensures)
+returns-2 c = simp (c .before .before .match .keys2) (c .power-ok .ensures)
 
 returns-3 : tie.Need-returns-3
 unfolding coneOk
-returns-3 c = simp (c .before .before .match .keys3) (c .wide-ok .ensures)
+returns-3 c = simp (c .before .before .before .before .match .keys3) (c .wide-ok .ensures)
 
 returns-4 : tie.Need-returns-4
 unfolding coneOk
@@ -37,9 +34,8 @@ pub cone-ok-spec : {M : Type 1} → statement M
 cone-ok-spec =
     tie.close
     (tie.spec
-    array-read-power-ok
+    element-copy-out-power-ok
     power-ok-requires
-    slice-aggregate-wide-ok
     wide-ok-requires
     returns
     returns-2

@@ -10,14 +10,14 @@ wide-finite-requires c κs = search needs
 
 returns : tie.Need-returns
 unfolding recordFinite
-returns c = simp (eq-eqb _ _ (c .before .before .if1 .taken)) (c .wide-finite .ensures)
+returns c = simp (eq-eqb _ _ (c .before .if1 .taken)) (c .wide-finite .ensures)
 
 three-finite-requires : tie.Need-three-finite-requires
 three-finite-requires c κs = search needs
 
 returns-2 : tie.Need-returns-2
 unfolding recordFinite
-returns-2 c = simp (ne-eqb _ _ (c .before .before .if1 .left)) (c .three-finite .ensures)
+returns-2 c = simp (ne-eqb _ _ (c .before .if1 .left)) (c .three-finite .ensures)
 
 pub record-finite-spec : {M : Type 1} → statement M
 record-finite-spec =

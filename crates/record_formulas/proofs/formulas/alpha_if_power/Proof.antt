@@ -5,8 +5,8 @@ use borrow.Author.Needs.{needs}
 use Rattle.record_formulas.proofs.formulas.alpha_if_power.Statement.{statement}
 use Rattle.record_formulas.proofs.formulas.alpha_if_power.Tie as tie
 
-array-read-result : tie.Need-array-read-result
-array-read-result c = search needs
+element-copy-out-result : tie.Need-element-copy-out-result
+element-copy-out-result c = search needs
 
 returns : tie.Need-returns
 unfolding alphaIfPower
@@ -17,4 +17,4 @@ unfolding alphaIfPower
 returns-2 c = simp (ne-eqb _ _ (c .if1 .left))
 
 pub alpha-if-power-spec : {M : Type 1} → statement M
-alpha-if-power-spec = tie.close (tie.spec array-read-result returns returns-2)
+alpha-if-power-spec = tie.close (tie.spec element-copy-out-result returns returns-2)

@@ -6,16 +6,16 @@ use borrow.Author.Needs.{needs}
 use Rattle.record_formulas.proofs.formulas.combined_barrier.Statement.{statement}
 use Rattle.record_formulas.proofs.formulas.combined_barrier.Tie as tie
 
-cast-wide-combined : tie.Need-cast-wide-combined
-cast-wide-combined c = search needs
+cast-dim1 : tie.Need-cast-dim1
+cast-dim1 c = search needs
 
-cast-wide-combined-2 : tie.Need-cast-wide-combined-2
-cast-wide-combined-2 c = search needs
+cast-dim2 : tie.Need-cast-dim2
+cast-dim2 c = search needs
 
 wide-combined-requires : tie.Need-wide-combined-requires
 wide-combined-requires c κs =
     let let-through = c .before .before .before .before .before in
-    let start = let-through .before .before .before .before .before .before in
+    let start = let-through .before .before .before .before .before in
     let k = let-through .if1 .taken in
     (start .pre .0 .dims k .0, start .pre .0 .dims k .1, sized-at-most _ _ (start .pre .1) k, sized-at-most _ _ (start .pre .0) k)
 
@@ -46,15 +46,15 @@ returns-2 c =
     let at-three-of3 = c .before .before in
     let at-three-of2 = at-three-of3 .before in
     let at-three-of = at-three-of2 .before in
-    let let-through = at-three-of .before in
+    let let-through = at-three-of .before .before in
     simp (ne-eqb _ _ (let-through .if1 .left)) (simp (← at-three-of .three-of .ensures, ← at-three-of2 .three-of2 .ensures, ← at-three-of3 .three-of3 .ensures, ← c .before .three-of4 .ensures) (c .three-combined .ensures))
 
 pub combined-barrier-spec : {M : Type 1} → statement M
 combined-barrier-spec =
     tie.close
     (tie.spec
-    cast-wide-combined
-    cast-wide-combined-2
+    cast-dim1
+    cast-dim2
     wide-combined-requires
     returns
     three-of-requires

@@ -6,15 +6,15 @@ use Rattle.record_formulas.proofs.formulas.correction.Statement.{statem
 use Rattle.record_formulas.proofs.formulas.correction.Tie as tie
 use Rattle.powcorrection.proofs.higher_correction.Reads as higher-correction-reads′
 
-array-read-higher-correction : tie.Need-array-read-higher-correction
-array-read-higher-correction c = search needs
+element-copy-out-higher-correction : tie.Need-element-copy-out-higher-correction
+element-copy-out-higher-correction c = search needs
 
 higher-correction-requires : tie.Need-higher-correction-requires
 higher-correction-requires c κs = search needs
 
 returns : tie.Need-returns
 unfolding correctionOf
-returns c = simp (eq-eqb _ _ (c .before .before .if1 .taken)) (c .higher-correction .ensures)
+returns c = simp (eq-eqb _ _ (c .before .before .before .if1 .taken)) (c .higher-correction .ensures)
 
 higher-correction-requires-2 : tie.Need-higher-correction-requires-2
 higher-correction-requires-2 c κs = search needs
@@ -27,7 +27,7 @@ pub correction-spec : {M : Type 1} → statement M
 correction-spec =
     tie.close
     (tie.spec
-    array-read-higher-correction
+    element-copy-out-higher-correction
     higher-correction-requires
     returns
     higher-correction-requires-2

@@ -5,9 +5,6 @@ use Rattle.record_rows.proofs.LetThrough.{point-fits}
 use Rattle.record_formulas.proofs.formulas.new_wide.Statement.{statement}
 use Rattle.record_formulas.proofs.formulas.new_wide.Tie as tie
 
-slice-aggregate-head : tie.Need-slice-aggregate-head
-slice-aggregate-head c = search needs
-
 cast-head : tie.Need-cast-head
 cast-head c = search needs
 
@@ -17,7 +14,7 @@ head-requires c κs = search needs
 update-dual-grad-h-requires : tie.Need-update-dual-grad-h-requires
 update-dual-grad-h-requires c κs =
     let start = c .before .before .before .before .before in
-    point-fits (start .args .cone .dim1) (start .args .cone .dim2) (start .args .cone .exps) (start .args .z .now) (start .pre) (search needs) (c .head .ensures)
+    point-fits _ (start .args .t1 .dim2) _ (start .args .z .now) (start .pre) (search needs) (c .head .ensures)
 
 wide-of-requires : tie.Need-wide-of-requires
 wide-of-requires c κs = search needs
@@ -36,15 +33,13 @@ unfolding newWide
 returns c =
     let at-wide-at = c .before .before in
     let at-wide-of = at-wide-at .before in
-    let at-update-dual-grad-h = at-wide-of .before .before in
-    let at-head = at-update-dual-grad-h .before in
-    simp (c .attempted .ensures, c .before .no-three .ensures, at-wide-at .wide-at .ensures, at-wide-of .wide-of .ensures, at-update-dual-grad-h .update-dual-grad-h .ensures, at-head .head .ensures)
+    let at-update-dual-grad-h = at-wide-of .before in
+    simp (c .attempted .ensures, c .before .no-three .ensures, at-wide-at .wide-at .ensures, at-wide-of .wide-of .ensures, at-update-dual-grad-h .update-dual-grad-h .ensures, at-update-dual-grad-h .before .head .ensures)
 
 pub new-wide-spec : {M : Type 1} → statement M
 new-wide-spec =
     tie.close
     (tie.spec
-    slice-aggregate-head
     cast-head
     head-requires
     update-dual-grad-h-requires

@@ -6,26 +6,26 @@ use Rattle.record_formulas.proofs.formulas.primal_barrier.Statement.{st
 use Rattle.record_formulas.proofs.formulas.primal_barrier.Tie as tie
 use Rattle.powcone.proofs.barrier_primal.Reads as barrier-primal-reads′
 
-cast-wide-barrier : tie.Need-cast-wide-barrier
-cast-wide-barrier c = search needs
+cast-dim1 : tie.Need-cast-dim1
+cast-dim1 c = search needs
 
-cast-wide-barrier-2 : tie.Need-cast-wide-barrier-2
-cast-wide-barrier-2 c = search needs
+cast-dim2 : tie.Need-cast-dim2
+cast-dim2 c = search needs
 
 wide-barrier-requires : tie.Need-wide-barrier-requires
 wide-barrier-requires c κs =
-    let let-through = c .before .before .before .before in
-    let start = let-through .before .before .before .before in
-    start .pre .dims (let-through .if1 .taken)
+    let by-kind = c .before .before .before .before .before in
+    let start = by-kind .before .before in
+    start .pre .dims (by-kind .if1 .taken)
 
 returns : tie.Need-returns
 unfolding primalBarrierOf
 returns c =
-    let let-through = c .before .before .before .before .before in
-    simp (eq-eqb _ _ (let-through .if1 .taken), c .wide-barrier .ensures)
+    let by-kind = c .before .before .before .before .before .before in
+    simp (eq-eqb _ _ (by-kind .if1 .taken), c .wide-barrier .ensures)
 
-array-read-barrier-primal : tie.Need-array-read-barrier-primal
-array-read-barrier-primal c = search needs
+element-copy-out-barrier-primal : tie.Need-element-copy-out-barrier-primal
+element-copy-out-barrier-primal c = search needs
 
 three-of-requires : tie.Need-three-of-requires
 three-of-requires c κs = search needs
@@ -36,9 +36,8 @@ barrier-primal-requires c κs = search needs
 returns-2 : tie.Need-returns-2
 unfolding primalBarrierOf
 returns-2 c =
-    let by-kind = c .before .before in
-    let let-through = by-kind .before in
-    simp (ne-eqb _ _ (let-through .if1 .left), eq-eqb _ _ (by-kind .if2 .taken), c .barrier-primal .ensures, c .before .three-of .ensures)
+    let by-kind = c .before .before .before .before in
+    simp (ne-eqb _ _ (by-kind .before .if1 .left), eq-eqb _ _ (by-kind .if2 .taken), c .barrier-primal .ensures, c .before .three-of .ensures)
 
 three-of-requires-2 : tie.Need-three-of-requires-2
 three-of-requires-2 c κs = search needs
@@ -50,18 +49,17 @@ returns-3 : tie.Need-returns-3
 unfolding primalBarrierOf
 returns-3 c =
     let by-kind = c .before .before in
-    let let-through = by-kind .before in
-    simp (ne-eqb _ _ (let-through .if1 .left), ne-eqb _ _ (by-kind .if2 .left), c .barrier-primal2 .ensures, c .before .three-of2 .ensures)
+    simp (ne-eqb _ _ (by-kind .before .if1 .left), ne-eqb _ _ (by-kind .if2 .left), c .barrier-primal2 .ensures, c .before .three-of2 .ensures)
 
 pub primal-barrier-spec : {M : Type 1} → statement M
 primal-barrier-spec =
     tie.close
     (tie.spec
-    cast-wide-barrier
-    cast-wide-barrier-2
+    cast-dim1
+    cast-dim2
     wide-barrier-requires
     returns
-    array-read-barrier-primal
+    element-copy-out-barrier-primal
     three-of-requires
     barrier-primal-requires
     returns-2

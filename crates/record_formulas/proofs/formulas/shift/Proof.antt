@@ -6,15 +6,15 @@ use Rattle.record_formulas.proofs.formulas.shift.Statement.{statement}
 use Rattle.record_formulas.proofs.formulas.shift.Tie as tie
 use Rattle.powcorrection.proofs.combined_ds_shift.Reads as combined-ds-shift-reads′
 
-array-read-combined-ds-shift : tie.Need-array-read-combined-ds-shift
-array-read-combined-ds-shift c = search needs
+element-copy-out-combined-ds-shift : tie.Need-element-copy-out-combined-ds-shift
+element-copy-out-combined-ds-shift c = search needs
 
 combined-ds-shift-requires : tie.Need-combined-ds-shift-requires
 combined-ds-shift-requires c κs = search needs
 
 returns : tie.Need-returns
 unfolding shiftOf
-returns c = simp (eq-eqb _ _ (c .before .before .if1 .taken)) (c .combined-ds-shift .ensures)
+returns c = simp (eq-eqb _ _ (c .before .before .before .if1 .taken)) (c .combined-ds-shift .ensures)
 
 combined-ds-shift-requires-2 : tie.Need-combined-ds-shift-requires-2
 combined-ds-shift-requires-2 c κs = search needs
@@ -27,7 +27,7 @@ pub shift-spec : {M : Type 1} → statement M
 shift-spec =
     tie.close
     (tie.spec
-    array-read-combined-ds-shift
+    element-copy-out-combined-ds-shift
     combined-ds-shift-requires
     returns
     combined-ds-shift-requires-2

@@ -6,8 +6,8 @@ use Rattle.record_formulas.proofs.formulas.three_combined.Statement.{st
 use Rattle.record_formulas.proofs.formulas.three_combined.Tie as tie
 use Rattle.powcone.proofs.compute_barrier.Reads as compute-barrier-reads′
 
-array-read-compute-barrier : tie.Need-array-read-compute-barrier
-array-read-compute-barrier c = search needs
+element-copy-out-compute-barrier : tie.Need-element-copy-out-compute-barrier
+element-copy-out-compute-barrier c = search needs
 
 compute-barrier-requires : tie.Need-compute-barrier-requires
 compute-barrier-requires c κs = search needs
@@ -27,7 +27,7 @@ pub three-combined-spec : {M : Type 1} → statement M
 three-combined-spec =
     tie.close
     (tie.spec
-    array-read-compute-barrier
+    element-copy-out-compute-barrier
     compute-barrier-requires
     returns
     compute-barrier-requires-2

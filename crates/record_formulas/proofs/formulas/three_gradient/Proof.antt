@@ -6,8 +6,8 @@ use Rattle.record_formulas.proofs.formulas.three_gradient.Statement.{st
 use Rattle.record_formulas.proofs.formulas.three_gradient.Tie as tie
 use Rattle.powcone.proofs.gradient_primal.Reads as gradient-primal-reads′
 
-array-read-gradient-primal : tie.Need-array-read-gradient-primal
-array-read-gradient-primal c = search needs
+element-copy-out-gradient-primal : tie.Need-element-copy-out-gradient-primal
+element-copy-out-gradient-primal c = search needs
 
 gradient-primal-requires : tie.Need-gradient-primal-requires
 gradient-primal-requires c κs = search needs
@@ -29,7 +29,7 @@ pub three-gradient-spec : {M : Type 1} → statement M
 three-gradient-spec =
     tie.close
     (tie.spec
-    array-read-gradient-primal
+    element-copy-out-gradient-primal
     gradient-primal-requires
     returns
     gradient-primal-requires-2

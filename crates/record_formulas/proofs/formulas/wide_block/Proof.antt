@@ -5,18 +5,15 @@ use borrow.Author.Needs.{needs}
 use Rattle.record_formulas.proofs.formulas.wide_block.Statement.{statement}
 use Rattle.record_formulas.proofs.formulas.wide_block.Tie as tie
 
-slice-aggregate-head : tie.Need-slice-aggregate-head
-slice-aggregate-head c = search needs
-
 head-requires : tie.Need-head-requires
 head-requires c κs = search needs
 
 get-hs-requires : tie.Need-get-hs-requires
-get-hs-requires c κs = part-fits (c .before .before .args .dim1) (c .before .before .args .dim2) (c .before .before .args .t2) (c .before .before .pre .0) (c .before .before .pre .1) (search needs) (c .head .ensures)
+get-hs-requires c κs = part-fits _ _ _ (c .before .before .pre .0) (c .before .before .pre .1) (c .head .ensures)
 
 returns : tie.Need-returns
 unfolding wideBlock
 returns c = simp (← c .before .head .ensures) (c .get-hs .ensures)
 
 pub wide-block-spec : {M : Type 1} → statement M
-wide-block-spec = tie.close (tie.spec slice-aggregate-head head-requires get-hs-requires returns)
+wide-block-spec = tie.close (tie.spec head-requires get-hs-requires returns)

@@ -5,37 +5,20 @@ use borrow.Author.Needs.{needs}
 use Rattle.record_formulas.proofs.formulas.wide_gradient.Statement.{statement}
 use Rattle.record_formulas.proofs.formulas.wide_gradient.Tie as tie
 
-slice-aggregate-head : tie.Need-slice-aggregate-head
-slice-aggregate-head c = search needs
-
 head-requires : tie.Need-head-requires
 head-requires c κs = search needs
-
-slice-aggregate-head-2 : tie.Need-slice-aggregate-head-2
-slice-aggregate-head-2 c = search needs
 
 head-requires-2 : tie.Need-head-requires-2
 head-requires-2 c κs = search needs
 
 gradient-primal-requires : tie.Need-gradient-primal-requires
 gradient-primal-requires c κs =
-    let at-head = c .before .before in
-    let start = at-head .before .before .before in
-    parts-fit (start .args .dim1) (start .args .dim2) (start .args .t1) (start .args .t4) (start .pre .0) (start .pre .1) (search needs) (search needs) (at-head .head .ensures) (c .head2 .ensures)
+    let start = c .before .before .before .before .before in
+    parts-fit _ _ _ _ (start .pre .0) (start .pre .1) (c .before .head .ensures) (c .head2 .ensures)
 
 returns : tie.Need-returns
 unfolding wideGradient
-returns c =
-    let at-head = c .before .before .before in
-    simp (← at-head .head .ensures, ← c .before .head2 .ensures) (c .gradient-primal .ensures)
+returns c = simp (← c .before .before .head .ensures, ← c .before .head2 .ensures) (c .gradient-primal .ensures)
 
 pub wide-gradient-spec : {M : Type 1} → statement M
-wide-gradient-spec =
-    tie.close
-    (tie.spec
-    slice-aggregate-head
-    head-requires
-    slice-aggregate-head-2
-    head-requires-2
-    gradient-primal-requires
-    returns)
+wide-gradient-spec = tie.close (tie.spec head-requires head-requires-2 gradient-primal-requires returns)

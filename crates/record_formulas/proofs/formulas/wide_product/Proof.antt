@@ -4,8 +4,8 @@ use borrow.Author.Needs.{needs}
 use Rattle.record_formulas.proofs.formulas.wide_product.Statement.{statement}
 use Rattle.record_formulas.proofs.formulas.wide_product.Tie as tie
 
-cast-mul-hs : tie.Need-cast-mul-hs
-cast-mul-hs c = search needs
+cast-dim1 : tie.Need-cast-dim1
+cast-dim1 c = search needs
 
 mul-hs-requires : tie.Need-mul-hs-requires
 mul-hs-requires c κs = search needs
@@ -15,4 +15,4 @@ unfolding wideProduct
 returns c = c .mul-hs .ensures
 
 pub wide-product-spec : {M : Type 1} → statement M
-wide-product-spec = tie.close (tie.spec cast-mul-hs mul-hs-requires returns)
+wide-product-spec = tie.close (tie.spec cast-dim1 mul-hs-requires returns)

@@ -71,21 +71,21 @@ $found"
 # rt ci removes target/, and the archive with it. So what needs the archive runs beside it, in a copy of the files.
 copy=$(mktemp -d)
 beside=
-trap '[ -z "$beside" ] || kill "$beside" 2>/dev/null || true; rm -rf "$copy"' EXIT
-trap 'exit 1' HUP INT TERM
+trap '[ -z "$beside" ] || kill -- "-$beside" 2>/dev/null || true; rm -rf "$copy"' EXIT
+trap 'exit 1' HUP INT PIPE TERM
 mkdir "$copy/files"
 tar -cf - --exclude=./target --exclude=./.git . | tar -xf - -C "$copy/files"
 say "what runs over the archive goes on beside rt ci, in a copy of the files; it is shown after it"
-sh "$copy/files/test.sh" --outside >"$copy/outside.txt" 2>&1 &
+setsid sh "$copy/files/test.sh" --outside >"$copy/outside.txt" 2>&1 &
 beside=$!
 
 say "proofs, must-fail edits and programs, from nothing (rt ci)"
 # The last line is held back until the runs over the archive have ended, too.
-{ rt ci 2>&1 && echo 0 >"$copy/status" || echo 1 >"$copy/status"; } | tee "$copy/ci.txt" | sed -u '$d'
+{ rt ci 2>&1 && echo 0 >"$copy/status" || echo 1 >"$copy/status"; } | tee "$copy/ci.txt" | awk 'NR > 1 { print last; fflush() } { last = $0 }'
 passed=0
 wait "$beside" || passed=1
 beside=
 cat "$copy/outside.txt"
 [ $passed = 0 ] || die "a run over the archive failed"
 tail -n 1 "$copy/ci.txt"
-exit "$(cat "$copy/status")"
+[ "$(cat "$copy/status")" = 0 ] || die "rt ci failed"

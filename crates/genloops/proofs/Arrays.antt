@@ -2,8 +2,8 @@
 -- In order: put (from the front), putFrom (from place n on), by them narrow, wide and withTail; then arrays whose used places are a list that has a name:
 -- -x, and x + a·dx.
 use Prim.Native.Nat.{ℕ, zero, suc, _+_, _≤_, _<_, min}
-use mathlib.Core.Path.{_≡_, refl, sym, subst, _∙_, ap}
-use mathlib.Core.List.{List, [], _∷_, map}
+use mathlib.Core.Path.{_≡_, refl, sym, subst, _∙_}
+use mathlib.Core.List.{List, map}
 use mathlib.Core.Logic.{_⊎_, inl, inr}
 use native.Mathlib.Nat.{not-suc-le-zero, eq-or-lt-of-le, le-of-suc-le-suc}
 use native.Mathlib.Omega.{arith}
@@ -11,7 +11,7 @@ use lib.ListN.{length, take, set, replicate, length-set, length-take, length-map
 use lib.Seq.{getD-set-same, getD-set-other, getD-take, ext-getD}
 use lib.Ieee.{Float, nan, neg}
 use Rattle.arith.specs.Turns.{iter}
-use Rattle.double.specs.Operators.{_⊕_, _⊗_, at}
+use Rattle.double.specs.Operators.{at}
 use Rattle.double.specs.Numbers.{#0}
 use Rattle.algebra.specs.Vectors.{movedOf}
 use Rattle.algebra.proofs.Moved.{moved-length, moved-place}

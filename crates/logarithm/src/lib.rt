@@ -28,11 +28,11 @@ fn quotient(d: u64, n: u64) -> u64
     requires { ⌜ (d < 2 ^ 44) × (0 < n) × (512 * d < n) × (n < 2 ^ 54) ⌝ }
     ensures { λ r. ⌜ r ≡ d * 2 ^ 60 / n ⌝ }
 {
-    // 1, the other powers of two, and 1+i/256 times these: the estimate would be wrong.
+    // A shortcut for 1, the other powers of two, and 1+i/256 times these, where the estimate fails.
     if d == 0 {
         return 0;
     }
-    // An estimate, of which nothing is claimed: x is d and y is n / 2^60; beside 2^52 - 1/2 there is no place for a fraction of x / y, and it is rounded down.
+    // An estimate, of which nothing is proved: x is d, and y is n / 2^60 but for n's last bit; beside 2^52 - 1/2 there is no place for a fraction of x / y, and it is rounded down.
     let x = f64::from_bits(0x4330_0000_0000_0000 + d) - 4503599627370496.0;
     let y = f64::from_bits(0x3f70_0000_0000_0000 + n / 2);
     let q = double::to_bits(x / y + 4503599627370495.5) % 0x10_0000_0000_0000;

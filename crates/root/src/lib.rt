@@ -37,7 +37,7 @@ fn near_root(m: u64) -> u64
     requires { ⌜ m < 2 ^ 54 ⌝ }
     ensures { λ r. ⌜ r ≡ nearRoot (m * 2 ^ 52) ⌝ }
 {
-    // An estimate, of which nothing is claimed: the root of x = m / 2^52, from 1 up to 4. A line is within 3 % of it, and Newton's turns make of that
+    // An estimate, of which nothing is proved: the root of x = m / 2^52, from 1 up to 4. A line is within 3 % of it, and Newton's turns make of that
     // twice, four times and eight times the root. A turn's error is half the square of the one before, and never below 0: the factors 1 and 4
     // are lessened by as much, so that it lies on both sides.
     let odd = m / 0x20_0000_0000_0000;

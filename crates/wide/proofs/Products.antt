@@ -3,10 +3,10 @@ use mathlib.Core.Path.{_≡_, ap₂}
 use Prim.Native.Nat.{ℕ, _+_, _*_, _^_, _/_, _%_, _<_}
 use native.Mathlib.Nat.{div-add-mod'}
 use native.Mathlib.Omega.{arith}
-use Rattle.wide.specs.Products.{productOf}
+use Rattle.wide.specs.Products.{wholeOf, productOf}
 
-pub halves-make-product : (a b : ℕ) → productOf a b .hi * 2 ^ 64 + productOf a b .lo ≡ a * b
-unfolding productOf
+pub halves-make-product : (a b : ℕ) → wholeOf (productOf a b) ≡ a * b
+unfolding wholeOf productOf
 halves-make-product a b = div-add-mod' (a * b) (2 ^ 64)
 
 pub halves-of-product : (a b h l : ℕ) → l < 2 ^ 64 → h * 2 ^ 64 + l ≡ a * b → record { hi = h; lo = l } ≡ productOf a b

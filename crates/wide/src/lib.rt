@@ -1,4 +1,4 @@
-// The whole product of two 64-bit numbers, which the language has no type for: its two halves. And what a number of two halves has over another.
+// Numbers of two 64-bit halves, which the language has no type for: the whole product of two numbers, and what one has over another.
 ghost use mathlib.Core.Path.{_≡_};
 ghost use Prim.Native.Nat.{_*_, _^_, _/_};
 ghost use Rattle.wide.specs.Products.{wholeOf, productOf, leftOf};
@@ -35,7 +35,7 @@ pub fn high(a: u64, b: u64) -> u64
     product(a, b).hi
 }
 
-// What n has over p, if that is known to be small: the largest u64 where it is as much or more, or where p is above n.
+// What n has over p, or the largest u64 where that does not fit or p is above n.
 pub fn left(n: Halves, p: Halves) -> u64
     ensures { λ r. ⌜ r ≡ leftOf (wholeOf n) (wholeOf p) ⌝ }
 {

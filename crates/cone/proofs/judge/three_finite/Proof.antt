@@ -16,14 +16,19 @@ all-finite-requires-3 c κs = search needs
 all-finite-requires-4 : tie.Need-all-finite-requires-4
 all-finite-requires-4 c κs = search needs
 
+-- where each part is judged, the last first
+abbrev at-hdual : tie.After-all-finite4 → tie.After-all-finite3
+at-hdual c = c .before .before .before .before
+
+abbrev at-grad : tie.After-all-finite4 → tie.After-all-finite2
+at-grad c = at-hdual c .before .before .before .before
+
+abbrev at-z : tie.After-all-finite4 → tie.After-all-finite
+at-z c = at-grad c .before .before .before .before
+
 returns : tie.Need-returns
 unfolding threeFinite
-returns c = simp (
-  c .before .before .before .before .before .before .before .before .before .before .before .before .all-finite .ensures,
-  c .before .before .before .before .before .before .before .before .all-finite2 .ensures,
-  c .before .before .before .before .all-finite3 .ensures,
-  c .all-finite4 .ensures,
-)
+returns c = simp (at-z c .all-finite .ensures, at-grad c .all-finite2 .ensures, at-hdual c .all-finite3 .ensures, c .all-finite4 .ensures)
 
 pub three-finite-spec : {M : Type 1} → statement M
 three-finite-spec = tie.close (tie.spec all-finite-requires all-finite-requires-2 all-finite-requires-3 all-finite-requires-4 returns)

@@ -37,16 +37,38 @@ head-finite-requires-6 c κs = search needs
 is-finite-requires-2 : tie.Need-is-finite-requires-2
 is-finite-requires-2 c κs = search needs
 
+-- where each part is judged, the last first
+abbrev at-d1 : tie.After-is-finite2 → tie.After-head-finite6
+at-d1 c = c .before
+
+abbrev at-r : tie.After-is-finite2 → tie.After-head-finite5
+at-r c = at-d1 c .before .before .before .before
+
+abbrev at-q : tie.After-is-finite2 → tie.After-head-finite4
+at-q c = at-r c .before .before .before .before
+
+abbrev at-p : tie.After-is-finite2 → tie.After-head-finite3
+at-p c = at-q c .before .before .before .before
+
+abbrev at-grad : tie.After-is-finite2 → tie.After-head-finite2
+at-grad c = at-p c .before .before .before .before
+
+abbrev at-mu : tie.After-is-finite2 → tie.After-is-finite
+at-mu c = at-grad c .before .before .before .before
+
+abbrev at-z : tie.After-is-finite2 → tie.After-head-finite
+at-z c = at-mu c .before
+
 returns : tie.Need-returns
 unfolding wideFinite
 returns c = simp (
-  c .before .before .before .before .before .before .before .before .before .before .before .before .before .before .before .before .before .before .before .before .before .before .head-finite .ensures,
-  c .before .before .before .before .before .before .before .before .before .before .before .before .before .before .before .before .before .before .before .before .before .is-finite .ensures,
-  c .before .before .before .before .before .before .before .before .before .before .before .before .before .before .before .before .before .head-finite2 .ensures,
-  c .before .before .before .before .before .before .before .before .before .before .before .before .before .head-finite3 .ensures,
-  c .before .before .before .before .before .before .before .before .before .head-finite4 .ensures,
-  c .before .before .before .before .before .head-finite5 .ensures,
-  c .before .head-finite6 .ensures,
+  at-z c .head-finite .ensures,
+  at-mu c .is-finite .ensures,
+  at-grad c .head-finite2 .ensures,
+  at-p c .head-finite3 .ensures,
+  at-q c .head-finite4 .ensures,
+  at-r c .head-finite5 .ensures,
+  at-d1 c .head-finite6 .ensures,
   c .is-finite2 .ensures,
 )
 

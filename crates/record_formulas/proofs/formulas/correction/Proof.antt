@@ -4,7 +4,6 @@ use Rattle.record_formulas.specs.Formulas.{correctionOf}
 use borrow.Author.Needs.{needs}
 use Rattle.record_formulas.proofs.formulas.correction.Statement.{statement}
 use Rattle.record_formulas.proofs.formulas.correction.Tie as tie
-use Rattle.powcorrection.proofs.higher_correction.Reads as higher-correction-reads′
 
 element-copy-out-higher-correction : tie.Need-element-copy-out-higher-correction
 element-copy-out-higher-correction c = search needs

@@ -4,7 +4,6 @@ use Rattle.record_formulas.specs.Formulas.{primalBarrierOf}
 use borrow.Author.Needs.{needs}
 use Rattle.record_formulas.proofs.formulas.primal_barrier.Statement.{statement}
 use Rattle.record_formulas.proofs.formulas.primal_barrier.Tie as tie
-use Rattle.powcone.proofs.barrier_primal.Reads as barrier-primal-reads′
 
 cast-dim1 : tie.Need-cast-dim1
 cast-dim1 c = search needs

@@ -4,7 +4,6 @@ use Rattle.record_formulas.specs.Formulas.{shiftOf}
 use borrow.Author.Needs.{needs}
 use Rattle.record_formulas.proofs.formulas.shift.Statement.{statement}
 use Rattle.record_formulas.proofs.formulas.shift.Tie as tie
-use Rattle.powcorrection.proofs.combined_ds_shift.Reads as combined-ds-shift-reads′
 
 element-copy-out-combined-ds-shift : tie.Need-element-copy-out-combined-ds-shift
 element-copy-out-combined-ds-shift c = search needs

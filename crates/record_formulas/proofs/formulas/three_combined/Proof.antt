@@ -4,7 +4,6 @@ use Rattle.record_formulas.specs.Formulas.{threeCombined}
 use borrow.Author.Needs.{needs}
 use Rattle.record_formulas.proofs.formulas.three_combined.Statement.{statement}
 use Rattle.record_formulas.proofs.formulas.three_combined.Tie as tie
-use Rattle.powcone.proofs.compute_barrier.Reads as compute-barrier-reads′
 
 element-copy-out-compute-barrier : tie.Need-element-copy-out-compute-barrier
 element-copy-out-compute-barrier c = search needs

@@ -4,7 +4,6 @@ use Rattle.record_formulas.specs.Formulas.{threeGradient}
 use borrow.Author.Needs.{needs}
 use Rattle.record_formulas.proofs.formulas.three_gradient.Statement.{statement}
 use Rattle.record_formulas.proofs.formulas.three_gradient.Tie as tie
-use Rattle.powcone.proofs.gradient_primal.Reads as gradient-primal-reads′
 
 element-copy-out-gradient-primal : tie.Need-element-copy-out-gradient-primal
 element-copy-out-gradient-primal c = search needs

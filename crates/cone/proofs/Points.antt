@@ -6,7 +6,7 @@ use Prim.Native.Nat.{ℕ, zero, suc, _+_, _≤_, _<_}
 use native.Mathlib.Numerals.{add-one}
 use native.Mathlib.Omega.{arith}
 use lib.Ieee.{Float, nan}
-use lib.ListN.{length, take, getD, set, replicate, length-set, length-replicate, getD-replicate}
+use lib.ListN.{length, take, set, replicate, length-set, length-replicate, getD-replicate}
 use lib.Seq.{take-length, getD-set-other}
 use Rattle.arith.specs.Turns.{iter}
 use Rattle.arith.proofs.Filling.{fill-more}
@@ -37,11 +37,11 @@ module _ (s : List Float) where
       subst (λ (k : ℕ). take k (set (turns i) i (at s i)) ≡ take k s) (add-one i)
       (fill-more (turns i) s i (at s i) nan (omega (arith, turns-length i)) (omega arith) (turns-front h i (omega arith)) refl)
 
-  turns-behind : (i k : ℕ) → i ≤ k → k < 64 → getD (turns i) k #0 ≡ #0
+  turns-behind : (i k : ℕ) → i ≤ k → k < 64 → at (turns i) k ≡ #0
   unfolding iter
-  turns-behind zero k l h = getD-replicate 64 k #0 #0 h
+  turns-behind zero k l h = getD-replicate 64 k #0 nan h
   turns-behind (suc i) k l h =
-      getD-set-other (turns i) i k (at s i) #0 (λ e. omega arith) ∙ turns-behind i k (omega arith) h
+      getD-set-other (turns i) i k (at s i) nan (λ e. omega arith) ∙ turns-behind i k (omega arith) h
 
   -- the slice stands in front
   pub wide-front : length s ≤ 64 → take (length s) (wideOf s) ≡ s
@@ -49,6 +49,6 @@ module _ (s : List Float) where
   wide-front h = turns-front h (length s) (omega arith) ∙ take-length s
 
   -- 01: "those of the record's numbers are +0 after an update"
-  pub wide-behind : (k : ℕ) → length s ≤ k → k < 64 → getD (wideOf s) k #0 ≡ #0
+  pub wide-behind : (k : ℕ) → length s ≤ k → k < 64 → at (wideOf s) k ≡ #0
   unfolding wideOf
   wide-behind k l h = turns-behind (length s) k l h

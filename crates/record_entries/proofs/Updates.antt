@@ -3,13 +3,12 @@
 use mathlib.Core.Path.{_≡_, refl, sym, _∙_, ap, subst}
 use mathlib.Core.Bool.{Bool, true, false, cond}
 use mathlib.Core.List.{List}
-use Prim.Native.Nat.{ℕ, zero, suc, _≤_, _<_}
+use Prim.Native.Nat.{ℕ, zero, suc}
 use native.Mathlib.Omega.{arith}
 use lib.Dec.{eqb}
 use lib.Ieee.{Float}
-use lib.ListN.{length, getD}
+use lib.ListN.{length}
 use borrow.Author.Tests.{eq-eqb, ne-eqb}
-use Rattle.double.specs.Numbers.{#0}
 use Rattle.cone.specs.declared.Cone.{Cone}
 use Rattle.cone.specs.declared.Scaling.{Scaling}
 use Rattle.cone.specs.declared.Updated.{Updated}
@@ -18,11 +17,15 @@ use Rattle.cone.specs.Fresh.{noThree, noWide}
 use Rattle.cone.specs.Points.{threeOf}
 use Rattle.cone.specs.Refusals.{lastRows, settle}
 use Rattle.cone.proofs.Points.{wide-behind}
+use Rattle.genpowcone.proofs.Held.{unused-zero}
+use Rattle.cone_entries.specs.Formulas.{WideCall, alphasOf}
+use Rattle.cone_entries.proofs.Lengths.{used-length}
 use Rattle.record_rows.specs.Rows.{updateRows}
+use Rattle.record_rows.proofs.LetThrough.{update-call}
 use Rattle.record_formulas.specs.Outcomes.{refuseUpdate}
 use Rattle.record_formulas.specs.Formulas.{newThree, newWide, newRecordOf}
 use Rattle.record_entries.specs.Entries.{completed, updateScalingOf}
-use Rattle.record_entries.specs.Updates.{SameAnswer, RefusedKeeps, Made, CompletedMakes}
+use Rattle.record_entries.specs.Updates.{SameAnswer, RefusedKeeps, Unused, Made, CompletedMakes}
 
 -- ---- an answer settled twice, over any rows
 
@@ -110,21 +113,33 @@ module _ (r : Scaling) (s z : List Float) (μ : Float) (k : ℕ) where
   unfolding newThree
   three-wide = refl
 
-  wide-z : (i : ℕ) → length z ≤ i → i < 64 → getD (newWide (r .cone) z μ .scaling .wide .z) i #0 ≡ #0
+  -- the exponents in use are dim1 of 32, and the point has dim1 + dim2 numbers
+  wide-unused : WideCall (r .cone) z → r .cone .kind ≡ 3 → length (r .cone .exps) ≡ 32 → Unused (r .cone .dim1) (r .cone .dim2) (newWide (r .cone) z μ .scaling .wide)
   unfolding newWide
-  wide-z i l h = wide-behind z i l h
+  wide-unused w e l =
+      let n = used-length (r .cone .dim1) (r .cone .exps) {α = alphasOf (r .cone)} l (w .dims e .0) refl in
+      let m = w .sized e in
+      let u = unused-zero (alphasOf (r .cone)) z (omega (arith, n, m)) in
+      record {
+        z-behind = λ i h b. wide-behind z i (omega (arith, m)) b;
+        grad-behind = λ i h b. u .grad-unused i (omega (arith, m)) b;
+        p-behind = λ i h b. u .p-unused i (omega (arith, m)) b;
+        q-behind = λ i h b. u .q-unused i (omega (arith, n)) b;
+        r-behind = λ i h b. u .r-unused i (omega (arith, n, m)) b;
+        d1-behind = λ i h b. u .d1-unused i (omega (arith, n)) b;
+      }
 
-  made : Made r (new s z μ k r .scaling) z μ
-  made = record {
+  made : WideCall (r .cone) z → Made r (new s z μ k r .scaling) μ
+  made w = record {
     keeps-cone = new-cone;
     was-scaled = new-scaled;
     no-wide = λ e. ap (λ (a : Attempt). a .scaling .wide) (of-three e) ∙ three-wide;
     no-three = λ e. ap (λ (a : Attempt). a .scaling .three) (of-wide e) ∙ wide-three;
     wide-mu = λ e. ap (λ (a : Attempt). a .scaling .wide .mu) (of-wide e) ∙ wide-mu;
-    z-behind = λ e i l h. ap (λ (a : Attempt). getD (a .scaling .wide .z) i #0) (of-wide e) ∙ wide-z i l h;
+    unused = λ e l. subst (λ (a : Attempt). Unused (r .cone .dim1) (r .cone .dim2) (a .scaling .wide)) (sym (of-wide e)) (wide-unused w e l);
   }
 
 pub completed-makes : CompletedMakes
 completed-makes r s z μ k e =
     let w = was-done s z μ k r e in
-    subst (λ (u : Updated). Made r (u .scaling) z μ) (sym (answers-new s z μ k r (w .0) (w .1))) (made r s z μ k)
+    subst (λ (u : Updated). Made r (u .scaling) μ) (sym (answers-new s z μ k r (w .0) (w .1))) (made r s z μ k (update-call r s z μ k (w .0)))

@@ -1,11 +1,13 @@
 -- What a completed update is made of. Statements only; proofs/Updates proves them.
-use Prim.Native.Nat.{ℕ, _≤_, _<_}
+use Prim.Native.Nat.{ℕ, _+_, _≤_, _<_}
 use mathlib.Core.Path.{_≡_}
 use mathlib.Core.Bool.{true}
 use mathlib.Core.List.{List}
 use lib.Ieee.{Float}
-use lib.ListN.{length, getD}
+use lib.ListN.{length}
+use Rattle.double.specs.Operators.{at}
 use Rattle.double.specs.Numbers.{#0}
+use Rattle.cone.specs.declared.Wide.{Wide}
 use Rattle.cone.specs.declared.Scaling.{Scaling}
 use Rattle.cone.specs.Fresh.{noThree, noWide}
 use Rattle.record_rows.specs.Rows.{updateRows}
@@ -25,15 +27,24 @@ SameAnswer =
 abbrev pub RefusedKeeps : Type 0
 RefusedKeeps = (r : Scaling) (s z : List Float) (μ : Float) (k : ℕ) → (updateScalingOf r s z μ k .code ≡ 0 → ⊥) → updateScalingOf r s z μ k .scaling ≡ r
 
--- A completed update was scaled and keeps its cone, and the numbers of the other kinds are +0.
+-- behind the places that kind 3 uses: dim1 + dim2 of z, the gradient and p, dim1 of q and d1, dim2 of r
+pub record Unused (dim1 dim2 : ℕ) (w : Wide) : Type 0 where
+  pub z-behind : (i : ℕ) → dim1 + dim2 ≤ i → i < 64 → at (w .z) i ≡ #0
+  pub grad-behind : (i : ℕ) → dim1 + dim2 ≤ i → i < 64 → at (w .grad) i ≡ #0
+  pub p-behind : (i : ℕ) → dim1 + dim2 ≤ i → i < 64 → at (w .p) i ≡ #0
+  pub q-behind : (i : ℕ) → dim1 ≤ i → i < 32 → at (w .q) i ≡ #0
+  pub r-behind : (i : ℕ) → dim2 ≤ i → i < 32 → at (w .r) i ≡ #0
+  pub d1-behind : (i : ℕ) → dim1 ≤ i → i < 32 → at (w .d1) i ≡ #0
+
+-- A completed update was scaled and keeps its cone, and the numbers of the other kinds are +0. (A cone's array of exponents has 32 places.)
 -- 01: "Places that a kind does not use are neither read nor judged, and those of the record's numbers are +0 after an update."
-pub record Made (old new : Scaling) (z : List Float) (μ : Float) : Type 0 where
+pub record Made (old new : Scaling) (μ : Float) : Type 0 where
   pub keeps-cone : new .cone ≡ old .cone
   pub was-scaled : new .scaled ≡ true
   pub no-wide : (old .cone .kind ≡ 3 → ⊥) → new .wide ≡ noWide
   pub no-three : old .cone .kind ≡ 3 → new .three ≡ noThree
   pub wide-mu : old .cone .kind ≡ 3 → new .wide .mu ≡ μ
-  pub z-behind : old .cone .kind ≡ 3 → (i : ℕ) → length z ≤ i → i < 64 → getD (new .wide .z) i #0 ≡ #0
+  pub unused : old .cone .kind ≡ 3 → length (old .cone .exps) ≡ 32 → Unused (old .cone .dim1) (old .cone .dim2) (new .wide)
 
 abbrev pub CompletedMakes : Type 0
-CompletedMakes = (r : Scaling) (s z : List Float) (μ : Float) (k : ℕ) → updateScalingOf r s z μ k .code ≡ 0 → Made r (updateScalingOf r s z μ k .scaling) z μ
+CompletedMakes = (r : Scaling) (s z : List Float) (μ : Float) (k : ℕ) → updateScalingOf r s z μ k .code ≡ 0 → Made r (updateScalingOf r s z μ k .scaling) μ

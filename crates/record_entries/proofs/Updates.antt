@@ -7,7 +7,7 @@ use Prim.Native.Nat.{ℕ, zero, suc}
 use native.Mathlib.Omega.{arith}
 use lib.Dec.{eqb}
 use lib.Ieee.{Float}
-use lib.ListN.{length}
+use lib.ListN.{length-take}
 use borrow.Author.Tests.{eq-eqb, ne-eqb}
 use Rattle.cone.specs.declared.Cone.{Cone}
 use Rattle.cone.specs.declared.Scaling.{Scaling}
@@ -19,7 +19,6 @@ use Rattle.cone.specs.Refusals.{lastRows, settle}
 use Rattle.cone.proofs.Points.{wide-behind}
 use Rattle.genpowcone.proofs.Held.{unused-zero}
 use Rattle.cone_entries.specs.Formulas.{WideCall, alphasOf}
-use Rattle.cone_entries.proofs.Lengths.{used-length}
 use Rattle.record_rows.specs.Rows.{updateRows}
 use Rattle.record_rows.proofs.LetThrough.{update-call}
 use Rattle.record_formulas.specs.Outcomes.{refuseUpdate}
@@ -113,11 +112,12 @@ module _ (r : Scaling) (s z : List Float) (μ : Float) (k : ℕ) where
   unfolding newThree
   three-wide = refl
 
-  -- the exponents in use are dim1 of 32, and the point has dim1 + dim2 numbers
-  wide-unused : WideCall (r .cone) z → r .cone .kind ≡ 3 → length (r .cone .exps) ≡ 32 → Unused (r .cone .dim1) (r .cone .dim2) (newWide (r .cone) z μ .scaling .wide)
+  -- the exponents in use are at most dim1, and the point has dim1 + dim2 numbers
+  wide-unused : WideCall (r .cone) z → r .cone .kind ≡ 3 → Unused (r .cone) (newWide (r .cone) z μ .scaling .wide)
   unfolding newWide
-  wide-unused w e l =
-      let n = used-length (r .cone .dim1) (r .cone .exps) {α = alphasOf (r .cone)} l (w .dims e .0) refl in
+  wide-unused w e =
+      let n = length-take (r .cone .dim1) (r .cone .exps) in
+      let d = w .dims e .0 in
       let m = w .sized e in
       let u = unused-zero (alphasOf (r .cone)) z (omega (arith, n, m)) in
       record {
@@ -125,7 +125,7 @@ module _ (r : Scaling) (s z : List Float) (μ : Float) (k : ℕ) where
         grad-behind = λ i h b. u .grad-unused i (omega (arith, m)) b;
         p-behind = λ i h b. u .p-unused i (omega (arith, m)) b;
         q-behind = λ i h b. u .q-unused i (omega (arith, n)) b;
-        r-behind = λ i h b. u .r-unused i (omega (arith, n, m)) b;
+        r-behind = λ l i h b. u .r-unused i (omega (arith, n, m, d, l)) b;
         d1-behind = λ i h b. u .d1-unused i (omega (arith, n)) b;
       }
 
@@ -136,7 +136,7 @@ module _ (r : Scaling) (s z : List Float) (μ : Float) (k : ℕ) where
     no-wide = λ e. ap (λ (a : Attempt). a .scaling .wide) (of-three e) ∙ three-wide;
     no-three = λ e. ap (λ (a : Attempt). a .scaling .three) (of-wide e) ∙ wide-three;
     wide-mu = λ e. ap (λ (a : Attempt). a .scaling .wide .mu) (of-wide e) ∙ wide-mu;
-    unused = λ e l. subst (λ (a : Attempt). Unused (r .cone .dim1) (r .cone .dim2) (a .scaling .wide)) (sym (of-wide e)) (wide-unused w e l);
+    unused = λ e. subst (λ (a : Attempt). Unused (r .cone) (a .scaling .wide)) (sym (of-wide e)) (wide-unused w e);
   }
 
 pub completed-makes : CompletedMakes

@@ -7,6 +7,7 @@ use lib.Ieee.{Float}
 use lib.ListN.{length}
 use Rattle.double.specs.Operators.{at}
 use Rattle.double.specs.Numbers.{#0}
+use Rattle.cone.specs.declared.Cone.{Cone}
 use Rattle.cone.specs.declared.Wide.{Wide}
 use Rattle.cone.specs.declared.Scaling.{Scaling}
 use Rattle.cone.specs.Fresh.{noThree, noWide}
@@ -27,16 +28,17 @@ SameAnswer =
 abbrev pub RefusedKeeps : Type 0
 RefusedKeeps = (r : Scaling) (s z : List Float) (μ : Float) (k : ℕ) → (updateScalingOf r s z μ k .code ≡ 0 → ⊥) → updateScalingOf r s z μ k .scaling ≡ r
 
--- behind the places that kind 3 uses: dim1 + dim2 of z, the gradient and p, dim1 of q and d1, dim2 of r
-pub record Unused (dim1 dim2 : ℕ) (w : Wide) : Type 0 where
-  pub z-behind : (i : ℕ) → dim1 + dim2 ≤ i → i < 64 → at (w .z) i ≡ #0
-  pub grad-behind : (i : ℕ) → dim1 + dim2 ≤ i → i < 64 → at (w .grad) i ≡ #0
-  pub p-behind : (i : ℕ) → dim1 + dim2 ≤ i → i < 64 → at (w .p) i ≡ #0
-  pub q-behind : (i : ℕ) → dim1 ≤ i → i < 32 → at (w .q) i ≡ #0
-  pub r-behind : (i : ℕ) → dim2 ≤ i → i < 32 → at (w .r) i ≡ #0
-  pub d1-behind : (i : ℕ) → dim1 ≤ i → i < 32 → at (w .d1) i ≡ #0
+-- +0 behind the places that kind 3 uses: dim1 + dim2 of z, the gradient and p, dim1 of q and d1, dim2 of r.
+-- r holds the numbers behind the exponents in use; these are dim1, since a cone has 32 places for them.
+pub record Unused (c : Cone) (w : Wide) : Type 0 where
+  pub z-behind : (i : ℕ) → c .dim1 + c .dim2 ≤ i → i < 64 → at (w .z) i ≡ #0
+  pub grad-behind : (i : ℕ) → c .dim1 + c .dim2 ≤ i → i < 64 → at (w .grad) i ≡ #0
+  pub p-behind : (i : ℕ) → c .dim1 + c .dim2 ≤ i → i < 64 → at (w .p) i ≡ #0
+  pub q-behind : (i : ℕ) → c .dim1 ≤ i → i < 32 → at (w .q) i ≡ #0
+  pub r-behind : length (c .exps) ≡ 32 → (i : ℕ) → c .dim2 ≤ i → i < 32 → at (w .r) i ≡ #0
+  pub d1-behind : (i : ℕ) → c .dim1 ≤ i → i < 32 → at (w .d1) i ≡ #0
 
--- A completed update was scaled and keeps its cone, and the numbers of the other kinds are +0. (A cone's array of exponents has 32 places.)
+-- A completed update was scaled and keeps its cone, and the numbers of the other kinds are +0.
 -- 01: "Places that a kind does not use are neither read nor judged, and those of the record's numbers are +0 after an update."
 pub record Made (old new : Scaling) (μ : Float) : Type 0 where
   pub keeps-cone : new .cone ≡ old .cone
@@ -44,7 +46,7 @@ pub record Made (old new : Scaling) (μ : Float) : Type 0 where
   pub no-wide : (old .cone .kind ≡ 3 → ⊥) → new .wide ≡ noWide
   pub no-three : old .cone .kind ≡ 3 → new .three ≡ noThree
   pub wide-mu : old .cone .kind ≡ 3 → new .wide .mu ≡ μ
-  pub unused : old .cone .kind ≡ 3 → length (old .cone .exps) ≡ 32 → Unused (old .cone .dim1) (old .cone .dim2) (new .wide)
+  pub unused : old .cone .kind ≡ 3 → Unused (old .cone) (new .wide)
 
 abbrev pub CompletedMakes : Type 0
 CompletedMakes = (r : Scaling) (s z : List Float) (μ : Float) (k : ℕ) → updateScalingOf r s z μ k .code ≡ 0 → Made r (updateScalingOf r s z μ k .scaling) μ

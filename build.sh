@@ -2,7 +2,7 @@
 # Proves the library, builds it as target/staticlib/libspindle.a, and runs examples/plan.c over it.
 #
 #   sh build.sh            all of that
-#   sh build.sh --archive  the archive alone
+#   sh build.sh --archive  the archive alone, and nothing where it is newer than every crate
 set -eu
 cd "$(dirname "$0")"
 
@@ -13,6 +13,9 @@ case ${1:-} in
 esac
 
 command -v rt >/dev/null 2>&1 || { echo "build: the Rattle kit's command rt is not on the PATH; install the kit first" >&2; exit 1; }
+
+archive=target/staticlib/libspindle.a
+if [ "${1:-}" = --archive ] && [ -f "$archive" ] && [ -z "$(find crates crates.txt -newer "$archive" -print -quit)" ]; then exit 0; fi
 
 log=target/log/build.txt
 mkdir -p target/log

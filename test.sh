@@ -68,24 +68,36 @@ $found"
 
 [ "${1:-}" != --quick ] || { say "quick checks passed"; exit 0; }
 
-# rt ci removes target/, and the archive with it. So what needs the archive runs beside it, in a copy of the files.
+# rt ci proves everything from nothing. As soon as it has proved the library, what needs the archive runs beside the rest of it, in a copy of the
+# files and over the proofs just made: rt staticlib takes a crate's proof only where the copy has the very files that were proved.
 copy=$(mktemp -d)
 beside=
 trap '[ -z "$beside" ] || kill -- "-$beside" 2>/dev/null || true; rm -rf "$copy"' EXIT
 trap 'exit 1' HUP INT PIPE TERM
-mkdir "$copy/files"
+mkdir -p "$copy/files/target/rlib" "$copy/files/target/stamp"
 tar -cf - --exclude=./target --exclude=./.git . | tar -xf - -C "$copy/files"
-say "what runs over the archive goes on beside rt ci, in a copy of the files; it is shown after it"
-setsid sh "$copy/files/test.sh" --outside >"$copy/outside.txt" 2>&1 &
+say "what runs over the archive starts when rt ci has proved the library; it is shown after it"
+rm -rf target
+setsid sh -eu -c '
+    until [ -f target/stamp/spindle ]; do
+        [ ! -f "$1/status" ] || { echo "test: rt ci did not prove the library, so nothing ran over the archive"; exit 1; }
+        sleep 1
+    done
+    for stamp in target/stamp/*; do
+        cp -R "target/rlib/${stamp##*/}.rlib" "$1/files/target/rlib/"
+        cp "$stamp" "$1/files/target/stamp/"
+    done
+    exec sh "$1/files/test.sh" --outside' sh "$copy" >"$copy/outside.txt" 2>&1 &
 beside=$!
 
 say "proofs, must-fail edits and programs, from nothing (rt ci)"
-# The last line is held back until the runs over the archive have ended, too.
-{ rt ci 2>&1 && echo 0 >"$copy/status" || echo 1 >"$copy/status"; } | tee "$copy/ci.txt" | awk 'NR > 1 { print last; fflush() } { last = $0 }'
+# rt waits for a batch of RT_JOBS to end before it starts the next: four on two processors leave less idle. The last line is held back until
+# the runs over the archive have ended, too.
+{ RT_JOBS=${RT_JOBS:-4} rt ci 2>&1 && echo 0 >"$copy/status" || echo 1 >"$copy/status"; } | tee "$copy/ci.txt" | awk 'NR > 1 { print last; fflush() } { last = $0 }'
 passed=0
 wait "$beside" || passed=1
 beside=
 cat "$copy/outside.txt"
+[ "$(cat "$copy/status")" = 0 ] || { tail -n 1 "$copy/ci.txt"; die "rt ci failed"; }
 [ $passed = 0 ] || die "a run over the archive failed"
 tail -n 1 "$copy/ci.txt"
-[ "$(cat "$copy/status")" = 0 ] || die "rt ci failed"

@@ -14,8 +14,8 @@ if [ "${1:-}" = --standin ]; then
     shift
     port=oracle/standin.c
     program=target/oracle/compare-standin
-elif [ ! -f "$port" ] || [ -n "$(find crates crates.txt -newer "$port" -print -quit)" ]; then
-    rt staticlib spindle >target/oracle/staticlib.txt 2>&1 || { tail -n 20 target/oracle/staticlib.txt >&2; exit 2; }
+else
+    sh build.sh --archive >target/oracle/staticlib.txt 2>&1 || { cat target/oracle/staticlib.txt >&2; exit 2; }
 fi
 oracle/build.sh docs/src/src/solver/core/cones "$port" "$program"
 exec tools/x86 run "$program" "$@"

@@ -1,6 +1,6 @@
 -- The same for every public function inside the library: its contract, too, leaves one outcome. A caller that keeps to a `requires` gets no other.
 -- Not here: algebra's `head` and `tail`, which hand back a part of the slice that they were lent; their contracts fix what the part holds, not where it lies.
--- Nor expcone's `wright_omega` and logarithm's `entry`, which stand in private modules that no other crate can name. Assumes nothing.
+-- Nor logarithm's `entry`, which stands in a private module that no other crate can name. Assumes nothing.
 use mathlib.Core.Path.{_≡_, _∙_, sym, ap, refl}
 use mathlib.Core.List.{List}
 use Prim.Native.Nat.{ℕ}
@@ -11,7 +11,7 @@ use Rattle.cone.specs.declared.Found.{Found}
 use Rattle.cone.specs.declared.Steps.{Steps}
 use Rattle.cone.specs.declared.Rounds.{Rounds}
 use Rattle.search.specs.declared.Searched.{Searched}
-use Rattle.search.specs.Search.{Outcome, outcome}
+use Rattle.trials.specs.Search.{Outcome, outcome}
 use Rattle.agree.proofs.Determined.{Determines, one, two}
 use Rattle.wide.proofs.product.Kinds as wide-product-kinds
 use Rattle.wide.proofs.product.Reads as wide-product
@@ -141,6 +141,8 @@ use Rattle.cone.proofs.refusal.last_rows.Kinds as cone-refusal-last-rows-kinds
 use Rattle.cone.proofs.refusal.last_rows.Reads as cone-refusal-last-rows
 use Rattle.newton.proofs.newton_raphson_onesided.Kinds as newton-newton-raphson-onesided-kinds
 use Rattle.newton.proofs.newton_raphson_onesided.Reads as newton-newton-raphson-onesided
+use Rattle.wright.proofs.wright_omega.Kinds as wright-wright-omega-kinds
+use Rattle.wright.proofs.wright_omega.Reads as wright-wright-omega
 use Rattle.expcone.proofs.unit_initialization.Kinds as expcone-unit-initialization-kinds
 use Rattle.expcone.proofs.unit_initialization.Reads as expcone-unit-initialization
 use Rattle.expcone.proofs.combined_ds_shift.Kinds as expcone-combined-ds-shift-kinds
@@ -569,6 +571,11 @@ cone-refusal-last-rows-agrees κs a x y s t p q = (p ∙ sym q, refl)
 
 pub newton-newton-raphson-onesided-agrees : Determines 2 newton-newton-raphson-onesided-kinds.ps newton-newton-raphson-onesided-kinds.r newton-newton-raphson-onesided.Post (Unit {0}) (λ κs s. tt)
 newton-newton-raphson-onesided-agrees κs a x y s t p q = (p ∙ sym q, refl)
+
+-- ---- wright: 000's Wright omega
+
+pub wright-wright-omega-agrees : Determines 0 wright-wright-omega-kinds.ps wright-wright-omega-kinds.r wright-wright-omega.Post (Unit {0}) (λ κs s. tt)
+wright-wright-omega-agrees κs a x y s t p q = (p ∙ sym q, refl)
 
 -- ---- expcone: 000
 

@@ -13,12 +13,12 @@ use Rattle.cone.specs.Fresh.{freshOf, noThree, noWide}
 use Rattle.cone.specs.Judges.{allOf, coneOk, numelOf, threeFinite, recordFinite}
 use Rattle.cone.specs.Refusals.{row, settle, lastRows}
 use Rattle.expcone.specs.Feasible.{primalResidueAt, primalResidue, dualResidueAt, dualResidue, primalFeasible, dualFeasible}
-use Rattle.expcone.specs.Omega.{taylorStart, startOf, refineOf, refinedAt, refinedOf, omegaOf, omegaArg, omegaAt}
+use Rattle.wright.specs.Omega.{taylorStart, startOf, refineOf, refinedAt, refinedOf, omegaOf, omegaArg, omegaAt}
 use Rattle.expcone.specs.PrimalGradient.{gradientBy, gradientPrimalOf}
 use Rattle.expcone.specs.DualGradient.{gradHAt, updateDualGradHOf}
 use Rattle.powcone.specs.Feasible as powcone
-use Rattle.search.specs.Trials.{trial}
-use Rattle.search.specs.Search.{scan, searchOf}
+use Rattle.trials.specs.Trials.{trial}
+use Rattle.trials.specs.Search.{scan, searchOf}
 use Rattle.search.specs.Passes.{expPasses, powPasses, passesOf}
 use Rattle.algebra.specs.Vectors.{movedOf}
 use Rattle.cone_entries.specs.Rows.{readRows}

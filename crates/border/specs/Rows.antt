@@ -9,7 +9,7 @@ use Rattle.double.specs.Numbers.{dec, #0, #½, #1, #2, #4}
 use Rattle.cone.specs.declared.Cone.{Cone}
 use Rattle.cone.specs.declared.Settings.{Settings}
 use Rattle.cone.specs.Fresh.{freshOf}
-use Rattle.expcone.specs.Omega.{omegaOf}
+use Rattle.wright.specs.Omega.{omegaOf}
 use Rattle.cone_entries.specs.Entries.{isPrimalFeasibleOf, isDualFeasibleOf, dualGradHOf}
 use Rattle.record_entries.specs.Entries.{gradientPrimalOf}
 use Rattle.search_entries.specs.Entries.{backtrackSearchOf}

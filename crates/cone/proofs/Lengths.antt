@@ -6,7 +6,7 @@ use Prim.Native.Nat.{ℕ, _+_, _≤_}
 use native.Mathlib.Omega.{arith}
 use lib.Dec.{eqb, leb}
 use lib.Ieee.{Float}
-use lib.ListN.{length, take}
+use lib.ListN.{length, take, length-take}
 use lib.Seq.{length-take-le}
 use borrow.Author.Tests.{leb-true, eqb-true, eq-eqb, ne-eqb, not-false}
 use Rattle.arith.proofs.Branches.{and-left, and-right, or-left, or-right}
@@ -14,6 +14,7 @@ use Rattle.double.specs.Numbers.{#tolerance}
 use Rattle.cone.specs.declared.Cone.{Cone}
 use Rattle.cone.specs.Judges.{allOf, exponentOk, sumOk, wideOk, coneOk, numelOf, blockOf}
 use Rattle.cone.specs.Refusals.{badCone}
+use Rattle.cone.specs.Calls.{WideCall}
 
 -- ---- row 2 for one slice and for several: where it does not apply, each has the length that is needed
 
@@ -92,3 +93,23 @@ block-at-most c k = small c 6 (eqb (c .kind) 3) (omega arith) refl k
 -- what is cut from an array for a slice that is no longer
 pub cut : (n m : ℕ) (ans : List Float) {sent : List Float} → n ≤ m → length ans ≡ m → sent ≡ take n ans → length sent ≡ n
 cut n m ans h l e = ap length e ∙ length-take-le n ans (omega arith)
+
+pub wide-call : (c : Cone) (z : List Float) → coneOk c ≡ true → length z ≡ numelOf c → WideCall c z
+wide-call c z k l = record {
+  dims = λ e. (dim1-at-most _ _ _ (wide-passes c k e), dim2-at-most _ _ _ (wide-passes c k e));
+  sized = λ e. l ∙ numel-wide c e;
+}
+
+-- ---- the exponents in use, cut from the 32 places
+
+pub used-at-most : (n : ℕ) (exps : List Float) {α : List Float} → length exps ≡ 32 → α ≡ take n exps → length α ≤ 32
+used-at-most n exps l e = omega (arith, ap length e ∙ length-take n exps)
+
+pub used-length : (n : ℕ) (exps : List Float) {α : List Float} → length exps ≡ 32 → n ≤ 32 → α ≡ take n exps → length α ≡ n
+used-length n exps l h e = cut n 32 exps h l e
+
+pub wide-fits : (c : Cone) (z : List Float) {α : List Float} → WideCall c z → c .kind ≡ 3 → length (c .exps) ≡ 32 → α ≡ take (c .dim1) (c .exps)
+    → (length α ≤ 32) × (length z ≤ length α + 32)
+wide-fits c z w k l e =
+    let n = used-length (c .dim1) (c .exps) l (w .dims k .0) e in
+    (omega (arith, n, w .dims k .0), omega (arith, n, w .dims k .1, w .sized k))

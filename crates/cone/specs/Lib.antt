@@ -2,3 +2,4 @@ pub mod Fresh
 pub mod Points
 pub mod Judges
 pub mod Refusals
+pub mod Calls

@@ -1,12 +1,10 @@
 -- The formulas behind the entries over a cone, chosen by kind. Definitions only; each names the Rust function, whose own definition stands in
 -- expcone, powcone or genpowcone. 01: "Closures become a choice by cone kind."
-use Prim.Native.Nat.{_+_, _≤_}
-use mathlib.Core.Path.{_≡_}
 use mathlib.Core.Bool.{cond, false}
 use mathlib.Core.List.{List, map}
 use lib.Dec.{eqb}
 use lib.Ieee.{Float}
-use lib.ListN.{length, take, replicate}
+use lib.ListN.{take, replicate}
 use Rattle.double.specs.Operators.{_⊗_, _⊘_, at}
 use Rattle.double.specs.Numbers.{#0, #1}
 use Rattle.algebra.specs.Vectors.{meanOf}
@@ -32,11 +30,6 @@ alphaOf c = at (c .exps) 0
 
 abbrev pub alphasOf : Cone → List Float
 alphasOf c = take (c .dim1) (c .exps)
-
--- what rows 1 and 2 leave of a call of kind 3: the places of the arrays suffice
-pub record WideCall (c : Cone) (z : List Float) : Type 0 where
-  pub dims : c .kind ≡ 3 → (c .dim1 ≤ 32) × (c .dim2 ≤ 32)
-  pub sized : c .kind ≡ 3 → length z ≡ c .dim1 + c .dim2
 
 -- 000, 001, 002 barrier_dual
 unfoldable pub barrierOf : Cone → List Float → Float

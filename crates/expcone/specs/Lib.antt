@@ -1,5 +1,4 @@
 pub mod Feasible
-pub mod Omega
 pub mod Barriers
 pub mod Correction
 pub mod DualGradient

@@ -6,8 +6,8 @@ use Rattle.double.specs.Operators.{_⊕_, _⊖_, _⊗_, _⊘_, at}
 use Rattle.double.specs.Numbers.{#0, #1}
 use Rattle.kernels.specs.Door.{logOf}
 use Rattle.expcone.specs.declared.Gradient.{Gradient}
-use Rattle.expcone.specs.declared.omega.Omega.{Omega}
-use Rattle.expcone.specs.Omega.{omegaAt}
+use Rattle.wright.specs.declared.Omega.{Omega}
+use Rattle.wright.specs.Omega.{omegaAt}
 
 -- 000 gradient_primal, w the value of omega, l the logarithm of w·s2/s3, counting from 1
 unfoldable pub gradientAt : Float → Float → Float → Float → Gradient

@@ -3,8 +3,6 @@
 // Primal exponential cone: s3 ≥ s2*e^(s1/s2), s3,s2 > 0
 // Dual exponential cone: z3 ≥ -z1*e^(z2/z1 - 1), z3 > 0, z1 < 0
 
-mod omega;
-
 ghost use mathlib.Core.Path.{_≡_};
 ghost use Rattle.expcone.specs.Feasible.{unitInitializationOf, primalResidue, dualResidue, primalFeasible, dualFeasible};
 ghost use Rattle.expcone.specs.Barriers.{barrierPrimalOf, barrierDualOf, computeBarrierOf};
@@ -17,7 +15,7 @@ use algebra::vector::dot3;
 use algebra::vector::moved3;
 use algebra::vector::shift3;
 use kernels::log;
-use omega::wright_omega;
+use wright::wright_omega;
 
 // What a cone test compares with 0, beside the logarithm in it.
 pub struct Residue {

@@ -1,6 +1,6 @@
 -- What an array holds that a loop wrote place by place: f at the written places, what it held before at the others. Proved by the turns. Assumes nothing.
 -- In order: put (from the front), putFrom (from place n on), by them narrow, wide and withTail; then arrays whose used places are a list that has a name:
--- -x, and x + a·dx.
+-- -x, log x, and x + a·dx.
 use Prim.Native.Nat.{ℕ, zero, suc, _+_, _≤_, _<_, min}
 use mathlib.Core.Path.{_≡_, refl, sym, subst, _∙_}
 use mathlib.Core.List.{List, map}
@@ -9,13 +9,14 @@ use native.Mathlib.Nat.{not-suc-le-zero, eq-or-lt-of-le, le-of-suc-le-suc}
 use native.Mathlib.Omega.{arith}
 use lib.ListN.{length, take, set, replicate, length-set, length-take, length-map, length-replicate, getD-replicate, List·getD-map}
 use lib.Seq.{getD-set-same, getD-set-other, getD-take, ext-getD}
-use lib.Ieee.{Float, nan, neg}
+use lib.Ieee.{Float, nan, neg, isNan}
 use Rattle.arith.specs.Turns.{iter}
 use Rattle.double.specs.Operators.{at}
 use Rattle.double.specs.Numbers.{#0}
+use Rattle.kernels.specs.Door.{logOf}
 use Rattle.algebra.specs.Vectors.{movedOf}
 use Rattle.algebra.proofs.Moved.{moved-length, moved-place}
-use Rattle.genloops.specs.Places.{put, putFrom, narrow, wide, withTail, negatedAt, movedAt}
+use Rattle.genloops.specs.Places.{put, putFrom, narrow, wide, withTail, negatedAt, logAt, movedAt}
 
 module _ (f : ℕ → Float) (g : List Float) where
   pub put-length : (n : ℕ) → length (iter (put f) g n) ≡ length g
@@ -131,6 +132,14 @@ negated-front xs fits =
     subst (λ (n : ℕ). take n (wide (negatedAt xs) n) ≡ map neg xs) (length-map xs neg)
     (wide-front (negatedAt xs) (map neg xs) (subst (λ (n : ℕ). n ≤ 64) (sym (length-map xs neg)) fits)
     (λ i h. sym (List·getD-map neg xs i nan)))
+
+-- what stands behind the list does not matter: log of a NaN is a NaN
+pub logs-front : (xs : List Float) → length xs ≤ 64 → take (length xs) (wide (logAt xs) (length xs)) ≡ map logOf xs
+unfolding logOf isNan
+logs-front xs fits =
+    subst (λ (n : ℕ). take n (wide (logAt xs) n) ≡ map logOf xs) (length-map xs logOf)
+    (wide-front (logAt xs) (map logOf xs) (subst (λ (n : ℕ). n ≤ 64) (sym (length-map xs logOf)) fits)
+    (λ i h. sym (List·getD-map logOf xs i nan)))
 
 pub moved-front
     : (x : List Float) (a : Float) (dx : List Float)

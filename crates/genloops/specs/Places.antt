@@ -6,7 +6,7 @@ use lib.Ieee.{Float, neg}
 use Rattle.arith.specs.Turns.{iter}
 use Rattle.double.specs.Operators.{_⊕_, _⊖_, _⊗_, _⊘_, at}
 use Rattle.double.specs.Numbers.{#0, #1, #2}
-use Rattle.kernels.specs.Door.{sqrtOf}
+use Rattle.kernels.specs.Door.{sqrtOf, logOf}
 use Rattle.genloops.specs.declared.places.Heads.{Heads}
 
 -- turn i writes f i at place i
@@ -45,6 +45,10 @@ negatedAt x i = neg (at x i)
 
 abbrev pub movedAt : List Float → Float → List Float → ℕ → Float
 movedAt x a dx i = at x i ⊕ a ⊗ at dx i
+
+-- place i of the logarithms of x
+abbrev pub logAt : List Float → ℕ → Float
+logAt x i = logOf (at x i)
 
 -- 002 unit_initialization, the head
 abbrev pub unitAt : List Float → ℕ → Float

@@ -2,8 +2,9 @@
 ghost use mathlib.Core.Path.{_≡_};
 ghost use Prim.Native.Nat.{_+_, _≤_, min};
 ghost use lib.ListN.{length};
-ghost use Rattle.genloops.specs.Places.{narrow, wide, withTail, timesAt, scaledAt, constantAt, negatedAt, movedAt, unitAt, headAt, flatHeadAt, tauAt, gradAt, headsOf, d1At, productHeadAt, productTailAt, finishedAt};
+ghost use Rattle.genloops.specs.Places.{narrow, wide, withTail, timesAt, scaledAt, constantAt, negatedAt, movedAt, unitAt, headAt, flatHeadAt, logAt, tauAt, gradAt, headsOf, d1At, productHeadAt, productTailAt, finishedAt};
 use algebra::vector::shorter;
+use kernels::log;
 use kernels::sqrt;
 
 // c*x in each place.
@@ -63,6 +64,18 @@ pub fn set_tail(g0: [f64; 64], n: usize, m: usize, v: f64) -> [f64; 64]
     for j in 0..m {
         let k = n + j;
         g[k] = v;
+    }
+    g
+}
+
+// log(x) in each place.
+pub fn logarithms(xs: &[f64]) -> [f64; 64]
+    requires { ⌜ length (now xs) ≤ 64 ⌝ }
+    ensures { λ r. ⌜ r ≡ wide (logAt (now (xs .entry))) (length (now (xs .entry))) ⌝ }
+{
+    let mut g = [0.0; 64];
+    for i in 0..xs.len() {
+        g[i] = log(xs[i]);
     }
     g
 }

@@ -30,6 +30,7 @@ use genloops::folds::primal_phi;
 use genloops::places::diagonal;
 use genloops::places::gradient_flat_head;
 use genloops::places::gradient_head;
+use genloops::places::logarithms;
 use genloops::places::moved;
 use genloops::places::negated;
 use genloops::places::product_finished;
@@ -352,6 +353,7 @@ fn gradient_from(alpha: &[f64], p: &[f64], w: &[f64], normr: f64, found: Found) 
 // When we initialize x0 such that 0 < x0 < x* and f(x0) > 0,
 // the Newton-Raphson method converges quadratically
 fn newton_raphson_genpowcone(normr: f64, p: &[f64], phi: f64, alpha: &[f64], psi: f64) -> Found
+    requires { ⌜ length (now p) ≤ 64 ⌝ }
     ensures { λ r. ⌜ r ≡ newtonRaphsonGenpowconeOf normr (now (p .entry)) phi (now (alpha .entry)) psi ⌝ }
 {
     // init point x0: f(x0) > 0
@@ -359,5 +361,11 @@ fn newton_raphson_genpowcone(normr: f64, p: &[f64], phi: f64, alpha: &[f64], psi
         + (psi * normr + sqrt((phi / normr / normr + psi * psi - 1.0) * phi))
             / (phi - normr * normr);
 
-    newton_raphson_onesided(x0, Equation::Generalized(normr), alpha, p)
+    let logs = logarithms(p);
+    newton_raphson_onesided(
+        x0,
+        Equation::Generalized(normr),
+        alpha,
+        head(&logs, p.len()),
+    )
 }

@@ -23,25 +23,24 @@ fn long_division(d: u64, n: u64) -> u64
     a / n * 1099511627776 + b / n * 1073741824 + c / n * 1048576 + e / n * 1024 + f / n
 }
 
-// floor(d·2^60 / n), by an estimate that is checked: q is the quotient if d·2^60 is q·n and a rest below n. About one in fifteen is not, and is left to the long division.
+// floor(d·2^60 / n), by an estimate that is checked: of d·2^60 raised by n, q·n leaves a rest below n where q is one more than the quotient, and one from n up to 2·n where
+// it is the quotient. No other estimate was seen; it would be left to the long division.
 fn quotient(d: u64, n: u64) -> u64
     requires { ⌜ (d < 2 ^ 44) × (0 < n) × (512 * d < n) × (n < 2 ^ 54) ⌝ }
     ensures { λ r. ⌜ r ≡ d * 2 ^ 60 / n ⌝ }
 {
-    // A shortcut for 1, the other powers of two, and 1+i/256 times these, where the estimate fails.
-    if d == 0 {
-        return 0;
-    }
-    // An estimate, of which nothing is proved: x is d, and y is n / 2^60 but for n's last bit; beside 2^52 - 1/2 there is no place for a fraction of x / y, and it is rounded down.
+    // An estimate, of which nothing is proved: x is d, and y is n / 2^60 but for n's last bit; beside 2^52 there is no place for a fraction of x / y, and it is rounded.
     let x = f64::from_bits(0x4330_0000_0000_0000 + d) - 4503599627370496.0;
     let y = f64::from_bits(0x3f70_0000_0000_0000 + n / 2);
-    let q = double::to_bits(x / y + 4503599627370495.5) % 0x10_0000_0000_0000;
-    let dividend = wide::Halves {
+    let q = double::to_bits(x / y + 4503599627370496.0) % 0x10_0000_0000_0000;
+    let raised = wide::Halves {
         hi: d / 16,
-        lo: d % 16 * 0x1000_0000_0000_0000,
+        lo: d % 16 * 0x1000_0000_0000_0000 + n,
     };
-    if wide::left(dividend, wide::product(q, n)) < n {
-        return q;
+    let rest = wide::left(raised, wide::product(q, n));
+    if rest < 2 * n {
+        // One test within the other: so the compiler subtracts the comparison and makes no branch, which would go wrong every other time.
+        return if rest < n { q - 1 } else { q };
     }
     long_division(d, n)
 }
@@ -64,7 +63,7 @@ fn mantissa(m: u64) -> u64
 {
     let h = m / 0x1000_0000_0000;
     let t = quotient(m % 0x1000_0000_0000, m + h * 0x1000_0000_0000) * 16;
-    let i = (h - 256) as usize;
+    let i = (h % 256) as usize;
     table::entry(i) * 256 + short_series(t)
 }
 

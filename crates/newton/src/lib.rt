@@ -1,7 +1,7 @@
 // 003 newton_raphson_onesided, and the two equations that it solves: f0 and f1 of 001 _newton_raphson_powcone and of 002 _newton_raphson_genpowcone.
 
 ghost use mathlib.Core.Path.{_≡_};
-ghost use Rattle.newton.specs.Equations.{powF0, powF1, genF0, genF1, f0Of, f1Of};
+ghost use Rattle.newton.specs.Equations.{powF0At, powF1, genF0At, genF1, f0Of, f1Of};
 ghost use Rattle.newton.specs.Rounds.{stopsOf, newtonOf};
 use algebra::vector::shorter;
 use double::abs;
@@ -12,9 +12,10 @@ const EPSILON: f64 = 2.220446049250313e-16;
 const SQRT_EPSILON: f64 = 1.4901161193847656e-8;
 
 // The Rust hands the rounds two closures; here the cone's kind chooses the equation, and the variant holds what the closures of that kind capture as single
-// numbers. The lists that 002's capture, the exponents and the point's heads, travel beside it: an enum holds no slice.
+// numbers. The lists that 002's capture, the exponents and the point's heads, travel beside it: an enum holds no slice. Of phi and of the heads the equations read the
+// logarithms alone, which the Rust takes anew in each round; here they are taken once, before the rounds.
 pub enum Equation {
-    // s3, phi, alpha, t0
+    // s3, log(phi), alpha, t0
     Power(f64, f64, f64, f64),
     // norm_r
     Generalized(f64),
@@ -27,14 +28,14 @@ pub struct Found {
 }
 
 // 001: function for f(x) = 0
-fn powcone_f0(s3: f64, phi: f64, alpha: f64, t0: f64, x: f64) -> f64
-    ensures { λ r. ⌜ r ≡ powF0 s3 phi alpha t0 x ⌝ }
+fn powcone_f0(s3: f64, logphi: f64, alpha: f64, t0: f64, x: f64) -> f64
+    ensures { λ r. ⌜ r ≡ powF0At s3 logphi alpha t0 x ⌝ }
 {
     let t1 = x * x;
     let t2 = (x * 2.0) / s3;
     2.0 * alpha * log(2.0 * alpha * t1 + (1.0 + alpha) * t2)
         + 2.0 * (1.0 - alpha) * log(2.0 * (1.0 - alpha) * t1 + (2.0 - alpha) * t2)
-        - log(phi)
+        - logphi
         - log(t1 + t2)
         - 2.0 * log(t2)
         + t0
@@ -52,15 +53,15 @@ fn powcone_f1(s3: f64, alpha: f64, x: f64) -> f64
 }
 
 // 002: function for f(x) = 0
-fn genpowcone_f0(normr: f64, alpha: &[f64], p: &[f64], x: f64) -> f64
-    ensures { λ r. ⌜ r ≡ genF0 normr (now (alpha .entry)) (now (p .entry)) x ⌝ }
+fn genpowcone_f0(normr: f64, alpha: &[f64], logs: &[f64], x: f64) -> f64
+    ensures { λ r. ⌜ r ≡ genF0At normr (now (alpha .entry)) (now (logs .entry)) x ⌝ }
 {
     let finit = -log(2.0 * x / normr + x * x);
-    let n = shorter(alpha.len(), p.len());
+    let n = shorter(alpha.len(), logs.len());
     let mut f = finit;
     for i in 0..n {
         let ai = alpha[i];
-        f = f + 2.0 * ai * (log(x * normr + (1.0 + ai) / ai) - log(p[i]));
+        f = f + 2.0 * ai * (log(x * normr + (1.0 + ai) / ai) - logs[i]);
     }
     f
 }
@@ -78,12 +79,12 @@ fn genpowcone_f1(normr: f64, alpha: &[f64], x: f64) -> f64
     f
 }
 
-fn f0(e: Equation, alpha: &[f64], p: &[f64], x: f64) -> f64
-    ensures { λ r. ⌜ r ≡ f0Of e (now (alpha .entry)) (now (p .entry)) x ⌝ }
+fn f0(e: Equation, alpha: &[f64], logs: &[f64], x: f64) -> f64
+    ensures { λ r. ⌜ r ≡ f0Of e (now (alpha .entry)) (now (logs .entry)) x ⌝ }
 {
     match e {
-        Equation::Power(s3, phi, a, t0) => powcone_f0(s3, phi, a, t0, x),
-        Equation::Generalized(normr) => genpowcone_f0(normr, alpha, p, x),
+        Equation::Power(s3, logphi, a, t0) => powcone_f0(s3, logphi, a, t0, x),
+        Equation::Generalized(normr) => genpowcone_f0(normr, alpha, logs, x),
     }
 }
 
@@ -91,7 +92,7 @@ fn f1(e: Equation, alpha: &[f64], x: f64) -> f64
     ensures { λ r. ⌜ r ≡ f1Of e (now (alpha .entry)) x ⌝ }
 {
     match e {
-        Equation::Power(s3, phi, a, t0) => powcone_f1(s3, a, x),
+        Equation::Power(s3, logphi, a, t0) => powcone_f1(s3, a, x),
         Equation::Generalized(normr) => genpowcone_f1(normr, alpha, x),
     }
 }
@@ -103,8 +104,8 @@ fn stops(x: f64, dx: f64, dfdx: f64) -> bool
     (dx < EPSILON) | (abs(dx / x) < SQRT_EPSILON) | (abs(dfdx) < EPSILON)
 }
 
-pub fn newton_raphson_onesided(x0: f64, e: Equation, alpha: &[f64], p: &[f64]) -> Found
-    ensures { λ r. ⌜ r ≡ newtonOf (f0Of e (now (alpha .entry)) (now (p .entry))) (f1Of e (now (alpha .entry))) x0 ⌝ }
+pub fn newton_raphson_onesided(x0: f64, e: Equation, alpha: &[f64], logs: &[f64]) -> Found
+    ensures { λ r. ⌜ r ≡ newtonOf (f0Of e (now (alpha .entry)) (now (logs .entry))) (f1Of e (now (alpha .entry))) x0 ⌝ }
 {
     // implements NR method from a starting point assumed to be to the
     // left of the true value.   Once a negative step is encountered
@@ -117,7 +118,7 @@ pub fn newton_raphson_onesided(x0: f64, e: Equation, alpha: &[f64], p: &[f64]) -
         }
         iter += 1;
         let dfdx = f1(e, alpha, x);
-        let dx = -f0(e, alpha, p, x) / dfdx;
+        let dx = -f0(e, alpha, logs, x) / dfdx;
         if stops(x, dx, dfdx) {
             break Found { x, rounds: iter };
         }

@@ -274,5 +274,10 @@ fn newton_raphson_powcone(s3: f64, phi: f64, alpha: f64) -> Found
 
     // the equation of this kind reads no list
     let unread = [alpha];
-    newton_raphson_onesided(x0, Equation::Power(s3, phi, alpha, t0), &unread, &unread)
+    newton_raphson_onesided(
+        x0,
+        Equation::Power(s3, log(phi), alpha, t0),
+        &unread,
+        &unread,
+    )
 }

@@ -18,7 +18,8 @@ use Rattle.cone.specs.Points.{threeOf}
 use Rattle.cone.specs.Refusals.{lastRows, settle}
 use Rattle.cone.proofs.Points.{wide-behind}
 use Rattle.genpowcone.proofs.Held.{unused-zero}
-use Rattle.cone_entries.specs.Formulas.{WideCall, alphasOf}
+use Rattle.cone.specs.Calls.{WideCall}
+use Rattle.cone_entries.specs.Formulas.{alphasOf}
 use Rattle.record_rows.specs.Rows.{updateRows}
 use Rattle.record_rows.proofs.LetThrough.{update-call}
 use Rattle.record_formulas.specs.Outcomes.{refuseUpdate}

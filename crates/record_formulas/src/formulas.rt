@@ -3,7 +3,7 @@
 ghost use mathlib.Core.Path.{_≡_};
 ghost use Prim.Native.Nat.{_+_, _≤_};
 ghost use lib.ListN.{length};
-ghost use Rattle.cone_entries.specs.Formulas.{WideCall};
+ghost use Rattle.cone.specs.Calls.{WideCall};
 ghost use Rattle.record_formulas.specs.Formulas.{alphaIfPower, newThree, wideAt, newWide, newRecordOf, threeGradient, wideGradient, wideBarrier, primalBarrierOf, wideCombined, threeCombined, combinedBarrierOf, wideBlock, wideProduct, correctionOf, shiftOf};
 use crate::publish::Valued;
 use algebra::vector::head;

@@ -9,10 +9,9 @@ use lib.ListN.{length, take, length-take}
 use Rattle.cone.specs.declared.Cone.{Cone}
 use Rattle.cone.specs.declared.Scaling.{Scaling}
 use Rattle.cone.specs.Judges.{coneOk, numelOf, blockOf}
+use Rattle.cone.specs.Calls.{WideCall}
 use Rattle.cone.proofs.Settled.{row-1-off, row-2-off}
-use Rattle.cone.proofs.Lengths.{same-1, same-2, same-3, same-4, cone-is-ok, wide-passes, dim1-at-most, dim2-at-most, numel-3D, numel-wide, numel-at-most, block-3D, block-at-most}
-use Rattle.cone_entries.specs.Formulas.{WideCall}
-use Rattle.cone_entries.proofs.Lengths.{wide-call, used-length}
+use Rattle.cone.proofs.Lengths.{same-1, same-2, same-3, same-4, cone-is-ok, wide-passes, dim1-at-most, dim2-at-most, numel-3D, numel-wide, numel-at-most, block-3D, block-at-most, wide-call, used-length}
 use Rattle.record_rows.specs.Rows.{updateRows, gradientRows, barrierRows, computeRows, blockRows, productRows, correctionRows}
 
 -- ---- by the entry's rows

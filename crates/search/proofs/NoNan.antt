@@ -14,12 +14,12 @@ use Rattle.algebra.specs.Vectors.{movedOf}
 use Rattle.cone.specs.declared.Cone.{Cone}
 use Rattle.cone.specs.declared.Settings.{Settings}
 use Rattle.cone.specs.Judges.{allOf, allFinite}
-use Rattle.search.specs.Trials.{Usable}
-use Rattle.search.specs.Search.{Problem, Outcome, searchOf}
+use Rattle.trials.specs.Trials.{Usable}
+use Rattle.trials.specs.Search.{Problem, Outcome, searchOf}
 use Rattle.search.specs.Points.{trialPoint, allNumbers}
 use Rattle.search.specs.Passes.{problemOf}
-use Rattle.search.proofs.Trials.{trial-positive}
-use Rattle.search.proofs.Walk.{trialOf, Ended, passed, failed, ended}
+use Rattle.trials.proofs.Trials.{trial-positive}
+use Rattle.trials.proofs.Walk.{trialOf, Ended, passed, failed, ended}
 use Rattle.search.proofs.Settings.{of-true}
 
 finite-number : (x : Float) → finite x ≡ true → not (isNan x) ≡ true

@@ -1,5 +1,2 @@
-pub mod Trials
-pub mod Search
-pub mod FirstPassing
 pub mod Points
 pub mod Passes

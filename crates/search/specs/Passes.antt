@@ -12,7 +12,7 @@ use Rattle.cone.specs.Points.{threeOf}
 use Rattle.expcone.specs.Feasible as expcone
 use Rattle.powcone.specs.Feasible as powcone
 use Rattle.genpowcone.specs.Feasible as genpowcone
-use Rattle.search.specs.Search.{Problem}
+use Rattle.trials.specs.Search.{Problem}
 use Rattle.search.specs.Points.{trialPoint}
 
 -- 000 step_length: is_prim_feasible_fcn and is_dual_feasible_fcn

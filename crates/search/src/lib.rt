@@ -1,7 +1,7 @@
-// 003: the step search along a direction. Its laws, for any test of a point, are in proofs/FirstPassing.
+// 003: the step search along a direction. Its laws, for any test of a point, are in the crate trials.
 ghost use mathlib.Core.Path.{_≡_};
 ghost use lib.ListN.{length};
-ghost use Rattle.search.specs.Search.{outcome, searchOf};
+ghost use Rattle.trials.specs.Search.{outcome, searchOf};
 ghost use Rattle.search.specs.Points.{trialPoint};
 ghost use Rattle.search.specs.Passes.{expPasses, powPasses, genpowPasses, passesOf, problemOf, Searchable};
 use algebra::vector::head;

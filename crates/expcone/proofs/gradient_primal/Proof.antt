@@ -3,7 +3,7 @@ use mathlib.Core.Path.{_≡_, refl, ap, _∙_}
 use lib.Ieee.{Float}
 use Rattle.arith.proofs.Branches.{taken, left}
 use Rattle.double.specs.Operators.{at}
-use Rattle.expcone.specs.Omega.{omegaOf, omegaArg, omegaAt}
+use Rattle.wright.specs.Omega.{omegaOf, omegaArg, omegaAt}
 use mathlib.Core.List.{List}
 use Rattle.expcone.specs.PrimalGradient.{gradientPrimalOf, gradientBy, gradientAt}
 use borrow.Author.Needs.{needs}

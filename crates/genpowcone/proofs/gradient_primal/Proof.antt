@@ -1,5 +1,6 @@
 -- `gradient_primal` is its definition, whether norm_r is above ε or not. Assumes nothing.
 use native.Mathlib.Omega.{arith}
+use lib.ListN.{length-take}
 use borrow.Author.Needs.{needs}
 use Rattle.genpowcone.specs.PrimalGradient.{flatGradient, gradientPrimalOf, psiOf}
 use Rattle.genpowcone.proofs.gradient_primal.Statement.{statement}
@@ -21,7 +22,7 @@ sumsq-requires : tie.Need-sumsq-requires
 sumsq-requires c κs = search needs
 
 newton-raphson-genpowcone-requires : tie.Need-newton-raphson-genpowcone-requires
-newton-raphson-genpowcone-requires c κs = search needs
+newton-raphson-genpowcone-requires c κs = rw (c .before .before .before .before .head .ensures) (simp length-take (omega arith))
 
 gradient-from-requires : tie.Need-gradient-from-requires
 gradient-from-requires c κs = search needs

@@ -1,7 +1,10 @@
 -- `mantissa` meets its contract: the entry, the quotient and the series are each small enough for their sum, which is the specification's. Assumes nothing.
-use Prim.Native.Nat.{_+_, _-_, _*_, _/_, _%_}
+use mathlib.Core.Path.{ap, _∙_}
+use Prim.Native.Nat.{ℕ, _+_, _*_, _/_, _%_}
 use native.Mathlib.Omega.{arith}
+use lib.ListN.{getD}
 use borrow.Author.Needs.{needs}
+use Rattle.logarithm.specs.Table.{table}
 use Rattle.logarithm.proofs.LongDivision.{quotient-small}
 use Rattle.logarithm.proofs.TableRule.{entry-small}
 use Rattle.logarithm.proofs.Mantissas.{Parts, parts}
@@ -20,14 +23,11 @@ quotient-requires c κs = search needs
 mul-t : tie.Need-mul-t
 mul-t c = omega (arith, quotient-small (c .before .args .m + c .before .args .m / 17592186044416 * 17592186044416) (omega arith) (c .before .args .m % 17592186044416) (omega arith))
 
-sub-i : tie.Need-sub-i
-sub-i c = search needs
-
 entry-requires : tie.Need-entry-requires
 entry-requires c κs = search needs
 
 mul-result : tie.Need-mul-result
-mul-result c = omega (arith, entry-small (c .before .before .args .m / 17592186044416 - 256) (omega arith))
+mul-result c = omega (arith, entry-small (c .before .before .args .m / 17592186044416 % 256) (omega arith))
 
 short-series-requires : tie.Need-short-series-requires
 short-series-requires c κs = omega (arith, quotient-small (c .before .before .args .m + c .before .before .args .m / 17592186044416 * 17592186044416) (omega arith) (c .before .before .args .m % 17592186044416) (omega arith))
@@ -41,7 +41,7 @@ computed c =
     (c .before .before .before .pre .0)
     (c .before .before .before .pre .1)
     (c .before .before .quotient .ensures)
-    (c .before .entry .ensures)
+    (c .before .entry .ensures ∙ ap (λ (i : ℕ). getD table i 0) (omega arith))
     (c .short-series .ensures)
 
 add-result : tie.Need-add-result
@@ -58,7 +58,6 @@ mantissa-spec =
     add-quotient
     quotient-requires
     mul-t
-    sub-i
     entry-requires
     mul-result
     short-series-requires

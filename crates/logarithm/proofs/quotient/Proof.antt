@@ -1,8 +1,7 @@
--- `quotient` meets its contract: if d·2^60 has a rest below n over q·n, then q is the quotient, wherever q came from. Every other q is left to `long_division`.
--- Assumes nothing.
+-- `quotient` meets its contract: d·2^60 + n has a rest below 2·n over q·n, and then the rest tells whether q is the quotient or one more, wherever q came from. Every other q
+-- is left to `long_division`. Assumes nothing.
 use mathlib.Core.Path.{_≡_, sym, ap, _∙_}
-use Prim.Native.Nat.{ℕ, _+_, _*_, _/_, _%_, _^_, _<_}
-use native.Mathlib.Nat.{zero-div}
+use Prim.Native.Nat.{ℕ, zero, suc, _+_, _-_, _*_, _/_, _%_, _^_, _<_, _≤_}
 use native.Mathlib.Omega.{arith}
 use lib.Arith.{digits-div}
 use borrow.Author.Needs.{needs}
@@ -14,20 +13,35 @@ use Rattle.wide.proofs.Differences.{over}
 use Rattle.logarithm.proofs.quotient.Statement.{statement}
 use Rattle.logarithm.proofs.quotient.Tie as tie
 
--- d·2^60 by its halves
-abbrev dividend : ℕ → Halves
-dividend d = record { hi = d / 16; lo = d % 16 * 2 ^ 60 }
+-- d·2^60 + n by its halves
+abbrev raised : ℕ → ℕ → Halves
+raised d n = record { hi = d / 16; lo = d % 16 * 2 ^ 60 + n }
 
--- the check: r is what d·2^60 has over q·n
-checked : (d n q r : ℕ) (p : Halves) → n < 2 ^ 54 → p ≡ productOf q n → r ≡ leftOf (wholeOf (dividend d)) (wholeOf p) → r < n → q ≡ d * 2 ^ 60 / n
+-- the check: r is what d·2^60 + n has over q·n
+checked : (d n q r : ℕ) (p : Halves) → n < 2 ^ 54 → p ≡ productOf q n → r ≡ leftOf (wholeOf (raised d n)) (wholeOf p) → r < 2 * n → q * n + r ≡ d * 2 ^ 60 + n
 unfolding wholeOf
 checked d n q r p small ep er below =
     let made : wholeOf p ≡ q * n = ap wholeOf ep ∙ halves-make-product q n in
-    let sum : q * n + r ≡ d * 2 ^ 60 = omega (arith, over (wholeOf (dividend d)) (wholeOf p) (omega arith)) in
-    sym (digits-div q below) ∙ ap (λ (x : ℕ). x / n) sum
+    omega (arith, over (wholeOf (raised d n)) (wholeOf p) (omega arith))
 
-returns : tie.Need-returns
-returns c = sym (rw (c .if1 .taken) (zero-div (c .before .args .n)))
+-- What a rest tells, of any number x in place of d·2^60.
+module _ (n r x : ℕ) where
+  not-zero : (q : ℕ) → q * n + r ≡ x + n → r < n → 1 ≤ q
+  not-zero zero e i = omega arith
+  not-zero (suc q) e i = omega arith
+
+  one-less : (q : ℕ) → q * n + r ≡ x + n → r < n → q - 1 ≡ x / n
+  one-less zero e i = omega arith
+  one-less (suc q) e i =
+      let sum : q * n + r ≡ x = omega arith in
+      let quotient : q ≡ x / n = sym (digits-div q i) ∙ ap (λ (y : ℕ). y / n) sum in
+      omega arith
+
+  itself : (q : ℕ) → q * n + r ≡ x + n → n ≤ r → r < 2 * n → q ≡ x / n
+  itself q e i j =
+      let sum : q * n + (r - n) ≡ x = omega arith in
+      let small : r - n < n = omega arith in
+      sym (digits-div q small) ∙ ap (λ (y : ℕ). y / n) sum
 
 add-x : tie.Need-add-x
 add-x c = search needs
@@ -47,14 +61,36 @@ to-bits-requires c κs = search needs
 mul-t12 : tie.Need-mul-t12
 mul-t12 c = search needs
 
+add-t13 : tie.Need-add-t13
+add-t13 c = search needs
+
 product-requires : tie.Need-product-requires
 product-requires c κs = search needs
 
 left-requires : tie.Need-left-requires
 left-requires c κs = search needs
 
+mul-if1 : tie.Need-mul-if1
+mul-if1 c = search needs
+
+sub-result : tie.Need-sub-result
+sub-result c =
+    not-zero _ _ _ _
+    (checked _ _ _ _ _ (omega arith) (c .before .before .before .product .ensures) (c .before .before .left .ensures) (omega arith))
+    (omega arith)
+
+returns : tie.Need-returns
+returns c =
+    one-less _ _ _ _
+    (checked _ _ _ _ _ (omega arith) (c .before .before .before .product .ensures) (c .before .before .left .ensures) (omega arith))
+    (omega arith)
+
 returns-2 : tie.Need-returns-2
-returns-2 c = checked _ _ _ _ _ (omega arith) (c .before .before .product .ensures) (c .before .left .ensures) (omega arith)
+returns-2 c =
+    itself _ _ _ _
+    (checked _ _ _ _ _ (omega arith) (c .before .before .before .product .ensures) (c .before .before .left .ensures) (omega arith))
+    (omega arith)
+    (omega arith)
 
 long-division-requires : tie.Need-long-division-requires
 long-division-requires c κs = search needs
@@ -66,15 +102,18 @@ pub quotient-spec : {M : Type 1} → statement M
 quotient-spec =
     tie.close
     (tie.spec
-    returns
     add-x
     float-from-bits-x
     add-y
     float-from-bits-y
     to-bits-requires
     mul-t12
+    add-t13
     product-requires
     left-requires
+    mul-if1
+    sub-result
+    returns
     returns-2
     long-division-requires
     returns-3)

@@ -4,17 +4,17 @@ use mathlib.Core.Path.{_≡_}
 use lib.ListN.{length}
 use Rattle.arith.specs.Turns.{iter}
 use Rattle.arith.proofs.Turns.{iter-none, iter-next, iter-end}
-use Rattle.newton.specs.Equations.{genF0, genF0Turn}
+use Rattle.newton.specs.Equations.{genF0At, genF0Turn}
 use borrow.Author.Needs.{needs}
 use native.Mathlib.Omega.{arith}
 use Rattle.newton.proofs.genpowcone_f0.Statement.{statement}
 use Rattle.newton.proofs.genpowcone_f0.Tie as tie
 
 abbrev Inv-loop : tie.InvT-loop
-Inv-loop normr alpha p x finit n f₀ i₀ f i = (n ≡ min (length alpha) (length p)) × (i ≤ n) × (f ≡ iter (genF0Turn normr alpha p x) finit i)
+Inv-loop normr alpha logs x finit n f₀ i₀ f i = (n ≡ min (length alpha) (length logs)) × (i ≤ n) × (f ≡ iter (genF0Turn normr alpha logs x) finit i)
 
 abbrev μ-loop : tie.MeasureT-loop
-μ-loop normr alpha p x finit n f₀ i₀ f i = n - i
+μ-loop normr alpha logs x finit n f₀ i₀ f i = n - i
 
 log-requires : tie.Need-log-requires Inv-loop μ-loop
 log-requires c κs = search needs
@@ -34,14 +34,11 @@ shared-slice-read-ai c = omega arith
 log-requires-2 : tie.Need-log-requires-2 Inv-loop μ-loop
 log-requires-2 c κs = search needs
 
-mul-log : tie.Need-mul-log Inv-loop μ-loop
-mul-log c = omega arith
+mul-f : tie.Need-mul-f Inv-loop μ-loop
+mul-f c = omega arith
 
-shared-slice-read-log : tie.Need-shared-slice-read-log Inv-loop μ-loop
-shared-slice-read-log c = omega arith
-
-log-requires-3 : tie.Need-log-requires-3 Inv-loop μ-loop
-log-requires-3 c κs = search needs
+shared-slice-read-f : tie.Need-shared-slice-read-f Inv-loop μ-loop
+shared-slice-read-f c = omega arith
 
 add-i : tie.Need-add-i Inv-loop μ-loop
 add-i c = omega arith
@@ -51,11 +48,12 @@ loop-less c = omega arith
 
 loop-again : tie.Need-loop-again Inv-loop μ-loop
 loop-again c =
-    let l = c .before .before .before .before .before .loop in
-    (l .inv .0, omega arith, rw (c .log3 .ensures, c .before .before .log2 .ensures) (iter-next _ _ _ (l .inv .2)))
+    let t = c .before in
+    let l = t .before .before .before .loop in
+    (l .inv .0, omega arith, rw (t .log2 .ensures) (iter-next _ _ _ (l .inv .2)))
 
 returns : tie.Need-returns Inv-loop μ-loop
-unfolding genF0
+unfolding genF0At
 returns c =
     let l = c .before .loop in
     rw (← c .before .before .before .log .ensures) (iter-end _ _ _ _ (l .inv .2) (omega arith) (omega arith))
@@ -72,9 +70,8 @@ genpowcone-f0-spec =
     mul-ai
     shared-slice-read-ai
     log-requires-2
-    mul-log
-    shared-slice-read-log
-    log-requires-3
+    mul-f
+    shared-slice-read-f
     add-i
     loop-less
     loop-again

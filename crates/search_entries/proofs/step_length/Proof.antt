@@ -1,7 +1,7 @@
 -- A call that its rows refuse leaves with their number, one that they let through hands both outcomes on. Assumes nothing.
 use mathlib.Core.Path.{_≡_, _∙_, sym, ap}
 use Rattle.cone.proofs.Settled.{refused, done}
-use Rattle.search.specs.Search.{Outcome}
+use Rattle.trials.specs.Search.{Outcome}
 use Rattle.search_entries.proofs.LetThrough.{both-searchable}
 use Rattle.search_entries.specs.Entries.{bothFound, stepLengthOf}
 use borrow.Author.Needs.{needs}

@@ -1,5 +1,5 @@
 -- `gradients` asks the cone of the kind and leaves the other kind's places +0. Assumes nothing.
-use Rattle.cone_entries.proofs.Lengths.{wide-fits}
+use Rattle.cone.proofs.Lengths.{wide-fits}
 use borrow.Author.Tests.{eq-eqb, ne-eqb}
 use Rattle.cone_entries.specs.Formulas.{gradientsOf}
 use borrow.Author.Needs.{needs}

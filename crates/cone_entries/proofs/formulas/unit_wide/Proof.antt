@@ -1,6 +1,6 @@
 -- `unit_wide` hands the used exponents on. Assumes nothing.
 use native.Mathlib.Omega.{arith}
-use Rattle.cone_entries.proofs.Lengths.{used-at-most}
+use Rattle.cone.proofs.Lengths.{used-at-most}
 use Rattle.cone_entries.specs.Formulas.{unitWide}
 use borrow.Author.Needs.{needs}
 use Rattle.cone_entries.proofs.formulas.unit_wide.Statement.{statement}

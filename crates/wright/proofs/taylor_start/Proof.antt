@@ -1,8 +1,8 @@
 -- `taylor_start` meets its contract: it is the definition's text. Assumes nothing.
 use mathlib.Core.Path.{refl}
-use Rattle.expcone.specs.Omega.{taylorStart}
-use Rattle.expcone.proofs.omega.taylor_start.Statement.{statement}
-use Rattle.expcone.proofs.omega.taylor_start.Tie as tie
+use Rattle.wright.specs.Omega.{taylorStart}
+use Rattle.wright.proofs.taylor_start.Statement.{statement}
+use Rattle.wright.proofs.taylor_start.Tie as tie
 
 returns : tie.Need-returns
 unfolding taylorStart

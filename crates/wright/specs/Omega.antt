@@ -6,8 +6,8 @@ use Rattle.arith.specs.Turns.{iter}
 use Rattle.double.specs.Operators.{_⊕_, _⊖_, _⊗_, _⊘_, _≺_, at}
 use Rattle.double.specs.Numbers.{#0, #½, #1, #1½, #2, #3, #8, #13, #16, #72, #192, #3072, #61440, #π}
 use Rattle.kernels.specs.Door.{logOf}
-use Rattle.expcone.specs.declared.omega.Omega.{Omega}
-use Rattle.expcone.specs.declared.omega.Approx.{Approx}
+use Rattle.wright.specs.declared.Omega.{Omega}
+use Rattle.wright.specs.declared.Approx.{Approx}
 
 -- 000 _wright_omega, "Initialize with the taylor series"
 unfoldable pub taylorStart : Float → Float

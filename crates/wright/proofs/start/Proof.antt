@@ -1,8 +1,8 @@
 -- `start` meets its contract: the test picks the definition's branch. Assumes nothing.
-use Rattle.expcone.specs.Omega.{startOf}
+use Rattle.wright.specs.Omega.{startOf}
 use borrow.Author.Needs.{needs}
-use Rattle.expcone.proofs.omega.start.Statement.{statement}
-use Rattle.expcone.proofs.omega.start.Tie as tie
+use Rattle.wright.proofs.start.Statement.{statement}
+use Rattle.wright.proofs.start.Tie as tie
 
 taylor-start-requires : tie.Need-taylor-start-requires
 taylor-start-requires c κs = search needs

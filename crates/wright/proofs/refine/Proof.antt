@@ -1,8 +1,8 @@
 -- `refine` meets its contract: it is the definition's text. Assumes nothing.
 use mathlib.Core.Path.{refl}
-use Rattle.expcone.specs.Omega.{refineOf}
-use Rattle.expcone.proofs.omega.refine.Statement.{statement}
-use Rattle.expcone.proofs.omega.refine.Tie as tie
+use Rattle.wright.specs.Omega.{refineOf}
+use Rattle.wright.proofs.refine.Statement.{statement}
+use Rattle.wright.proofs.refine.Tie as tie
 
 returns : tie.Need-returns
 unfolding refineOf

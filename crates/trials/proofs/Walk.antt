@@ -8,9 +8,9 @@ use native.Mathlib.Nat.{zero-add, add-suc, suc-add, le-refl, le-step, le-of-suc-
 use native.Mathlib.Omega.{arith}
 use lib.Ieee.{Float}
 use Rattle.double.specs.Operators.{_⊗_, _≺_}
-use Rattle.search.specs.Trials.{trial, Allowed, bound, Usable}
-use Rattle.search.specs.Search.{Problem, passesAt, cutAfter, hit, miss, scan, searchOf}
-use Rattle.search.proofs.Trials.{under-bound}
+use Rattle.trials.specs.Trials.{trial, Allowed, bound, Usable}
+use Rattle.trials.specs.Search.{Problem, passesAt, cutAfter, hit, miss, scan, searchOf}
+use Rattle.trials.proofs.Trials.{under-bound}
 
 abbrev pub trialOf : Problem → ℕ → Float
 trialOf P k = trial (P .how) k

@@ -11,7 +11,7 @@ use Rattle.rounding.proofs.Units.{is-units}
 use Rattle.double.specs.Fields.{fieldOf, digitsOf, mag}
 use Rattle.double.proofs.Fields.{digits-lt, read}
 use Rattle.double.proofs.Normalised.{size-of-normal}
-use Rattle.search.specs.Trials.{exponentOf}
+use Rattle.trials.specs.Trials.{exponentOf}
 
 -- the field 0 has no normal number
 field-pos : (f t : ℕ) → 2 ^ 52 ≤ mag f t → t < 2 ^ 52 → 1 ≤ f

@@ -19,8 +19,8 @@ use Rattle.double.specs.Operators.{_≺_, _≼_}
 use Rattle.double.specs.Numbers.{#largestStep, #smallestNormal}
 use Rattle.double.proofs.Fields.{field-lt}
 use Rattle.cone.specs.declared.Settings.{Settings}
-use Rattle.search.specs.Trials.{trial, Allowed, exponentOf, productsPerExponent, bound, Usable}
-use Rattle.search.proofs.Exponents.{digits-by-exponent}
+use Rattle.trials.specs.Trials.{trial, Allowed, exponentOf, productsPerExponent, bound, Usable}
+use Rattle.trials.proofs.Exponents.{digits-by-exponent}
 
 -- One product leaves at most R / Q of a trial: 99 / 100, and half a place of 53 digits.
 abbrev Q : ℕ

@@ -8,7 +8,7 @@
 //  https://web.stanford.edu/group/SOL/dissertations/ThesisAkleAdobe-augmented.pdf
 
 ghost use mathlib.Core.Path.{_≡_};
-ghost use Rattle.expcone.specs.Omega.{taylorStart, logStart, startOf, refineOf, refinedOf, omegaOf};
+ghost use Rattle.wright.specs.Omega.{taylorStart, logStart, startOf, refineOf, refinedOf, omegaOf};
 use kernels::log;
 
 const PI: f64 = 3.141592653589793;

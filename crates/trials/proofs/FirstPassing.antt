@@ -9,11 +9,11 @@ use lib.Dec.{T}
 use lib.Ieee.{Float, ofBits}
 use lib.Ieee.Positive.{positive}
 use Rattle.double.specs.Numbers.{#0}
-use Rattle.search.specs.Trials.{trial, Allowed, Usable}
-use Rattle.search.specs.Search.{Problem, Outcome, outcome, passesAt, cutAfter, hit, miss, searchOf}
-use Rattle.search.specs.FirstPassing.{First, NonePasses, Last, FirstPassing}
-use Rattle.search.proofs.Trials.{trial-positive, under-bound}
-use Rattle.search.proofs.Walk.{trialOf, Reached, below-suc, Ended, passed, failed, ended}
+use Rattle.trials.specs.Trials.{trial, Allowed, Usable}
+use Rattle.trials.specs.Search.{Problem, Outcome, outcome, passesAt, cutAfter, hit, miss, searchOf}
+use Rattle.trials.specs.FirstPassing.{First, NonePasses, Last, FirstPassing}
+use Rattle.trials.proofs.Trials.{trial-positive, under-bound}
+use Rattle.trials.proofs.Walk.{trialOf, Reached, below-suc, Ended, passed, failed, ended}
 
 no-other : (k n : ℕ) → (k < n → ⊥) → (n < k → ⊥) → k ≡ n
 no-other k n h g = omega arith

@@ -5,8 +5,8 @@ use mathlib.Core.Path.{_≡_}
 use mathlib.Core.Bool.{true, false}
 use Rattle.double.specs.Operators.{_≺_}
 use Rattle.double.specs.Numbers.{#0}
-use Rattle.search.specs.Trials.{trial, Allowed, bound}
-use Rattle.search.specs.Search.{Problem, Outcome, passesAt}
+use Rattle.trials.specs.Trials.{trial, Allowed, bound}
+use Rattle.trials.specs.Search.{Problem, Outcome, passesAt}
 
 -- the trial k is the first allowed one whose computed point passes
 pub record First (P : Problem) (k : ℕ) : Type 0 where

@@ -1,8 +1,8 @@
 -- `wright_omega` meets its contract: the test picks the definition's branch. Assumes nothing.
-use Rattle.expcone.specs.Omega.{omegaOf}
+use Rattle.wright.specs.Omega.{omegaOf}
 use borrow.Author.Needs.{needs}
-use Rattle.expcone.proofs.omega.wright_omega.Statement.{statement}
-use Rattle.expcone.proofs.omega.wright_omega.Tie as tie
+use Rattle.wright.proofs.wright_omega.Statement.{statement}
+use Rattle.wright.proofs.wright_omega.Tie as tie
 
 returns : tie.Need-returns
 unfolding omegaOf

@@ -4,12 +4,12 @@ use mathlib.Core.Path.{_≡_, _∙_, ap}
 use lib.Ieee.{Float}
 use Rattle.arith.specs.Turns.{iter}
 use Rattle.arith.proofs.Turns.{iter-none, iter-next, iter-end}
-use Rattle.expcone.specs.declared.omega.Approx.{Approx}
-use Rattle.expcone.specs.Omega.{refineOf, refinedAt, refinedOf}
+use Rattle.wright.specs.declared.Approx.{Approx}
+use Rattle.wright.specs.Omega.{refineOf, refinedAt, refinedOf}
 use borrow.Author.Needs.{needs}
 use native.Mathlib.Omega.{arith}
-use Rattle.expcone.proofs.omega.refined.Statement.{statement}
-use Rattle.expcone.proofs.omega.refined.Tie as tie
+use Rattle.wright.proofs.refined.Statement.{statement}
+use Rattle.wright.proofs.refined.Tie as tie
 
 abbrev Inv-loop : tie.InvT-loop
 Inv-loop z w a₀ i₀ a i = (i ≤ 2) × (a ≡ iter (λ _ b. refineOf b) a₀ i)

@@ -1,8 +1,8 @@
 -- `log_start` meets its contract: it is the definition's text. Assumes nothing.
 use mathlib.Core.Path.{refl}
-use Rattle.expcone.specs.Omega.{logStart}
-use Rattle.expcone.proofs.omega.log_start.Statement.{statement}
-use Rattle.expcone.proofs.omega.log_start.Tie as tie
+use Rattle.wright.specs.Omega.{logStart}
+use Rattle.wright.proofs.log_start.Statement.{statement}
+use Rattle.wright.proofs.log_start.Tie as tie
 
 returns : tie.Need-returns
 unfolding logStart

@@ -189,52 +189,52 @@ use Rattle.powcone.proofs.update_dual_grad_h.Kinds as powcone-update-dual-grad-
 use Rattle.powcone.proofs.update_dual_grad_h.Reads as powcone-update-dual-grad-h
 use Rattle.powcone.proofs.gradient_primal.Kinds as powcone-gradient-primal-kinds
 use Rattle.powcone.proofs.gradient_primal.Reads as powcone-gradient-primal
-use Rattle.powcorrection.proofs.combined_ds_shift.Kinds as powcorrection-combined-ds-shift-kinds
-use Rattle.powcorrection.proofs.combined_ds_shift.Reads as powcorrection-combined-ds-shift
-use Rattle.powcorrection.proofs.higher_correction.Kinds as powcorrection-higher-correction-kinds
-use Rattle.powcorrection.proofs.higher_correction.Reads as powcorrection-higher-correction
-use Rattle.genloops.proofs.folds.all_above_zero.Kinds as genloops-folds-all-above-zero-kinds
-use Rattle.genloops.proofs.folds.all_above_zero.Reads as genloops-folds-all-above-zero
-use Rattle.genloops.proofs.folds.primal_log_sum.Kinds as genloops-folds-primal-log-sum-kinds
-use Rattle.genloops.proofs.folds.primal_log_sum.Reads as genloops-folds-primal-log-sum
-use Rattle.genloops.proofs.folds.dual_log_sum.Kinds as genloops-folds-dual-log-sum-kinds
-use Rattle.genloops.proofs.folds.dual_log_sum.Reads as genloops-folds-dual-log-sum
-use Rattle.genloops.proofs.folds.less_logs.Kinds as genloops-folds-less-logs-kinds
-use Rattle.genloops.proofs.folds.less_logs.Reads as genloops-folds-less-logs
-use Rattle.genloops.proofs.folds.primal_phi.Kinds as genloops-folds-primal-phi-kinds
-use Rattle.genloops.proofs.folds.primal_phi.Reads as genloops-folds-primal-phi
-use Rattle.genloops.proofs.folds.dual_phi.Kinds as genloops-folds-dual-phi-kinds
-use Rattle.genloops.proofs.folds.dual_phi.Reads as genloops-folds-dual-phi
-use Rattle.genloops.proofs.places.times64.Kinds as genloops-places-times64-kinds
-use Rattle.genloops.proofs.places.times64.Reads as genloops-places-times64
-use Rattle.genloops.proofs.places.times32.Kinds as genloops-places-times32-kinds
-use Rattle.genloops.proofs.places.times32.Reads as genloops-places-times32
-use Rattle.genloops.proofs.places.times_tail.Kinds as genloops-places-times-tail-kinds
-use Rattle.genloops.proofs.places.times_tail.Reads as genloops-places-times-tail
-use Rattle.genloops.proofs.places.scale32.Kinds as genloops-places-scale32-kinds
-use Rattle.genloops.proofs.places.scale32.Reads as genloops-places-scale32
-use Rattle.genloops.proofs.places.set_tail.Kinds as genloops-places-set-tail-kinds
-use Rattle.genloops.proofs.places.set_tail.Reads as genloops-places-set-tail
-use Rattle.genloops.proofs.places.negated.Kinds as genloops-places-negated-kinds
-use Rattle.genloops.proofs.places.negated.Reads as genloops-places-negated
-use Rattle.genloops.proofs.places.moved.Kinds as genloops-places-moved-kinds
-use Rattle.genloops.proofs.places.moved.Reads as genloops-places-moved
-use Rattle.genloops.proofs.places.unit_head.Kinds as genloops-places-unit-head-kinds
-use Rattle.genloops.proofs.places.unit_head.Reads as genloops-places-unit-head
-use Rattle.genloops.proofs.places.gradient_head.Kinds as genloops-places-gradient-head-kinds
-use Rattle.genloops.proofs.places.gradient_head.Reads as genloops-places-gradient-head
-use Rattle.genloops.proofs.places.gradient_flat_head.Kinds as genloops-places-gradient-flat-head-kinds
-use Rattle.genloops.proofs.places.gradient_flat_head.Reads as genloops-places-gradient-flat-head
-use Rattle.genloops.proofs.places.tau_and_grad.Kinds as genloops-places-tau-and-grad-kinds
-use Rattle.genloops.proofs.places.tau_and_grad.Reads as genloops-places-tau-and-grad
-use Rattle.genloops.proofs.places.diagonal.Kinds as genloops-places-diagonal-kinds
-use Rattle.genloops.proofs.places.diagonal.Reads as genloops-places-diagonal
-use Rattle.genloops.proofs.places.product_head.Kinds as genloops-places-product-head-kinds
-use Rattle.genloops.proofs.places.product_head.Reads as genloops-places-product-head
-use Rattle.genloops.proofs.places.product_tail.Kinds as genloops-places-product-tail-kinds
-use Rattle.genloops.proofs.places.product_tail.Reads as genloops-places-product-tail
-use Rattle.genloops.proofs.places.product_finished.Kinds as genloops-places-product-finished-kinds
-use Rattle.genloops.proofs.places.product_finished.Reads as genloops-places-product-finished
+use Rattle.powcone_correction.proofs.combined_ds_shift.Kinds as powcone_correction-combined-ds-shift-kinds
+use Rattle.powcone_correction.proofs.combined_ds_shift.Reads as powcone_correction-combined-ds-shift
+use Rattle.powcone_correction.proofs.higher_correction.Kinds as powcone_correction-higher-correction-kinds
+use Rattle.powcone_correction.proofs.higher_correction.Reads as powcone_correction-higher-correction
+use Rattle.genpowcone_loops.proofs.folds.all_above_zero.Kinds as genpowcone_loops-folds-all-above-zero-kinds
+use Rattle.genpowcone_loops.proofs.folds.all_above_zero.Reads as genpowcone_loops-folds-all-above-zero
+use Rattle.genpowcone_loops.proofs.folds.primal_log_sum.Kinds as genpowcone_loops-folds-primal-log-sum-kinds
+use Rattle.genpowcone_loops.proofs.folds.primal_log_sum.Reads as genpowcone_loops-folds-primal-log-sum
+use Rattle.genpowcone_loops.proofs.folds.dual_log_sum.Kinds as genpowcone_loops-folds-dual-log-sum-kinds
+use Rattle.genpowcone_loops.proofs.folds.dual_log_sum.Reads as genpowcone_loops-folds-dual-log-sum
+use Rattle.genpowcone_loops.proofs.folds.less_logs.Kinds as genpowcone_loops-folds-less-logs-kinds
+use Rattle.genpowcone_loops.proofs.folds.less_logs.Reads as genpowcone_loops-folds-less-logs
+use Rattle.genpowcone_loops.proofs.folds.primal_phi.Kinds as genpowcone_loops-folds-primal-phi-kinds
+use Rattle.genpowcone_loops.proofs.folds.primal_phi.Reads as genpowcone_loops-folds-primal-phi
+use Rattle.genpowcone_loops.proofs.folds.dual_phi.Kinds as genpowcone_loops-folds-dual-phi-kinds
+use Rattle.genpowcone_loops.proofs.folds.dual_phi.Reads as genpowcone_loops-folds-dual-phi
+use Rattle.genpowcone_loops.proofs.places.times64.Kinds as genpowcone_loops-places-times64-kinds
+use Rattle.genpowcone_loops.proofs.places.times64.Reads as genpowcone_loops-places-times64
+use Rattle.genpowcone_loops.proofs.places.times32.Kinds as genpowcone_loops-places-times32-kinds
+use Rattle.genpowcone_loops.proofs.places.times32.Reads as genpowcone_loops-places-times32
+use Rattle.genpowcone_loops.proofs.places.times_tail.Kinds as genpowcone_loops-places-times-tail-kinds
+use Rattle.genpowcone_loops.proofs.places.times_tail.Reads as genpowcone_loops-places-times-tail
+use Rattle.genpowcone_loops.proofs.places.scale32.Kinds as genpowcone_loops-places-scale32-kinds
+use Rattle.genpowcone_loops.proofs.places.scale32.Reads as genpowcone_loops-places-scale32
+use Rattle.genpowcone_loops.proofs.places.set_tail.Kinds as genpowcone_loops-places-set-tail-kinds
+use Rattle.genpowcone_loops.proofs.places.set_tail.Reads as genpowcone_loops-places-set-tail
+use Rattle.genpowcone_loops.proofs.places.negated.Kinds as genpowcone_loops-places-negated-kinds
+use Rattle.genpowcone_loops.proofs.places.negated.Reads as genpowcone_loops-places-negated
+use Rattle.genpowcone_loops.proofs.places.moved.Kinds as genpowcone_loops-places-moved-kinds
+use Rattle.genpowcone_loops.proofs.places.moved.Reads as genpowcone_loops-places-moved
+use Rattle.genpowcone_loops.proofs.places.unit_head.Kinds as genpowcone_loops-places-unit-head-kinds
+use Rattle.genpowcone_loops.proofs.places.unit_head.Reads as genpowcone_loops-places-unit-head
+use Rattle.genpowcone_loops.proofs.places.gradient_head.Kinds as genpowcone_loops-places-gradient-head-kinds
+use Rattle.genpowcone_loops.proofs.places.gradient_head.Reads as genpowcone_loops-places-gradient-head
+use Rattle.genpowcone_loops.proofs.places.gradient_flat_head.Kinds as genpowcone_loops-places-gradient-flat-head-kinds
+use Rattle.genpowcone_loops.proofs.places.gradient_flat_head.Reads as genpowcone_loops-places-gradient-flat-head
+use Rattle.genpowcone_loops.proofs.places.tau_and_grad.Kinds as genpowcone_loops-places-tau-and-grad-kinds
+use Rattle.genpowcone_loops.proofs.places.tau_and_grad.Reads as genpowcone_loops-places-tau-and-grad
+use Rattle.genpowcone_loops.proofs.places.diagonal.Kinds as genpowcone_loops-places-diagonal-kinds
+use Rattle.genpowcone_loops.proofs.places.diagonal.Reads as genpowcone_loops-places-diagonal
+use Rattle.genpowcone_loops.proofs.places.product_head.Kinds as genpowcone_loops-places-product-head-kinds
+use Rattle.genpowcone_loops.proofs.places.product_head.Reads as genpowcone_loops-places-product-head
+use Rattle.genpowcone_loops.proofs.places.product_tail.Kinds as genpowcone_loops-places-product-tail-kinds
+use Rattle.genpowcone_loops.proofs.places.product_tail.Reads as genpowcone_loops-places-product-tail
+use Rattle.genpowcone_loops.proofs.places.product_finished.Kinds as genpowcone_loops-places-product-finished-kinds
+use Rattle.genpowcone_loops.proofs.places.product_finished.Reads as genpowcone_loops-places-product-finished
 use Rattle.genpowcone.proofs.unit_initialization.Kinds as genpowcone-unit-initialization-kinds
 use Rattle.genpowcone.proofs.unit_initialization.Reads as genpowcone-unit-initialization
 use Rattle.genpowcone.proofs.get_hs.Kinds as genpowcone-get-hs-kinds
@@ -650,78 +650,78 @@ powcone-update-dual-grad-h-agrees κs a x y s t p q = (p ∙ sym q, refl)
 pub powcone-gradient-primal-agrees : Determines 0 powcone-gradient-primal-kinds.ps powcone-gradient-primal-kinds.r powcone-gradient-primal.Post (Unit {0}) (λ κs s. tt)
 powcone-gradient-primal-agrees κs a x y s t p q = (p ∙ sym q, refl)
 
--- ---- powcorrection: 001, the correction
+-- ---- powcone_correction: 001, the correction
 
-pub powcorrection-combined-ds-shift-agrees : Determines 0 powcorrection-combined-ds-shift-kinds.ps powcorrection-combined-ds-shift-kinds.r powcorrection-combined-ds-shift.Post (Unit {0}) (λ κs s. tt)
-powcorrection-combined-ds-shift-agrees κs a x y s t p q = (p ∙ sym q, refl)
+pub powcone_correction-combined-ds-shift-agrees : Determines 0 powcone_correction-combined-ds-shift-kinds.ps powcone_correction-combined-ds-shift-kinds.r powcone_correction-combined-ds-shift.Post (Unit {0}) (λ κs s. tt)
+powcone_correction-combined-ds-shift-agrees κs a x y s t p q = (p ∙ sym q, refl)
 
-pub powcorrection-higher-correction-agrees : Determines 0 powcorrection-higher-correction-kinds.ps powcorrection-higher-correction-kinds.r powcorrection-higher-correction.Post (Unit {0}) (λ κs s. tt)
-powcorrection-higher-correction-agrees κs a x y s t p q = (p ∙ sym q, refl)
+pub powcone_correction-higher-correction-agrees : Determines 0 powcone_correction-higher-correction-kinds.ps powcone_correction-higher-correction-kinds.r powcone_correction-higher-correction.Post (Unit {0}) (λ κs s. tt)
+powcone_correction-higher-correction-agrees κs a x y s t p q = (p ∙ sym q, refl)
 
--- ---- genloops: 002, the loops
+-- ---- genpowcone_loops: 002, the loops
 
-pub genloops-folds-all-above-zero-agrees : Determines 1 genloops-folds-all-above-zero-kinds.ps genloops-folds-all-above-zero-kinds.r genloops-folds-all-above-zero.Post (Unit {0}) (λ κs s. tt)
-genloops-folds-all-above-zero-agrees κs a x y s t p q = (p ∙ sym q, refl)
+pub genpowcone_loops-folds-all-above-zero-agrees : Determines 1 genpowcone_loops-folds-all-above-zero-kinds.ps genpowcone_loops-folds-all-above-zero-kinds.r genpowcone_loops-folds-all-above-zero.Post (Unit {0}) (λ κs s. tt)
+genpowcone_loops-folds-all-above-zero-agrees κs a x y s t p q = (p ∙ sym q, refl)
 
-pub genloops-folds-primal-log-sum-agrees : Determines 2 genloops-folds-primal-log-sum-kinds.ps genloops-folds-primal-log-sum-kinds.r genloops-folds-primal-log-sum.Post (Unit {0}) (λ κs s. tt)
-genloops-folds-primal-log-sum-agrees κs a x y s t p q = (p ∙ sym q, refl)
+pub genpowcone_loops-folds-primal-log-sum-agrees : Determines 2 genpowcone_loops-folds-primal-log-sum-kinds.ps genpowcone_loops-folds-primal-log-sum-kinds.r genpowcone_loops-folds-primal-log-sum.Post (Unit {0}) (λ κs s. tt)
+genpowcone_loops-folds-primal-log-sum-agrees κs a x y s t p q = (p ∙ sym q, refl)
 
-pub genloops-folds-dual-log-sum-agrees : Determines 2 genloops-folds-dual-log-sum-kinds.ps genloops-folds-dual-log-sum-kinds.r genloops-folds-dual-log-sum.Post (Unit {0}) (λ κs s. tt)
-genloops-folds-dual-log-sum-agrees κs a x y s t p q = (p ∙ sym q, refl)
+pub genpowcone_loops-folds-dual-log-sum-agrees : Determines 2 genpowcone_loops-folds-dual-log-sum-kinds.ps genpowcone_loops-folds-dual-log-sum-kinds.r genpowcone_loops-folds-dual-log-sum.Post (Unit {0}) (λ κs s. tt)
+genpowcone_loops-folds-dual-log-sum-agrees κs a x y s t p q = (p ∙ sym q, refl)
 
-pub genloops-folds-less-logs-agrees : Determines 2 genloops-folds-less-logs-kinds.ps genloops-folds-less-logs-kinds.r genloops-folds-less-logs.Post (Unit {0}) (λ κs s. tt)
-genloops-folds-less-logs-agrees κs a x y s t p q = (p ∙ sym q, refl)
+pub genpowcone_loops-folds-less-logs-agrees : Determines 2 genpowcone_loops-folds-less-logs-kinds.ps genpowcone_loops-folds-less-logs-kinds.r genpowcone_loops-folds-less-logs.Post (Unit {0}) (λ κs s. tt)
+genpowcone_loops-folds-less-logs-agrees κs a x y s t p q = (p ∙ sym q, refl)
 
-pub genloops-folds-primal-phi-agrees : Determines 2 genloops-folds-primal-phi-kinds.ps genloops-folds-primal-phi-kinds.r genloops-folds-primal-phi.Post (Unit {0}) (λ κs s. tt)
-genloops-folds-primal-phi-agrees κs a x y s t p q = (p ∙ sym q, refl)
+pub genpowcone_loops-folds-primal-phi-agrees : Determines 2 genpowcone_loops-folds-primal-phi-kinds.ps genpowcone_loops-folds-primal-phi-kinds.r genpowcone_loops-folds-primal-phi.Post (Unit {0}) (λ κs s. tt)
+genpowcone_loops-folds-primal-phi-agrees κs a x y s t p q = (p ∙ sym q, refl)
 
-pub genloops-folds-dual-phi-agrees : Determines 2 genloops-folds-dual-phi-kinds.ps genloops-folds-dual-phi-kinds.r genloops-folds-dual-phi.Post (Unit {0}) (λ κs s. tt)
-genloops-folds-dual-phi-agrees κs a x y s t p q = (p ∙ sym q, refl)
+pub genpowcone_loops-folds-dual-phi-agrees : Determines 2 genpowcone_loops-folds-dual-phi-kinds.ps genpowcone_loops-folds-dual-phi-kinds.r genpowcone_loops-folds-dual-phi.Post (Unit {0}) (λ κs s. tt)
+genpowcone_loops-folds-dual-phi-agrees κs a x y s t p q = (p ∙ sym q, refl)
 
-pub genloops-places-times64-agrees : Determines 1 genloops-places-times64-kinds.ps genloops-places-times64-kinds.r genloops-places-times64.Post (Unit {0}) (λ κs s. tt)
-genloops-places-times64-agrees κs a x y s t p q = (p ∙ sym q, refl)
+pub genpowcone_loops-places-times64-agrees : Determines 1 genpowcone_loops-places-times64-kinds.ps genpowcone_loops-places-times64-kinds.r genpowcone_loops-places-times64.Post (Unit {0}) (λ κs s. tt)
+genpowcone_loops-places-times64-agrees κs a x y s t p q = (p ∙ sym q, refl)
 
-pub genloops-places-times32-agrees : Determines 1 genloops-places-times32-kinds.ps genloops-places-times32-kinds.r genloops-places-times32.Post (Unit {0}) (λ κs s. tt)
-genloops-places-times32-agrees κs a x y s t p q = (p ∙ sym q, refl)
+pub genpowcone_loops-places-times32-agrees : Determines 1 genpowcone_loops-places-times32-kinds.ps genpowcone_loops-places-times32-kinds.r genpowcone_loops-places-times32.Post (Unit {0}) (λ κs s. tt)
+genpowcone_loops-places-times32-agrees κs a x y s t p q = (p ∙ sym q, refl)
 
-pub genloops-places-times-tail-agrees : Determines 1 genloops-places-times-tail-kinds.ps genloops-places-times-tail-kinds.r genloops-places-times-tail.Post (Unit {0}) (λ κs s. tt)
-genloops-places-times-tail-agrees κs a x y s t p q = (p ∙ sym q, refl)
+pub genpowcone_loops-places-times-tail-agrees : Determines 1 genpowcone_loops-places-times-tail-kinds.ps genpowcone_loops-places-times-tail-kinds.r genpowcone_loops-places-times-tail.Post (Unit {0}) (λ κs s. tt)
+genpowcone_loops-places-times-tail-agrees κs a x y s t p q = (p ∙ sym q, refl)
 
-pub genloops-places-scale32-agrees : Determines 1 genloops-places-scale32-kinds.ps genloops-places-scale32-kinds.r genloops-places-scale32.Post (Unit {0}) (λ κs s. tt)
-genloops-places-scale32-agrees κs a x y s t p q = (p ∙ sym q, refl)
+pub genpowcone_loops-places-scale32-agrees : Determines 1 genpowcone_loops-places-scale32-kinds.ps genpowcone_loops-places-scale32-kinds.r genpowcone_loops-places-scale32.Post (Unit {0}) (λ κs s. tt)
+genpowcone_loops-places-scale32-agrees κs a x y s t p q = (p ∙ sym q, refl)
 
-pub genloops-places-set-tail-agrees : Determines 0 genloops-places-set-tail-kinds.ps genloops-places-set-tail-kinds.r genloops-places-set-tail.Post (Unit {0}) (λ κs s. tt)
-genloops-places-set-tail-agrees κs a x y s t p q = (p ∙ sym q, refl)
+pub genpowcone_loops-places-set-tail-agrees : Determines 0 genpowcone_loops-places-set-tail-kinds.ps genpowcone_loops-places-set-tail-kinds.r genpowcone_loops-places-set-tail.Post (Unit {0}) (λ κs s. tt)
+genpowcone_loops-places-set-tail-agrees κs a x y s t p q = (p ∙ sym q, refl)
 
-pub genloops-places-negated-agrees : Determines 1 genloops-places-negated-kinds.ps genloops-places-negated-kinds.r genloops-places-negated.Post (Unit {0}) (λ κs s. tt)
-genloops-places-negated-agrees κs a x y s t p q = (p ∙ sym q, refl)
+pub genpowcone_loops-places-negated-agrees : Determines 1 genpowcone_loops-places-negated-kinds.ps genpowcone_loops-places-negated-kinds.r genpowcone_loops-places-negated.Post (Unit {0}) (λ κs s. tt)
+genpowcone_loops-places-negated-agrees κs a x y s t p q = (p ∙ sym q, refl)
 
-pub genloops-places-moved-agrees : Determines 2 genloops-places-moved-kinds.ps genloops-places-moved-kinds.r genloops-places-moved.Post (Unit {0}) (λ κs s. tt)
-genloops-places-moved-agrees κs a x y s t p q = (p ∙ sym q, refl)
+pub genpowcone_loops-places-moved-agrees : Determines 2 genpowcone_loops-places-moved-kinds.ps genpowcone_loops-places-moved-kinds.r genpowcone_loops-places-moved.Post (Unit {0}) (λ κs s. tt)
+genpowcone_loops-places-moved-agrees κs a x y s t p q = (p ∙ sym q, refl)
 
-pub genloops-places-unit-head-agrees : Determines 1 genloops-places-unit-head-kinds.ps genloops-places-unit-head-kinds.r genloops-places-unit-head.Post (Unit {0}) (λ κs s. tt)
-genloops-places-unit-head-agrees κs a x y s t p q = (p ∙ sym q, refl)
+pub genpowcone_loops-places-unit-head-agrees : Determines 1 genpowcone_loops-places-unit-head-kinds.ps genpowcone_loops-places-unit-head-kinds.r genpowcone_loops-places-unit-head.Post (Unit {0}) (λ κs s. tt)
+genpowcone_loops-places-unit-head-agrees κs a x y s t p q = (p ∙ sym q, refl)
 
-pub genloops-places-gradient-head-agrees : Determines 2 genloops-places-gradient-head-kinds.ps genloops-places-gradient-head-kinds.r genloops-places-gradient-head.Post (Unit {0}) (λ κs s. tt)
-genloops-places-gradient-head-agrees κs a x y s t p q = (p ∙ sym q, refl)
+pub genpowcone_loops-places-gradient-head-agrees : Determines 2 genpowcone_loops-places-gradient-head-kinds.ps genpowcone_loops-places-gradient-head-kinds.r genpowcone_loops-places-gradient-head.Post (Unit {0}) (λ κs s. tt)
+genpowcone_loops-places-gradient-head-agrees κs a x y s t p q = (p ∙ sym q, refl)
 
-pub genloops-places-gradient-flat-head-agrees : Determines 2 genloops-places-gradient-flat-head-kinds.ps genloops-places-gradient-flat-head-kinds.r genloops-places-gradient-flat-head.Post (Unit {0}) (λ κs s. tt)
-genloops-places-gradient-flat-head-agrees κs a x y s t p q = (p ∙ sym q, refl)
+pub genpowcone_loops-places-gradient-flat-head-agrees : Determines 2 genpowcone_loops-places-gradient-flat-head-kinds.ps genpowcone_loops-places-gradient-flat-head-kinds.r genpowcone_loops-places-gradient-flat-head.Post (Unit {0}) (λ κs s. tt)
+genpowcone_loops-places-gradient-flat-head-agrees κs a x y s t p q = (p ∙ sym q, refl)
 
-pub genloops-places-tau-and-grad-agrees : Determines 2 genloops-places-tau-and-grad-kinds.ps genloops-places-tau-and-grad-kinds.r genloops-places-tau-and-grad.Post (Unit {0}) (λ κs s. tt)
-genloops-places-tau-and-grad-agrees κs a x y s t p q = (p ∙ sym q, refl)
+pub genpowcone_loops-places-tau-and-grad-agrees : Determines 2 genpowcone_loops-places-tau-and-grad-kinds.ps genpowcone_loops-places-tau-and-grad-kinds.r genpowcone_loops-places-tau-and-grad.Post (Unit {0}) (λ κs s. tt)
+genpowcone_loops-places-tau-and-grad-agrees κs a x y s t p q = (p ∙ sym q, refl)
 
-pub genloops-places-diagonal-agrees : Determines 2 genloops-places-diagonal-kinds.ps genloops-places-diagonal-kinds.r genloops-places-diagonal.Post (Unit {0}) (λ κs s. tt)
-genloops-places-diagonal-agrees κs a x y s t p q = (p ∙ sym q, refl)
+pub genpowcone_loops-places-diagonal-agrees : Determines 2 genpowcone_loops-places-diagonal-kinds.ps genpowcone_loops-places-diagonal-kinds.r genpowcone_loops-places-diagonal.Post (Unit {0}) (λ κs s. tt)
+genpowcone_loops-places-diagonal-agrees κs a x y s t p q = (p ∙ sym q, refl)
 
-pub genloops-places-product-head-agrees : Determines 1 genloops-places-product-head-kinds.ps genloops-places-product-head-kinds.r genloops-places-product-head.Post (Unit {0}) (λ κs s. tt)
-genloops-places-product-head-agrees κs a x y s t p q = (p ∙ sym q, refl)
+pub genpowcone_loops-places-product-head-agrees : Determines 1 genpowcone_loops-places-product-head-kinds.ps genpowcone_loops-places-product-head-kinds.r genpowcone_loops-places-product-head.Post (Unit {0}) (λ κs s. tt)
+genpowcone_loops-places-product-head-agrees κs a x y s t p q = (p ∙ sym q, refl)
 
-pub genloops-places-product-tail-agrees : Determines 1 genloops-places-product-tail-kinds.ps genloops-places-product-tail-kinds.r genloops-places-product-tail.Post (Unit {0}) (λ κs s. tt)
-genloops-places-product-tail-agrees κs a x y s t p q = (p ∙ sym q, refl)
+pub genpowcone_loops-places-product-tail-agrees : Determines 1 genpowcone_loops-places-product-tail-kinds.ps genpowcone_loops-places-product-tail-kinds.r genpowcone_loops-places-product-tail.Post (Unit {0}) (λ κs s. tt)
+genpowcone_loops-places-product-tail-agrees κs a x y s t p q = (p ∙ sym q, refl)
 
-pub genloops-places-product-finished-agrees : Determines 0 genloops-places-product-finished-kinds.ps genloops-places-product-finished-kinds.r genloops-places-product-finished.Post (Unit {0}) (λ κs s. tt)
-genloops-places-product-finished-agrees κs a x y s t p q = (p ∙ sym q, refl)
+pub genpowcone_loops-places-product-finished-agrees : Determines 0 genpowcone_loops-places-product-finished-kinds.ps genpowcone_loops-places-product-finished-kinds.r genpowcone_loops-places-product-finished.Post (Unit {0}) (λ κs s. tt)
+genpowcone_loops-places-product-finished-agrees κs a x y s t p q = (p ∙ sym q, refl)
 
 -- ---- genpowcone: 002
 

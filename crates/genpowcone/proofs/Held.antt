@@ -11,9 +11,9 @@ use Rattle.double.specs.Numbers.{#0, #2}
 use Rattle.algebra.specs.Vectors.{sumsqOf}
 use Rattle.cone.specs.Fresh.{noWide}
 use Rattle.cone.specs.declared.Wide.{Wide}
-use Rattle.genloops.specs.Folds.{dualPhi}
-use Rattle.genloops.specs.Places.{wide, withTail, narrow, timesAt, scaledAt, constantAt, tauAt, gradAt, d1At, headsOf}
-use Rattle.genloops.proofs.Arrays.{narrow-behind, wide-behind, wide-within, wide-length, withTail-before, withTail-behind, withTail-within}
+use Rattle.genpowcone_loops.specs.Folds.{dualPhi}
+use Rattle.genpowcone_loops.specs.Places.{wide, withTail, narrow, timesAt, scaledAt, constantAt, tauAt, gradAt, d1At, headsOf}
+use Rattle.genpowcone_loops.proofs.Arrays.{narrow-behind, wide-behind, wide-within, wide-length, withTail-before, withTail-behind, withTail-within}
 use Rattle.genpowcone.specs.Rank3.{getHsOf, coefficientsOf, pOf, qOf, rank3At}
 use Rattle.genpowcone.specs.DualGradient.{gradHAt, updateDualGradHOf}
 use Rattle.genpowcone.specs.Places.{HsPlaces, UnusedZero}

@@ -7,7 +7,7 @@ use Rattle.double.specs.Operators.{_⊖_, _≺_}
 use Rattle.double.specs.Numbers.{#0}
 use Rattle.kernels.specs.Door.{expOf}
 use Rattle.algebra.specs.Vectors.{sumsqOf}
-use Rattle.genloops.specs.Folds.{allAboveZero, primalLogSum, dualLogSum}
+use Rattle.genpowcone_loops.specs.Folds.{allAboveZero, primalLogSum, dualLogSum}
 use Rattle.genpowcone.specs.declared.Residue.{Residue}
 
 -- the residue p - w, beside the two numbers that it is made of

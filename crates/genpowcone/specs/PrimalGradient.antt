@@ -11,8 +11,8 @@ use Rattle.algebra.specs.Vectors.{sumsqOf, normOf}
 use Rattle.newton.specs.Equations.{genF0, genF1}
 use Rattle.newton.specs.Rounds.{newtonOf}
 use Rattle.newton.specs.declared.Found.{Found}
-use Rattle.genloops.specs.Folds.{primalPhi}
-use Rattle.genloops.specs.Places.{wide, withTail, unitAt, headAt, flatHeadAt, timesAt}
+use Rattle.genpowcone_loops.specs.Folds.{primalPhi}
+use Rattle.genpowcone_loops.specs.Places.{wide, withTail, unitAt, headAt, flatHeadAt, timesAt}
 use Rattle.genpowcone.specs.declared.Gradient.{Gradient}
 
 -- 002 unit_initialization: z and s alike

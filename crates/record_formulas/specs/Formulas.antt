@@ -1,5 +1,5 @@
 -- The formulas behind the entries over a record, chosen by kind. Definitions only; each names the Rust function, whose own definition stands
--- in expcone, powcone, powcorrection, genpowcone or scaling. 01: "Closures become a choice by cone kind."
+-- in expcone, powcone, powcone_correction, genpowcone or scaling. 01: "Closures become a choice by cone kind."
 use Prim.Native.Nat.{ℕ}
 use mathlib.Core.Bool.{cond, false}
 use mathlib.Core.List.{List}
@@ -19,7 +19,7 @@ use Rattle.expcone.specs.PrimalGradient as expPrimal
 use Rattle.expcone.specs.Correction as expCorrection
 use Rattle.powcone.specs.Barriers as powBarriers
 use Rattle.powcone.specs.PrimalGradient as powPrimal
-use Rattle.powcorrection.specs.Correction as powCorrection
+use Rattle.powcone_correction.specs.Correction as powCorrection
 use Rattle.genpowcone.specs.Barriers as genBarriers
 use Rattle.genpowcone.specs.PrimalGradient as genPrimal
 use Rattle.genpowcone.specs.DualGradient as genDual

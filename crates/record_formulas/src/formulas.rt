@@ -272,7 +272,7 @@ pub fn correction(scaling: Scaling, ds: [f64; 3], v: [f64; 3]) -> [f64; 3]
     let kind = scaling.cone.kind;
     if kind == 2 {
         let cone = scaling.cone;
-        return powcorrection::higher_correction(cone.exps[0], h, z, ds, v);
+        return powcone_correction::higher_correction(cone.exps[0], h, z, ds, v);
     }
     expcone::higher_correction(h, z, ds, v)
 }
@@ -287,7 +287,15 @@ pub fn shift(scaling: Scaling, stepz: [f64; 3], steps: [f64; 3], sigmamu: f64) -
     let kind = scaling.cone.kind;
     if kind == 2 {
         let cone = scaling.cone;
-        return powcorrection::combined_ds_shift(cone.exps[0], h, z, grad, stepz, steps, sigmamu);
+        return powcone_correction::combined_ds_shift(
+            cone.exps[0],
+            h,
+            z,
+            grad,
+            stepz,
+            steps,
+            sigmamu,
+        );
     }
     expcone::combined_ds_shift(h, z, grad, stepz, steps, sigmamu)
 }

@@ -6,21 +6,9 @@ use borrow.Author.Needs.{needs}
 use Rattle.cone.proofs.place.Statement.{statement}
 use Rattle.cone.proofs.place.Tie as tie
 
-mul-result : tie.Need-mul-result
-mul-result c = search needs
-
-shared-slice-read-result : tie.Need-shared-slice-read-result
-shared-slice-read-result c = search needs
-
-nan-requires : tie.Need-nan-requires
-nan-requires c κs = search needs
-
-returns : tie.Need-returns
-returns c = search needs
-
 returns-2 : tie.Need-returns-2
 returns-2 c = c .nan .ensures ∙ sym (List·getD-eq-default (c .before .before .before .args .xs .now) nan (c .before .if1 .left))
 
 pub place-spec : {M : Type 1} → statement M
 place-spec =
-    tie.close (tie.spec mul-result shared-slice-read-result nan-requires returns returns-2)
+    tie.close (tie.spec (λ c. search needs) (λ c. search needs) (λ c κs. search needs) (λ c. search needs) returns-2)

@@ -9,18 +9,12 @@ use borrow.Author.Needs.{needs}
 use Rattle.cone_entries.proofs.affine_ds.Statement.{statement}
 use Rattle.cone_entries.proofs.affine_ds.Tie as tie
 
-copy-rows-requires : tie.Need-copy-rows-requires
-copy-rows-requires c κs = search needs
-
 returns : tie.Need-returns
 unfolding affineDsOf
 returns c = refused _ _ _ _ (c .before .copy-rows .ensures) (c .if1 .taken)
 
 store-requires : tie.Need-store-requires
 store-requires c κs = copy-length _ _ _ (sym (c .before .before .copy-rows .ensures) ∙ c .before .if1 .left) .0
-
-same-length : tie.Need-same-length
-same-length c = search needs
 
 returns-2 : tie.Need-returns-2
 unfolding affineDsOf
@@ -32,4 +26,4 @@ returns-2 c =
 
 pub affine-ds-spec : {M : Type 1} → statement M
 affine-ds-spec =
-    tie.close (tie.spec copy-rows-requires returns store-requires same-length returns-2)
+    tie.close (tie.spec (λ c κs. search needs) returns store-requires (λ c. search needs) returns-2)

@@ -7,18 +7,9 @@ use borrow.Author.Needs.{needs}
 use Rattle.cone_entries.proofs.barrier_dual.Statement.{statement}
 use Rattle.cone_entries.proofs.barrier_dual.Tie as tie
 
-read-rows-requires : tie.Need-read-rows-requires
-read-rows-requires c κs = search needs
-
 returns : tie.Need-returns
 unfolding barrierDualOf
 returns c = refused _ _ _ _ (c .before .read-rows .ensures) (c .if1 .taken)
-
-barrier-requires : tie.Need-barrier-requires
-barrier-requires c κs = search needs
-
-finished-requires : tie.Need-finished-requires
-finished-requires c κs = search needs
 
 returns-2 : tie.Need-returns-2
 unfolding barrierDualOf
@@ -29,4 +20,4 @@ returns-2 c =
 
 pub barrier-dual-spec : {M : Type 1} → statement M
 barrier-dual-spec =
-    tie.close (tie.spec read-rows-requires returns barrier-requires finished-requires returns-2)
+    tie.close (tie.spec (λ c κs. search needs) returns (λ c κs. search needs) (λ c κs. search needs) returns-2)

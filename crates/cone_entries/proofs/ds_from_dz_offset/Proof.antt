@@ -9,18 +9,12 @@ use borrow.Author.Needs.{needs}
 use Rattle.cone_entries.proofs.ds_from_dz_offset.Statement.{statement}
 use Rattle.cone_entries.proofs.ds_from_dz_offset.Tie as tie
 
-offset-rows-requires : tie.Need-offset-rows-requires
-offset-rows-requires c κs = search needs
-
 returns : tie.Need-returns
 unfolding dsFromDzOffsetOf
 returns c = refused _ _ _ _ (c .before .offset-rows .ensures) (c .if1 .taken)
 
 store-requires : tie.Need-store-requires
 store-requires c κs = offset-length _ _ _ _ (sym (c .before .before .offset-rows .ensures) ∙ c .before .if1 .left)
-
-same-length : tie.Need-same-length
-same-length c = search needs
 
 returns-2 : tie.Need-returns-2
 unfolding dsFromDzOffsetOf
@@ -32,4 +26,4 @@ returns-2 c =
 
 pub ds-from-dz-offset-spec : {M : Type 1} → statement M
 ds-from-dz-offset-spec =
-    tie.close (tie.spec offset-rows-requires returns store-requires same-length returns-2)
+    tie.close (tie.spec (λ c κs. search needs) returns store-requires (λ c. search needs) returns-2)

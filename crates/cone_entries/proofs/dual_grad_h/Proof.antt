@@ -8,24 +8,12 @@ use borrow.Author.Needs.{needs}
 use Rattle.cone_entries.proofs.dual_grad_h.Statement.{statement}
 use Rattle.cone_entries.proofs.dual_grad_h.Tie as tie
 
-read-rows-requires : tie.Need-read-rows-requires
-read-rows-requires c κs = search needs
-
-refused-gradient-requires : tie.Need-refused-gradient-requires
-refused-gradient-requires c κs = search needs
-
 returns : tie.Need-returns
 unfolding dualGradHOf
 returns c = c .refused-gradient .ensures ∙ refused _ _ _ _ (c .before .before .read-rows .ensures) (c .before .if1 .taken)
 
 gradients-requires : tie.Need-gradients-requires
 gradients-requires c κs = read-call _ _ (sym (c .before .read-rows .ensures) ∙ c .if1 .left)
-
-last-rows-requires : tie.Need-last-rows-requires
-last-rows-requires c κs = search needs
-
-refused-gradient-requires-2 : tie.Need-refused-gradient-requires-2
-refused-gradient-requires-2 c κs = search needs
 
 returns-2 : tie.Need-returns-2
 unfolding dualGradHOf
@@ -54,11 +42,9 @@ pub dual-grad-h-spec : {M : Type 1} → statement M
 dual-grad-h-spec =
     tie.close
     (tie.spec
-    read-rows-requires
-    refused-gradient-requires
+    (λ c κs. search needs) (λ c κs. search needs)
     returns
     gradients-requires
-    last-rows-requires
-    refused-gradient-requires-2
+    (λ c κs. search needs) (λ c κs. search needs)
     returns-2
     returns-3)

@@ -5,18 +5,6 @@ use borrow.Author.Needs.{needs}
 use Rattle.cone_entries.proofs.fresh.Statement.{statement}
 use Rattle.cone_entries.proofs.fresh.Tie as tie
 
-cone-ok-requires : tie.Need-cone-ok-requires
-cone-ok-requires c κs = search needs
-
-row-requires : tie.Need-row-requires
-row-requires c κs = search needs
-
-empty-cone-requires : tie.Need-empty-cone-requires
-empty-cone-requires c κs = search needs
-
-fresh-requires : tie.Need-fresh-requires
-fresh-requires c κs = search needs
-
 returns : tie.Need-returns
 unfolding freshOf
 returns c =
@@ -24,9 +12,6 @@ returns c =
     let at-row = let-through .before in
     let at-cone-ok = at-row .before in
     simp (c .fresh .ensures, c .before .empty-cone .ensures) (refused _ _ _ _ (simp (at-row .row .ensures, at-cone-ok .cone-ok .ensures)) (let-through .if1 .taken))
-
-fresh-requires-2 : tie.Need-fresh-requires-2
-fresh-requires-2 c κs = search needs
 
 returns-2 : tie.Need-returns-2
 unfolding freshOf
@@ -39,10 +24,7 @@ pub fresh-spec : {M : Type 1} → statement M
 fresh-spec =
     tie.close
     (tie.spec
-    cone-ok-requires
-    row-requires
-    empty-cone-requires
-    fresh-requires
+    (λ c κs. search needs) (λ c κs. search needs) (λ c κs. search needs) (λ c κs. search needs)
     returns
-    fresh-requires-2
+    (λ c κs. search needs)
     returns-2)

@@ -5,19 +5,13 @@ use borrow.Author.Needs.{needs}
 use Rattle.cone_entries.proofs.is_dual_feasible.Statement.{statement}
 use Rattle.cone_entries.proofs.is_dual_feasible.Tie as tie
 
-read-rows-requires : tie.Need-read-rows-requires
-read-rows-requires c κs = search needs
-
 returns : tie.Need-returns
 unfolding isDualFeasibleOf
 returns c = refused _ _ _ _ (c .before .read-rows .ensures) (c .if1 .taken)
-
-passes-requires : tie.Need-passes-requires
-passes-requires c κs = search needs
 
 returns-2 : tie.Need-returns-2
 unfolding isDualFeasibleOf
 returns-2 c = simp (c .passes .ensures) (done _ _ _ _ (c .before .before .read-rows .ensures) (c .before .if1 .left))
 
 pub is-dual-feasible-spec : {M : Type 1} → statement M
-is-dual-feasible-spec = tie.close (tie.spec read-rows-requires returns passes-requires returns-2)
+is-dual-feasible-spec = tie.close (tie.spec (λ c κs. search needs) returns (λ c κs. search needs) returns-2)

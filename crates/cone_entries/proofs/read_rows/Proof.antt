@@ -4,24 +4,6 @@ use borrow.Author.Needs.{needs}
 use Rattle.cone_entries.proofs.read_rows.Statement.{statement}
 use Rattle.cone_entries.proofs.read_rows.Tie as tie
 
-numel-requires : tie.Need-numel-requires
-numel-requires c κs = search needs
-
-cone-ok-requires : tie.Need-cone-ok-requires
-cone-ok-requires c κs = search needs
-
-all-finite-requires : tie.Need-all-finite-requires
-all-finite-requires c κs = search needs
-
-row-requires : tie.Need-row-requires
-row-requires c κs = search needs
-
-row-requires-2 : tie.Need-row-requires-2
-row-requires-2 c κs = search needs
-
-row-requires-3 : tie.Need-row-requires-3
-row-requires-3 c κs = search needs
-
 returns : tie.Need-returns
 unfolding readRows
 returns c =
@@ -35,10 +17,6 @@ pub read-rows-spec : {M : Type 1} → statement M
 read-rows-spec =
     tie.close
     (tie.spec
-    numel-requires
-    cone-ok-requires
-    all-finite-requires
-    row-requires
-    row-requires-2
-    row-requires-3
+    (λ c κs. search needs) (λ c κs. search needs) (λ c κs. search needs) (λ c κs. search needs) (λ c κs. search needs)
+    (λ c κs. search needs)
     returns)

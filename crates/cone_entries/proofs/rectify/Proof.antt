@@ -39,9 +39,6 @@ module _ (c : Cone) (δ e : List Float) (r : ℕ) (k : r ≡ copyRows c (length 
       p ∙ ap (publishOf δ) (h ∙ ap (take (length e)) w ∙ ap (λ (m : ℕ). take m (wideOf (rectifiedOf e))) (sym n) ∙ f)
       ∙ done _ r _ (refuse δ) k z
 
-copy-rows-requires : tie.Need-copy-rows-requires
-copy-rows-requires c κs = search needs
-
 returns : tie.Need-returns
 unfolding rectifyOf
 returns c = refused _ _ _ _ (c .before .copy-rows .ensures) (c .if1 .taken)
@@ -49,21 +46,12 @@ returns c = refused _ _ _ _ (c .before .copy-rows .ensures) (c .if1 .taken)
 rectified-requires : tie.Need-rectified-requires
 rectified-requires c κs = copy-length _ _ _ (sym (c .before .copy-rows .ensures) ∙ c .if1 .left) .1
 
-slice-aggregate-head : tie.Need-slice-aggregate-head
-slice-aggregate-head c = search needs
-
-head-requires : tie.Need-head-requires
-head-requires c κs = search needs
-
 publish-requires : tie.Need-publish-requires
 publish-requires c κs =
     let at-if1 = c .before .before .before .before in
     let judged = at-if1 .before in
     let start = judged .before .before .before in
     as-long (start .args .cone) (start .args .delta .now) (start .args .e .now) _ (judged .copy-rows .ensures) (at-if1 .if1 .left) _ (search needs) (c .head .ensures)
-
-same-length : tie.Need-same-length
-same-length c = search needs
 
 returns-2 : tie.Need-returns-2
 returns-2 c =
@@ -79,11 +67,10 @@ pub rectify-spec : {M : Type 1} → statement M
 rectify-spec =
     tie.close
     (tie.spec
-    copy-rows-requires
+    (λ c κs. search needs)
     returns
     rectified-requires
-    slice-aggregate-head
-    head-requires
+    (λ c. search needs) (λ c κs. search needs)
     publish-requires
-    same-length
+    (λ c. search needs)
     returns-2)

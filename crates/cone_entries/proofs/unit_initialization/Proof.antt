@@ -45,21 +45,9 @@ module _ (c : Cone) (z s : List Float) (r : ℕ) (e : r ≡ unitRows c (length z
   unfolding unitInitializationOf
   three-answer k p u = done-left _ r _ (refuseTwo z s) e n (ne-eqb _ _ k) (p ∙ ap (λ (l : List Float). publishTwoOf z s l l) u)
 
-unit-rows-requires : tie.Need-unit-rows-requires
-unit-rows-requires c κs = search needs
-
 returns : tie.Need-returns
 unfolding unitInitializationOf
 returns c = refused _ _ _ _ (c .before .unit-rows .ensures) (c .if1 .taken)
-
-unit-wide-requires : tie.Need-unit-wide-requires
-unit-wide-requires c κs = search needs
-
-slice-aggregate-head : tie.Need-slice-aggregate-head
-slice-aggregate-head c = search needs
-
-head-requires : tie.Need-head-requires
-head-requires c κs = search needs
 
 publish-two-requires : tie.Need-publish-two-requires
 publish-two-requires c κs =
@@ -68,12 +56,6 @@ publish-two-requires c κs =
     let judged = let-through .before in
     let start = judged .before .before .before in
     both-cut (start .args .cone) _ _ _ (sym (judged .unit-rows .ensures) ∙ let-through .if1 .left) (search needs) (at-head .head .ensures)
-
-same-length : tie.Need-same-length
-same-length c = search needs
-
-same-length-2 : tie.Need-same-length-2
-same-length-2 c = search needs
 
 returns-2 : tie.Need-returns-2
 returns-2 c =
@@ -87,15 +69,6 @@ returns-2 c =
     wide-answer (start .args .cone) (start .args .z .now) (start .args .s .now) _ (judged .unit-rows .ensures) (let-through .if1 .left) (by-kind .if2 .taken)
     (published .publish-two .ensures) (at-head .head .ensures) (at-unit-wide .unit-wide .ensures)
 
-unit-three-requires : tie.Need-unit-three-requires
-unit-three-requires c κs = search needs
-
-slice-aggregate-publish-two : tie.Need-slice-aggregate-publish-two
-slice-aggregate-publish-two c = search needs
-
-slice-aggregate-publish-two-2 : tie.Need-slice-aggregate-publish-two-2
-slice-aggregate-publish-two-2 c = search needs
-
 publish-two-requires-2 : tie.Need-publish-two-requires-2
 publish-two-requires-2 c κs =
     let at-unit-three = c .before .before .before .before in
@@ -104,12 +77,6 @@ publish-two-requires-2 c κs =
     let judged = let-through .before in
     let start = judged .before .before .before in
     both-three (start .args .cone) _ _ (at-unit-three .unit-three .result) (sym (judged .unit-rows .ensures) ∙ let-through .if1 .left) (by-kind .if2 .left) (search needs)
-
-same-length-3 : tie.Need-same-length-3
-same-length-3 c = search needs
-
-same-length-4 : tie.Need-same-length-4
-same-length-4 c = search needs
 
 returns-3 : tie.Need-returns-3
 returns-3 c =
@@ -126,19 +93,13 @@ pub unit-initialization-spec : {M : Type 1} → statement M
 unit-initialization-spec =
     tie.close
     (tie.spec
-    unit-rows-requires
+    (λ c κs. search needs)
     returns
-    unit-wide-requires
-    slice-aggregate-head
-    head-requires
+    (λ c κs. search needs) (λ c. search needs) (λ c κs. search needs)
     publish-two-requires
-    same-length
-    same-length-2
+    (λ c. search needs) (λ c. search needs)
     returns-2
-    unit-three-requires
-    slice-aggregate-publish-two
-    slice-aggregate-publish-two-2
+    (λ c κs. search needs) (λ c. search needs) (λ c. search needs)
     publish-two-requires-2
-    same-length-3
-    same-length-4
+    (λ c. search needs) (λ c. search needs)
     returns-3)

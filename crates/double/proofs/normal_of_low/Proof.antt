@@ -24,12 +24,9 @@ shl-t5 c = omega (arith, moved c .most)
 sub-t3 : tie.Need-sub-t3
 sub-t3 c = omega (arith, moved c .most)
 
-cast-t6 : tie.Need-cast-t6
-cast-t6 c = search needs
-
 returns : tie.Need-returns
 unfolding normalOf shift
 returns c = ap (λ (a : ℕ). record { m = a; k = 52 - (leadingZeros 64 (c .args .t) - 11) }) (moved c .whole)
 
 pub normal-of-low-spec : {M : Type 1} → statement M
-normal-of-low-spec = tie.close (tie.spec sub-s cast-t4 shl-t5 sub-t3 cast-t6 returns)
+normal-of-low-spec = tie.close (tie.spec sub-s cast-t4 shl-t5 sub-t3 (λ c. search needs) returns)

@@ -12,9 +12,6 @@ use Rattle.double.proofs.RoundTrips.{nan-of-pattern}
 use Rattle.double.proofs.of_bits.Statement.{statement}
 use Rattle.double.proofs.of_bits.Tie as tie
 
-nan-requires : tie.Need-nan-requires
-nan-requires c κs = search needs
-
 returns : tie.Need-returns
 returns c =
     let b = c .before .before .args .b in
@@ -25,8 +22,5 @@ float-from-bits-result c =
     let b = c .before .args .b in
     subst (λ (t : Bool). T (not t)) (sym (nanBits-above binary64 b ∙ le-ltb (2047 * 2 ^ 52) (b % 2 ^ 63) (omega arith))) tt
 
-returns-2 : tie.Need-returns-2
-returns-2 c = search needs
-
 pub of-bits-spec : {M : Type 1} → statement M
-of-bits-spec = tie.close (tie.spec nan-requires returns float-from-bits-result returns-2)
+of-bits-spec = tie.close (tie.spec (λ c κs. search needs) returns float-from-bits-result (λ c. search needs))

@@ -4,24 +4,6 @@ use borrow.Author.Needs.{needs}
 use Rattle.expcone.proofs.barrier_dual.Statement.{statement}
 use Rattle.expcone.proofs.barrier_dual.Tie as tie
 
-array-read-z0 : tie.Need-array-read-z0
-array-read-z0 c = search needs
-
-array-read-z1 : tie.Need-array-read-z1
-array-read-z1 c = search needs
-
-array-read-z2 : tie.Need-array-read-z2
-array-read-z2 c = search needs
-
-log-requires : tie.Need-log-requires
-log-requires c κs = search needs
-
-log-requires-2 : tie.Need-log-requires-2
-log-requires-2 c κs = search needs
-
-log-requires-3 : tie.Need-log-requires-3
-log-requires-3 c κs = search needs
-
 returns : tie.Need-returns
 unfolding barrierDualOf
 returns c = rw (c .log3 .ensures, c .before .log2 .ensures, c .before .before .log .ensures)
@@ -30,10 +12,5 @@ pub barrier-dual-spec : {M : Type 1} → statement M
 barrier-dual-spec =
     tie.close
     (tie.spec
-    array-read-z0
-    array-read-z1
-    array-read-z2
-    log-requires
-    log-requires-2
-    log-requires-3
+    (λ c. search needs) (λ c. search needs) (λ c. search needs) (λ c κs. search needs) (λ c κs. search needs) (λ c κs. search needs)
     returns)

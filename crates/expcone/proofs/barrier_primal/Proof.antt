@@ -18,35 +18,11 @@ omega-told : (w : tie.After-wright-omega) → w .wright-omega .result ≡ omegaA
 unfolding omegaAt omegaArg
 omega-told w = w .wright-omega .ensures ∙ ap (λ (l : Float). omegaOf (omegaArg (at (point w) 0) (at (point w) 1) l)) (w .before .log .ensures)
 
-array-read-s0 : tie.Need-array-read-s0
-array-read-s0 c = search needs
-
-array-read-s1 : tie.Need-array-read-s1
-array-read-s1 c = search needs
-
-array-read-s2 : tie.Need-array-read-s2
-array-read-s2 c = search needs
-
-log-requires : tie.Need-log-requires
-log-requires c κs = search needs
-
-wright-omega-requires : tie.Need-wright-omega-requires
-wright-omega-requires c κs = search needs
-
 returns : tie.Need-returns
 unfolding barrierPrimalOf barrierPrimalAt
 returns c =
     let w = c .before in
     taken _ (c .if1 .taken) refl ∙ ap (barrierPrimalAt (at (point w) 1) (at (point w) 2)) (omega-told w)
-
-log-requires-2 : tie.Need-log-requires-2
-log-requires-2 c κs = search needs
-
-log-requires-3 : tie.Need-log-requires-3
-log-requires-3 c κs = search needs
-
-log-requires-4 : tie.Need-log-requires-4
-log-requires-4 c κs = search needs
 
 returns-2 : tie.Need-returns-2
 unfolding barrierPrimalOf barrierPrimalAt
@@ -59,13 +35,7 @@ pub barrier-primal-spec : {M : Type 1} → statement M
 barrier-primal-spec =
     tie.close
     (tie.spec
-    array-read-s0
-    array-read-s1
-    array-read-s2
-    log-requires
-    wright-omega-requires
+    (λ c. search needs) (λ c. search needs) (λ c. search needs) (λ c κs. search needs) (λ c κs. search needs)
     returns
-    log-requires-2
-    log-requires-3
-    log-requires-4
+    (λ c κs. search needs) (λ c κs. search needs) (λ c κs. search needs)
     returns-2)

@@ -20,18 +20,6 @@ primal-told
     → p .barrier-primal .result ≡ barrierPrimalOf (movedOf (start p .args .s) (start p .args .alpha) (start p .args .ds))
 primal-told p = p .barrier-primal .ensures ∙ ap barrierPrimalOf (p .before .before .moved32 .ensures)
 
-moved3-requires : tie.Need-moved3-requires
-moved3-requires c κs = search needs
-
-moved3-requires-2 : tie.Need-moved3-requires-2
-moved3-requires-2 c κs = search needs
-
-barrier-dual-requires : tie.Need-barrier-dual-requires
-barrier-dual-requires c κs = search needs
-
-barrier-primal-requires : tie.Need-barrier-primal-requires
-barrier-primal-requires c κs = search needs
-
 returns : tie.Need-returns
 unfolding computeBarrierOf computeBarrierAt
 returns c = taken _ (c .if1 .taken) refl ∙ ap₂ computeBarrierAt (dual-told (c .before)) (primal-told (c .before))
@@ -46,9 +34,6 @@ pub compute-barrier-spec : {M : Type 1} → statement M
 compute-barrier-spec =
     tie.close
     (tie.spec
-    moved3-requires
-    moved3-requires-2
-    barrier-dual-requires
-    barrier-primal-requires
+    (λ c κs. search needs) (λ c κs. search needs) (λ c κs. search needs) (λ c κs. search needs)
     returns
     returns-2)

@@ -4,15 +4,6 @@ use borrow.Author.Needs.{needs}
 use Rattle.expcone.proofs.higher_correction.Statement.{statement}
 use Rattle.expcone.proofs.higher_correction.Tie as tie
 
-cholesky-3x3-explicit-factor-requires : tie.Need-cholesky-3x3-explicit-factor-requires
-cholesky-3x3-explicit-factor-requires c κs = search needs
-
-cholesky-3x3-explicit-solve-requires : tie.Need-cholesky-3x3-explicit-solve-requires
-cholesky-3x3-explicit-solve-requires c κs = search needs
-
-correction-requires : tie.Need-correction-requires
-correction-requires c κs = search needs
-
 returns : tie.Need-returns
 unfolding higherCorrectionOf correctionBy
 returns c =
@@ -32,8 +23,6 @@ pub higher-correction-spec : {M : Type 1} → statement M
 higher-correction-spec =
     tie.close
     (tie.spec
-    cholesky-3x3-explicit-factor-requires
-    cholesky-3x3-explicit-solve-requires
-    correction-requires
+    (λ c κs. search needs) (λ c κs. search needs) (λ c κs. search needs)
     returns
     returns-2)

@@ -5,15 +5,6 @@ use borrow.Author.Needs.{needs}
 use Rattle.expcone.proofs.is_primal_feasible.Statement.{statement}
 use Rattle.expcone.proofs.is_primal_feasible.Tie as tie
 
-array-read-if1 : tie.Need-array-read-if1
-array-read-if1 c = search needs
-
-array-read-if2 : tie.Need-array-read-if2
-array-read-if2 c = search needs
-
-primal-residue-requires : tie.Need-primal-residue-requires
-primal-residue-requires c κs = search needs
-
 returns : tie.Need-returns
 unfolding primalFeasible
 returns c =
@@ -33,4 +24,4 @@ returns-3 c = ⊎-elim (λ w. simp (w .0 .taken, w .1 .left)) (λ w. simp (w .le
 pub is-primal-feasible-spec : {M : Type 1} → statement M
 is-primal-feasible-spec =
     tie.close
-    (tie.spec array-read-if1 array-read-if2 primal-residue-requires returns returns-2 returns-3)
+    (tie.spec (λ c. search needs) (λ c. search needs) (λ c κs. search needs) returns returns-2 returns-3)

@@ -65,9 +65,6 @@ module _ (c : tie.Else3) where
   range : InRange (raised (signOf b) (mag (fieldOf b) (digitsOf b)) (2 ^ 1074) / 2048)
   range = range-of-normal (signOf b) (fieldOf b) (digitsOf b) normal
 
-to-bits-requires : tie.Need-to-bits-requires
-to-bits-requires c κs = search needs
-
 returns : tie.Need-returns
 unfolding div ofBits
 returns c = above-709 _ (c .if2 .taken)
@@ -96,9 +93,6 @@ returns-3 c = top-positive _ (held (c .before .before .before .before)) (class-o
 returns-4 : tie.Need-returns-4
 returns-4 c = top-negative _ (held (c .before .before .before .before .before)) (class-of-top (c .before .before)) (c .if5 .taken)
 
-nan-requires : tie.Need-nan-requires
-nan-requires c κs = search needs
-
 returns-5 : tie.Need-returns-5
 returns-5 c = class-0 _ (held (c .before .before)) (class-of-zero c)
 
@@ -117,14 +111,14 @@ pub exp-spec : {M : Type 1} → statement M
 exp-spec =
     tie.close
     (tie.spec
-    to-bits-requires
+    (λ c κs. search needs)
     returns
     returns-2
     locate-requires
     exp-at-requires
     returns-3
     returns-4
-    nan-requires
+    (λ c κs. search needs)
     returns-5
     returns-6
     returns-7)

@@ -20,9 +20,6 @@ rest-known c =
     let p = c .before .before .args .p in
     subst (λ (r : ℕ). r ≤ thirdIn64 + 2048) (sym (c .rest .ensures)) (rest-small (p .whole) (p .part) (c .before .place .result) (at-known (c .before)) (c .before .before .pre .1))
 
-place-requires : tie.Need-place-requires
-place-requires c κs = search needs
-
 rest-requires : tie.Need-rest-requires
 rest-requires c κs = (at-known c, c .before .pre .1)
 
@@ -53,4 +50,4 @@ returns c =
     ∙ steps (p .whole) (p .part) _ _ _ (c .before .before .before .before .pre .1) (c .before .before .before .place .ensures) (c .before .before .rest .ensures) (c .before .sum .ensures)
 
 pub exp-at-spec : {M : Type 1} → statement M
-exp-at-spec = tie.close (tie.spec place-requires rest-requires sum-requires composed-requires returns)
+exp-at-spec = tie.close (tie.spec (λ c κs. search needs) rest-requires sum-requires composed-requires returns)

@@ -4,16 +4,10 @@ use Rattle.genpowcone.specs.Barriers.{barrierPrimalOf}
 use Rattle.genpowcone.proofs.barrier_primal.Statement.{statement}
 use Rattle.genpowcone.proofs.barrier_primal.Tie as tie
 
-gradient-primal-requires : tie.Need-gradient-primal-requires
-gradient-primal-requires c κs = search needs
-
-barrier-primal-at-requires : tie.Need-barrier-primal-at-requires
-barrier-primal-at-requires c κs = search needs
-
 returns : tie.Need-returns
 unfolding barrierPrimalOf
 returns c = rw (c .barrier-primal-at .ensures, c .before .before .gradient-primal .ensures)
 
 pub barrier-primal-spec : {M : Type 1} → statement M
 barrier-primal-spec =
-    tie.close (tie.spec gradient-primal-requires barrier-primal-at-requires returns)
+    tie.close (tie.spec (λ c κs. search needs) (λ c κs. search needs) returns)

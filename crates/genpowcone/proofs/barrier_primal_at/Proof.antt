@@ -3,7 +3,7 @@ use Prim.Native.Nat.{_≤_}
 use native.Mathlib.Omega.{arith}
 use lib.ListN.{length, length-take}
 use borrow.Author.Needs.{needs}
-use Rattle.genloops.proofs.Arrays.{negated-front}
+use Rattle.genpowcone_loops.proofs.Arrays.{negated-front}
 use Rattle.genpowcone.specs.Barriers.{barrierPrimalAt}
 use Rattle.genpowcone.proofs.barrier_primal_at.Statement.{statement}
 use Rattle.genpowcone.proofs.barrier_primal_at.Tie as tie
@@ -12,29 +12,8 @@ use Rattle.genpowcone.proofs.barrier_primal_at.Tie as tie
 used-fits : (c : tie.After-head) → length (c .head .result .now) ≤ 64
 used-fits c = rw (c .head .ensures) (simp length-take (omega arith))
 
-slice-aggregate-head : tie.Need-slice-aggregate-head
-slice-aggregate-head c = search needs
-
-head-requires : tie.Need-head-requires
-head-requires c κs = search needs
-
 negated-requires : tie.Need-negated-requires
 negated-requires c κs = used-fits c
-
-slice-aggregate-head-2 : tie.Need-slice-aggregate-head-2
-slice-aggregate-head-2 c = search needs
-
-head-requires-2 : tie.Need-head-requires-2
-head-requires-2 c κs = search needs
-
-barrier-dual-requires : tie.Need-barrier-dual-requires
-barrier-dual-requires c κs = search needs
-
-add-degree : tie.Need-add-degree
-add-degree c = search needs
-
-nearest-u64-to-f64-requires : tie.Need-nearest-u64-to-f64-requires
-nearest-u64-to-f64-requires c κs = search needs
 
 returns : tie.Need-returns
 unfolding barrierPrimalAt
@@ -48,12 +27,7 @@ pub barrier-primal-at-spec : {M : Type 1} → statement M
 barrier-primal-at-spec =
     tie.close
     (tie.spec
-    slice-aggregate-head
-    head-requires
+    (λ c. search needs) (λ c κs. search needs)
     negated-requires
-    slice-aggregate-head-2
-    head-requires-2
-    barrier-dual-requires
-    add-degree
-    nearest-u64-to-f64-requires
+    (λ c. search needs) (λ c κs. search needs) (λ c κs. search needs) (λ c. search needs) (λ c κs. search needs)
     returns)

@@ -4,15 +4,9 @@ use Rattle.genpowcone.specs.Rank3.{getHsOf}
 use Rattle.genpowcone.proofs.get_hs.Statement.{statement}
 use Rattle.genpowcone.proofs.get_hs.Tie as tie
 
-times64-requires : tie.Need-times64-requires
-times64-requires c κs = omega arith
-
-set-tail-requires : tie.Need-set-tail-requires
-set-tail-requires c κs = omega arith
-
 returns : tie.Need-returns
 unfolding getHsOf
 returns c = rw (c .set-tail .ensures, c .before .times64 .ensures)
 
 pub get-hs-spec : {M : Type 1} → statement M
-get-hs-spec = tie.close (tie.spec times64-requires set-tail-requires returns)
+get-hs-spec = tie.close (tie.spec (λ c κs. omega arith) (λ c κs. omega arith) returns)

@@ -5,15 +5,9 @@ use Rattle.genpowcone.specs.PrimalGradient.{gradientAt}
 use Rattle.genpowcone.proofs.gradient_from.Statement.{statement}
 use Rattle.genpowcone.proofs.gradient_from.Tie as tie
 
-gradient-head-requires : tie.Need-gradient-head-requires
-gradient-head-requires c κs = omega arith
-
-times-tail-requires : tie.Need-times-tail-requires
-times-tail-requires c κs = search needs
-
 returns : tie.Need-returns
 unfolding gradientAt
 returns c = rw (c .times-tail .ensures, c .before .gradient-head .ensures)
 
 pub gradient-from-spec : {M : Type 1} → statement M
-gradient-from-spec = tie.close (tie.spec gradient-head-requires times-tail-requires returns)
+gradient-from-spec = tie.close (tie.spec (λ c κs. omega arith) (λ c κs. search needs) returns)

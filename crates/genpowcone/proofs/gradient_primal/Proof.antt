@@ -6,29 +6,8 @@ use Rattle.genpowcone.specs.PrimalGradient.{flatGradient, gradientPrimal
 use Rattle.genpowcone.proofs.gradient_primal.Statement.{statement}
 use Rattle.genpowcone.proofs.gradient_primal.Tie as tie
 
-primal-phi-requires : tie.Need-primal-phi-requires
-primal-phi-requires c κs = search needs
-
-head-requires : tie.Need-head-requires
-head-requires c κs = search needs
-
-tail-requires : tie.Need-tail-requires
-tail-requires c κs = search needs
-
-norm-requires : tie.Need-norm-requires
-norm-requires c κs = search needs
-
-sumsq-requires : tie.Need-sumsq-requires
-sumsq-requires c κs = search needs
-
 newton-raphson-genpowcone-requires : tie.Need-newton-raphson-genpowcone-requires
 newton-raphson-genpowcone-requires c κs = rw (c .before .before .before .before .head .ensures) (simp length-take (omega arith))
-
-gradient-from-requires : tie.Need-gradient-from-requires
-gradient-from-requires c κs = search needs
-
-gradient-flat-head-requires : tie.Need-gradient-flat-head-requires
-gradient-flat-head-requires c κs = omega arith
 
 returns : tie.Need-returns
 unfolding gradientPrimalOf psiOf
@@ -46,13 +25,8 @@ pub gradient-primal-spec : {M : Type 1} → statement M
 gradient-primal-spec =
     tie.close
     (tie.spec
-    primal-phi-requires
-    head-requires
-    tail-requires
-    norm-requires
-    sumsq-requires
+    (λ c κs. search needs) (λ c κs. search needs) (λ c κs. search needs) (λ c κs. search needs) (λ c κs. search needs)
     newton-raphson-genpowcone-requires
-    gradient-from-requires
-    gradient-flat-head-requires
+    (λ c κs. search needs) (λ c κs. omega arith)
     returns
     returns-2)

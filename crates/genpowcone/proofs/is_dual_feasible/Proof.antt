@@ -4,15 +4,6 @@ use Rattle.genpowcone.specs.Feasible.{dualFeasible}
 use Rattle.genpowcone.proofs.is_dual_feasible.Statement.{statement}
 use Rattle.genpowcone.proofs.is_dual_feasible.Tie as tie
 
-head-requires : tie.Need-head-requires
-head-requires c κs = search needs
-
-all-above-zero-requires : tie.Need-all-above-zero-requires
-all-above-zero-requires c κs = search needs
-
-dual-residue-requires : tie.Need-dual-residue-requires
-dual-residue-requires c κs = search needs
-
 returns : tie.Need-returns
 unfolding dualFeasible
 returns c =
@@ -35,9 +26,7 @@ pub is-dual-feasible-spec : {M : Type 1} → statement M
 is-dual-feasible-spec =
     tie.close
     (tie.spec
-    head-requires
-    all-above-zero-requires
-    dual-residue-requires
+    (λ c κs. search needs) (λ c κs. search needs) (λ c κs. search needs)
     returns
     returns-2
     returns-3)

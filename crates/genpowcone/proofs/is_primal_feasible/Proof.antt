@@ -4,15 +4,6 @@ use Rattle.genpowcone.specs.Feasible.{primalFeasible}
 use Rattle.genpowcone.proofs.is_primal_feasible.Statement.{statement}
 use Rattle.genpowcone.proofs.is_primal_feasible.Tie as tie
 
-head-requires : tie.Need-head-requires
-head-requires c κs = search needs
-
-all-above-zero-requires : tie.Need-all-above-zero-requires
-all-above-zero-requires c κs = search needs
-
-primal-residue-requires : tie.Need-primal-residue-requires
-primal-residue-requires c κs = search needs
-
 returns : tie.Need-returns
 unfolding primalFeasible
 returns c =
@@ -35,9 +26,7 @@ pub is-primal-feasible-spec : {M : Type 1} → statement M
 is-primal-feasible-spec =
     tie.close
     (tie.spec
-    head-requires
-    all-above-zero-requires
-    primal-residue-requires
+    (λ c κs. search needs) (λ c κs. search needs) (λ c κs. search needs)
     returns
     returns-2
     returns-3)

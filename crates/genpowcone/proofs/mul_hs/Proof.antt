@@ -10,38 +10,11 @@ use Rattle.genpowcone.proofs.mul_hs.Tie as tie
 abbrev cuts : tie.After-dot3 → tie.After-tail
 cuts c = c .before .before .before .before .before .before
 
-head-requires : tie.Need-head-requires
-head-requires c κs = search needs
-
-tail-requires : tie.Need-tail-requires
-tail-requires c κs = search needs
-
-slice-aggregate-dot : tie.Need-slice-aggregate-dot
-slice-aggregate-dot c = search needs
-
-dot-requires : tie.Need-dot-requires
-dot-requires c κs = search needs
-
-slice-aggregate-dot-2 : tie.Need-slice-aggregate-dot-2
-slice-aggregate-dot-2 c = search needs
-
-dot-requires-2 : tie.Need-dot-requires-2
-dot-requires-2 c κs = search needs
-
-slice-aggregate-dot-3 : tie.Need-slice-aggregate-dot-3
-slice-aggregate-dot-3 c = search needs
-
-dot-requires-3 : tie.Need-dot-requires-3
-dot-requires-3 c κs = search needs
-
 product-head-requires : tie.Need-product-head-requires
 product-head-requires c κs = rw (cuts c .before .head .ensures) (simp length-take (omega arith))
 
 product-tail-requires : tie.Need-product-tail-requires
 product-tail-requires c κs = rw (cuts (c .before) .tail .ensures) (simp length-drop (omega arith, omega arith))
-
-product-finished-requires : tie.Need-product-finished-requires
-product-finished-requires c κs = omega arith
 
 returns : tie.Need-returns
 unfolding mulHsOf
@@ -54,15 +27,9 @@ pub mul-hs-spec : {M : Type 1} → statement M
 mul-hs-spec =
     tie.close
     (tie.spec
-    head-requires
-    tail-requires
-    slice-aggregate-dot
-    dot-requires
-    slice-aggregate-dot-2
-    dot-requires-2
-    slice-aggregate-dot-3
-    dot-requires-3
+    (λ c κs. search needs) (λ c κs. search needs) (λ c. search needs) (λ c κs. search needs) (λ c. search needs) (λ c κs. search needs)
+    (λ c. search needs) (λ c κs. search needs)
     product-head-requires
     product-tail-requires
-    product-finished-requires
+    (λ c κs. omega arith)
     returns)

@@ -6,17 +6,8 @@ use Rattle.genpowcone.specs.Rank3.{pOf}
 use Rattle.genpowcone.proofs.p_of.Statement.{statement}
 use Rattle.genpowcone.proofs.p_of.Tie as tie
 
-slice-aggregate-head : tie.Need-slice-aggregate-head
-slice-aggregate-head c = search needs
-
-head-requires : tie.Need-head-requires
-head-requires c κs = search needs
-
 times64-requires : tie.Need-times64-requires
 times64-requires c κs = rw (c .head .ensures) (simp length-take (omega arith))
-
-times-tail-requires : tie.Need-times-tail-requires
-times-tail-requires c κs = search needs
 
 returns : tie.Need-returns
 unfolding pOf
@@ -25,4 +16,4 @@ returns c = rw (c .times-tail .ensures, c .before .times64 .ensures, c .before .
 pub p-of-spec : {M : Type 1} → statement M
 p-of-spec =
     tie.close
-    (tie.spec slice-aggregate-head head-requires times64-requires times-tail-requires returns)
+    (tie.spec (λ c. search needs) (λ c κs. search needs) times64-requires (λ c κs. search needs) returns)

@@ -6,12 +6,6 @@ use Rattle.genpowcone.specs.Rank3.{qOf}
 use Rattle.genpowcone.proofs.q_of.Statement.{statement}
 use Rattle.genpowcone.proofs.q_of.Tie as tie
 
-slice-aggregate-head : tie.Need-slice-aggregate-head
-slice-aggregate-head c = search needs
-
-head-requires : tie.Need-head-requires
-head-requires c κs = search needs
-
 scale32-requires : tie.Need-scale32-requires
 scale32-requires c κs = rw (c .head .ensures) (simp length-take (omega arith))
 
@@ -20,4 +14,4 @@ unfolding qOf
 returns c = rw (c .scale32 .ensures, c .before .head .ensures)
 
 pub q-of-spec : {M : Type 1} → statement M
-q-of-spec = tie.close (tie.spec slice-aggregate-head head-requires scale32-requires returns)
+q-of-spec = tie.close (tie.spec (λ c. search needs) (λ c κs. search needs) scale32-requires returns)

@@ -10,26 +10,11 @@ use Rattle.genpowcone.proofs.rank3.Tie as tie
 abbrev tails : tie.After-struct-known2 → tie.After-tail
 tails c = c .before .before .before .before .before .before .before .before
 
-tail-requires : tie.Need-tail-requires
-tail-requires c κs = search needs
-
-tau-and-grad-requires : tie.Need-tau-and-grad-requires
-tau-and-grad-requires c κs = search needs
-
 times-tail-requires : tie.Need-times-tail-requires
 times-tail-requires c κs = rw (c .before .before .before .tail .ensures) (simp length-drop (omega arith))
 
-coefficients-of-requires : tie.Need-coefficients-of-requires
-coefficients-of-requires c κs = search needs
-
-diagonal-requires : tie.Need-diagonal-requires
-diagonal-requires c κs = search needs
-
 p-of-requires : tie.Need-p-of-requires
 p-of-requires c κs = rw (tails c .tail .ensures) (simp length-drop (omega arith))
-
-q-of-requires : tie.Need-q-of-requires
-q-of-requires c κs = search needs
 
 times32-requires : tie.Need-times32-requires
 times32-requires c κs =
@@ -48,12 +33,10 @@ pub rank3-spec : {M : Type 1} → statement M
 rank3-spec =
     tie.close
     (tie.spec
-    tail-requires
-    tau-and-grad-requires
+    (λ c κs. search needs) (λ c κs. search needs)
     times-tail-requires
-    coefficients-of-requires
-    diagonal-requires
+    (λ c κs. search needs) (λ c κs. search needs)
     p-of-requires
-    q-of-requires
+    (λ c κs. search needs)
     times32-requires
     returns)

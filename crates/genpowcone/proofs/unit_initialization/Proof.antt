@@ -4,12 +4,9 @@ use Rattle.genpowcone.specs.PrimalGradient.{unitInitializationOf}
 use Rattle.genpowcone.proofs.unit_initialization.Statement.{statement}
 use Rattle.genpowcone.proofs.unit_initialization.Tie as tie
 
-unit-head-requires : tie.Need-unit-head-requires
-unit-head-requires c κs = search needs
-
 returns : tie.Need-returns
 unfolding unitInitializationOf
 returns c = c .unit-head .ensures
 
 pub unit-initialization-spec : {M : Type 1} → statement M
-unit-initialization-spec = tie.close (tie.spec unit-head-requires returns)
+unit-initialization-spec = tie.close (tie.spec (λ c κs. search needs) returns)

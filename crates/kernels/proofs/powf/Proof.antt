@@ -11,9 +11,6 @@ use Rattle.kernels.proofs.powf.Tie as tie
 returns : tie.Need-returns
 returns c = of-zero _ _ (c .if1 .taken)
 
-nan-requires : tie.Need-nan-requires
-nan-requires c κs = search needs
-
 returns-2 : tie.Need-returns-2
 returns-2 c = c .nan .ensures ∙ of-nan _ _ (c .before .before .if1 .left) (c .before .if2 .taken)
 
@@ -22,9 +19,6 @@ returns-3 c = of-one _ _ (c .before .before .if1 .left) (c .if3 .taken)
 
 returns-4 : tie.Need-returns-4
 returns-4 c = of-two _ _ (c .before .before .before .if1 .left) (c .before .if3 .left) (c .if4 .taken)
-
-nan-requires-2 : tie.Need-nan-requires-2
-nan-requires-2 c κs = search needs
 
 -- past the tests of y and of NaN
 abbrev numbers : tie.Else4 → tie.Else2
@@ -35,12 +29,6 @@ returns-5 c =
     let e = c .before .before in
     c .nan2 .ensures ∙ of-negative _ _ (numbers e .before .if1 .left) (e .before .if3 .left) (e .if4 .left) (numbers e .if2 .left) (c .before .if5 .taken)
 
-log-requires : tie.Need-log-requires
-log-requires c κs = search needs
-
-exp-requires : tie.Need-exp-requires
-exp-requires c κs = search needs
-
 returns-6 : tie.Need-returns-6
 returns-6 c =
     let l = c .before .before in
@@ -49,4 +37,15 @@ returns-6 c =
     ∙ otherwise _ _ (numbers e .before .if1 .left) (e .before .if3 .left) (e .if4 .left) (numbers e .if2 .left) (l .if5 .left)
 
 pub powf-spec : {M : Type 1} → statement M
-powf-spec = tie.close (tie.spec returns nan-requires returns-2 returns-3 returns-4 nan-requires-2 returns-5 log-requires exp-requires returns-6)
+powf-spec =
+    tie.close
+    (tie.spec
+    returns
+    (λ c κs. search needs)
+    returns-2
+    returns-3
+    returns-4
+    (λ c κs. search needs)
+    returns-5
+    (λ c κs. search needs) (λ c κs. search needs)
+    returns-6)

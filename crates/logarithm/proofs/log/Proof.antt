@@ -24,9 +24,6 @@ pattern c = toBits binary64 (number c)
 plain-field : (b : ℕ) → b < 2 ^ 63 → b / 2 ^ 52 ≡ fieldOf b
 plain-field b h = omega arith
 
-nan-requires : tie.Need-nan-requires
-nan-requires c κs = search needs
-
 returns : tie.Need-returns
 returns c = log-of-nan (c .before .before .args .x) (c .nan .result) (nan-of (c .before .before .args .x) (c .before .if1 .taken)) (c .nan .ensures)
 
@@ -45,23 +42,11 @@ unsigned c r k =
 returns-3 : tie.Need-returns-3
 returns-3 c = unsigned (c .before .before) _ (minus-infinity ∙ field-of-zero (fieldOf (pattern (c .before .before .before))) (digitsOf (pattern (c .before .before .before))) (omega arith) (c .if3 .taken))
 
-normal-of-low-requires : tie.Need-normal-of-low-requires
-normal-of-low-requires c κs = search needs
-
 positive-requires : tie.Need-positive-requires
 positive-requires c κs =
     let n : Normalised (digitsOf (pattern (c .before .before .before .before))) (c .normal-of-low .result .m) (c .normal-of-low .result .k) =
     of-low (digitsOf (pattern (c .before .before .before .before))) (c .normal-of-low .result) (omega arith) (omega arith) (c .normal-of-low .ensures) in
     (n .from, n .to, n .most)
-
-add-positive : tie.Need-add-positive
-add-positive c = search needs
-
-add-positive-2 : tie.Need-add-positive-2
-add-positive-2 c = search needs
-
-positive-requires-2 : tie.Need-positive-requires-2
-positive-requires-2 c κs = search needs
 
 returns-4 : tie.Need-returns-4
 returns-4 c =
@@ -97,16 +82,14 @@ pub log-spec : {M : Type 1} → statement M
 log-spec =
     tie.close
     (tie.spec
-    nan-requires
+    (λ c κs. search needs)
     returns
     float-to-bits-b
     returns-2
     returns-3
-    normal-of-low-requires
+    (λ c κs. search needs)
     positive-requires
-    add-positive
-    add-positive-2
-    positive-requires-2
+    (λ c. search needs) (λ c. search needs) (λ c κs. search needs)
     returns-4
     returns-5
     returns-6)

@@ -11,20 +11,8 @@ use Rattle.logarithm.proofs.Mantissas.{Parts, parts}
 use Rattle.logarithm.proofs.mantissa.Statement.{statement}
 use Rattle.logarithm.proofs.mantissa.Tie as tie
 
-mul-quotient : tie.Need-mul-quotient
-mul-quotient c = search needs
-
-add-quotient : tie.Need-add-quotient
-add-quotient c = search needs
-
-quotient-requires : tie.Need-quotient-requires
-quotient-requires c κs = search needs
-
 mul-t : tie.Need-mul-t
 mul-t c = omega (arith, quotient-small (c .before .args .m + c .before .args .m / 17592186044416 * 17592186044416) (omega arith) (c .before .args .m % 17592186044416) (omega arith))
-
-entry-requires : tie.Need-entry-requires
-entry-requires c κs = search needs
 
 mul-result : tie.Need-mul-result
 mul-result c = omega (arith, entry-small (c .before .before .args .m / 17592186044416 % 256) (omega arith))
@@ -54,11 +42,9 @@ pub mantissa-spec : {M : Type 1} → statement M
 mantissa-spec =
     tie.close
     (tie.spec
-    mul-quotient
-    add-quotient
-    quotient-requires
+    (λ c. search needs) (λ c. search needs) (λ c κs. search needs)
     mul-t
-    entry-requires
+    (λ c κs. search needs)
     mul-result
     short-series-requires
     add-result

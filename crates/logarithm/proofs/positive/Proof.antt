@@ -11,31 +11,10 @@ use Rattle.logarithm.proofs.Doubles.{down-branch, up-branch}
 use Rattle.logarithm.proofs.positive.Statement.{statement}
 use Rattle.logarithm.proofs.positive.Tie as tie
 
-mantissa-requires : tie.Need-mantissa-requires
-mantissa-requires c κs = search needs
-
-sub-scaled : tie.Need-sub-scaled
-sub-scaled c = search needs
-
-mul-scaled : tie.Need-mul-scaled
-mul-scaled c = search needs
-
 sub-scaled-2 : tie.Need-sub-scaled-2
 sub-scaled-2 c =
     subst (λ (x : ℕ). x / 2 ^ 11 ≤ (1074 - c .before .before .args .k) * ln2) (sym (c .before .mantissa .ensures))
     (le-of-lt (turns-outweigh (1074 - c .before .before .args .k) (c .before .before .args .m) (omega arith) (c .before .before .pre .0) (c .before .before .pre .1)))
-
-scaled-requires : tie.Need-scaled-requires
-scaled-requires c κs = search needs
-
-mul-scaled-2 : tie.Need-mul-scaled-2
-mul-scaled-2 c = search needs
-
-add-scaled : tie.Need-add-scaled
-add-scaled c = search needs
-
-scaled-requires-2 : tie.Need-scaled-requires-2
-scaled-requires-2 c κs = search needs
 
 returns : tie.Need-returns
 returns c =
@@ -54,13 +33,8 @@ pub positive-spec : {M : Type 1} → statement M
 positive-spec =
     tie.close
     (tie.spec
-    mantissa-requires
-    sub-scaled
-    mul-scaled
+    (λ c κs. search needs) (λ c. search needs) (λ c. search needs)
     sub-scaled-2
-    scaled-requires
-    mul-scaled-2
-    add-scaled
-    scaled-requires-2
+    (λ c κs. search needs) (λ c. search needs) (λ c. search needs) (λ c κs. search needs)
     returns
     returns-2)

@@ -43,35 +43,11 @@ module _ (n r x : ℕ) where
       let small : r - n < n = omega arith in
       sym (digits-div q small) ∙ ap (λ (y : ℕ). y / n) sum
 
-add-x : tie.Need-add-x
-add-x c = search needs
-
 float-from-bits-x : tie.Need-float-from-bits-x
 float-from-bits-x c = number _ (omega arith)
 
-add-y : tie.Need-add-y
-add-y c = search needs
-
 float-from-bits-y : tie.Need-float-from-bits-y
 float-from-bits-y c = number _ (omega arith)
-
-to-bits-requires : tie.Need-to-bits-requires
-to-bits-requires c κs = search needs
-
-mul-t12 : tie.Need-mul-t12
-mul-t12 c = search needs
-
-add-t13 : tie.Need-add-t13
-add-t13 c = search needs
-
-product-requires : tie.Need-product-requires
-product-requires c κs = search needs
-
-left-requires : tie.Need-left-requires
-left-requires c κs = search needs
-
-mul-if1 : tie.Need-mul-if1
-mul-if1 c = search needs
 
 sub-result : tie.Need-sub-result
 sub-result c =
@@ -92,28 +68,16 @@ returns-2 c =
     (omega arith)
     (omega arith)
 
-long-division-requires : tie.Need-long-division-requires
-long-division-requires c κs = search needs
-
-returns-3 : tie.Need-returns-3
-returns-3 c = search needs
-
 pub quotient-spec : {M : Type 1} → statement M
 quotient-spec =
     tie.close
     (tie.spec
-    add-x
+    (λ c. search needs)
     float-from-bits-x
-    add-y
+    (λ c. search needs)
     float-from-bits-y
-    to-bits-requires
-    mul-t12
-    add-t13
-    product-requires
-    left-requires
-    mul-if1
+    (λ c κs. search needs) (λ c. search needs) (λ c. search needs) (λ c κs. search needs) (λ c κs. search needs) (λ c. search needs)
     sub-result
     returns
     returns-2
-    long-division-requires
-    returns-3)
+    (λ c κs. search needs) (λ c. search needs))

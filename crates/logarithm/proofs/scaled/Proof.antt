@@ -6,12 +6,9 @@ use Rattle.logarithm.specs.Steps.{scaledOf}
 use Rattle.logarithm.proofs.scaled.Statement.{statement}
 use Rattle.logarithm.proofs.scaled.Tie as tie
 
-nearest-u64-to-f64-requires : tie.Need-nearest-u64-to-f64-requires
-nearest-u64-to-f64-requires c κs = search needs
-
 returns : tie.Need-returns
 unfolding scaledOf
 returns c = ap (λ (x : Float). mul binary64 x (ofBits binary64 0x3ca0_0000_0000_0000)) (c .nearest-u64-to-f64 .ensures)
 
 pub scaled-spec : {M : Type 1} → statement M
-scaled-spec = tie.close (tie.spec nearest-u64-to-f64-requires returns)
+scaled-spec = tie.close (tie.spec (λ c κs. search needs) returns)

@@ -5,15 +5,6 @@ use Rattle.logarithm.proofs.ShortSeries.{ThreeTerms, three-terms-of}
 use Rattle.logarithm.proofs.short_series.Statement.{statement}
 use Rattle.logarithm.proofs.short_series.Tie as tie
 
-high-requires : tie.Need-high-requires
-high-requires c κs = search needs
-
-high-requires-2 : tie.Need-high-requires-2
-high-requires-2 c κs = search needs
-
-high-requires-3 : tie.Need-high-requires-3
-high-requires-3 c κs = search needs
-
 -- the three powers
 computed : (c : tie.After-high3) → ThreeTerms (c .before .before .before .args .t) (c .before .high2 .result) (c .high3 .result)
 unfolding upper
@@ -23,9 +14,6 @@ computed c =
     (c .before .before .high .ensures)
     (c .before .high2 .ensures)
     (c .high3 .ensures)
-
-mul-result : tie.Need-mul-result
-mul-result c = search needs
 
 mul-result-2 : tie.Need-mul-result-2
 mul-result-2 c = record { fits = computed c .third-fits }
@@ -46,10 +34,7 @@ pub short-series-spec : {M : Type 1} → statement M
 short-series-spec =
     tie.close
     (tie.spec
-    high-requires
-    high-requires-2
-    high-requires-3
-    mul-result
+    (λ c κs. search needs) (λ c κs. search needs) (λ c κs. search needs) (λ c. search needs)
     mul-result-2
     add-result
     mul-result-3

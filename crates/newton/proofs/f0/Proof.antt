@@ -4,18 +4,6 @@ use borrow.Author.Needs.{needs}
 use Rattle.newton.proofs.f0.Statement.{statement}
 use Rattle.newton.proofs.f0.Tie as tie
 
-enum-known-e : tie.Need-enum-known-e
-enum-known-e c = search needs
-
-powcone-f0-requires : tie.Need-powcone-f0-requires
-powcone-f0-requires c κs = search needs
-
-enum-known-e-2 : tie.Need-enum-known-e-2
-enum-known-e-2 c = search needs
-
-genpowcone-f0-requires : tie.Need-genpowcone-f0-requires
-genpowcone-f0-requires c κs = search needs
-
 returns : tie.Need-returns
 unfolding f0Of
 returns c = rw (c .before .before .e .given .1) (c .powcone-f0 .ensures)
@@ -28,9 +16,6 @@ pub f0-spec : {M : Type 1} → statement M
 f0-spec =
     tie.close
     (tie.spec
-    enum-known-e
-    powcone-f0-requires
-    enum-known-e-2
-    genpowcone-f0-requires
+    (λ c. search needs) (λ c κs. search needs) (λ c. search needs) (λ c κs. search needs)
     returns
     returns-2)

@@ -4,18 +4,6 @@ use borrow.Author.Needs.{needs}
 use Rattle.newton.proofs.f1.Statement.{statement}
 use Rattle.newton.proofs.f1.Tie as tie
 
-enum-known-e : tie.Need-enum-known-e
-enum-known-e c = search needs
-
-powcone-f1-requires : tie.Need-powcone-f1-requires
-powcone-f1-requires c κs = search needs
-
-enum-known-e-2 : tie.Need-enum-known-e-2
-enum-known-e-2 c = search needs
-
-genpowcone-f1-requires : tie.Need-genpowcone-f1-requires
-genpowcone-f1-requires c κs = search needs
-
 returns : tie.Need-returns
 unfolding f1Of
 returns c = rw (c .before .before .e .given .1) (c .powcone-f1 .ensures)
@@ -28,9 +16,6 @@ pub f1-spec : {M : Type 1} → statement M
 f1-spec =
     tie.close
     (tie.spec
-    enum-known-e
-    powcone-f1-requires
-    enum-known-e-2
-    genpowcone-f1-requires
+    (λ c. search needs) (λ c κs. search needs) (λ c. search needs) (λ c κs. search needs)
     returns
     returns-2)

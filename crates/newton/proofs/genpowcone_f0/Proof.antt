@@ -16,35 +16,8 @@ Inv-loop normr alpha logs x finit n f₀ i₀ f i = (n ≡ min (length alpha) (l
 abbrev μ-loop : tie.MeasureT-loop
 μ-loop normr alpha logs x finit n f₀ i₀ f i = n - i
 
-log-requires : tie.Need-log-requires Inv-loop μ-loop
-log-requires c κs = search needs
-
-shorter-requires : tie.Need-shorter-requires Inv-loop μ-loop
-shorter-requires c κs = search needs
-
 loop-holds : tie.Need-loop-holds Inv-loop μ-loop
 loop-holds c = (c .shorter .ensures, omega arith, iter-none _ _)
-
-mul-ai : tie.Need-mul-ai Inv-loop μ-loop
-mul-ai c = omega arith
-
-shared-slice-read-ai : tie.Need-shared-slice-read-ai Inv-loop μ-loop
-shared-slice-read-ai c = omega arith
-
-log-requires-2 : tie.Need-log-requires-2 Inv-loop μ-loop
-log-requires-2 c κs = search needs
-
-mul-f : tie.Need-mul-f Inv-loop μ-loop
-mul-f c = omega arith
-
-shared-slice-read-f : tie.Need-shared-slice-read-f Inv-loop μ-loop
-shared-slice-read-f c = omega arith
-
-add-i : tie.Need-add-i Inv-loop μ-loop
-add-i c = omega arith
-
-loop-less : tie.Need-loop-less Inv-loop μ-loop
-loop-less c = omega arith
 
 loop-again : tie.Need-loop-again Inv-loop μ-loop
 loop-again c =
@@ -64,15 +37,9 @@ genpowcone-f0-spec =
     (tie.spec
     Inv-loop
     μ-loop
-    log-requires
-    shorter-requires
+    (λ c κs. search needs) (λ c κs. search needs)
     loop-holds
-    mul-ai
-    shared-slice-read-ai
-    log-requires-2
-    mul-f
-    shared-slice-read-f
-    add-i
-    loop-less
+    (λ c. omega arith) (λ c. omega arith) (λ c κs. search needs) (λ c. omega arith) (λ c. omega arith) (λ c. omega arith)
+    (λ c. omega arith)
     loop-again
     returns)

@@ -18,18 +18,6 @@ abbrev μ-loop : tie.MeasureT-loop
 loop-holds : tie.Need-loop-holds Inv-loop μ-loop
 loop-holds c = (omega arith, iter-none _ _)
 
-mul-ai : tie.Need-mul-ai Inv-loop μ-loop
-mul-ai c = omega arith
-
-shared-slice-read-ai : tie.Need-shared-slice-read-ai Inv-loop μ-loop
-shared-slice-read-ai c = omega arith
-
-add-i : tie.Need-add-i Inv-loop μ-loop
-add-i c = omega arith
-
-loop-less : tie.Need-loop-less Inv-loop μ-loop
-loop-less c = omega arith
-
 loop-again : tie.Need-loop-again Inv-loop μ-loop
 loop-again c = (omega arith, iter-next _ _ _ (c .before .before .loop .inv .1))
 
@@ -44,9 +32,6 @@ genpowcone-f1-spec =
     Inv-loop
     μ-loop
     loop-holds
-    mul-ai
-    shared-slice-read-ai
-    add-i
-    loop-less
+    (λ c. omega arith) (λ c. omega arith) (λ c. omega arith) (λ c. omega arith)
     loop-again
     returns)

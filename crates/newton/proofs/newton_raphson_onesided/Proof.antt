@@ -19,21 +19,6 @@ loop-holds : tie.Need-loop-holds Inv-loop μ-loop
 unfolding newtonOf
 loop-holds c = (omega arith, refl)
 
-add-iter : tie.Need-add-iter Inv-loop μ-loop
-add-iter c = omega arith
-
-f1-requires : tie.Need-f1-requires Inv-loop μ-loop
-f1-requires c κs = search needs
-
-f0-requires : tie.Need-f0-requires Inv-loop μ-loop
-f0-requires c κs = search needs
-
-stops-requires : tie.Need-stops-requires Inv-loop μ-loop
-stops-requires c κs = search needs
-
-loop-less : tie.Need-loop-less Inv-loop μ-loop
-loop-less c = omega arith
-
 loop-again : tie.Need-loop-again Inv-loop μ-loop
 loop-again c =
     let s = c .before in
@@ -62,11 +47,7 @@ newton-raphson-onesided-spec =
     Inv-loop
     μ-loop
     loop-holds
-    add-iter
-    f1-requires
-    f0-requires
-    stops-requires
-    loop-less
+    (λ c. omega arith) (λ c κs. search needs) (λ c κs. search needs) (λ c κs. search needs) (λ c. omega arith)
     loop-again
     returns
     returns-2)

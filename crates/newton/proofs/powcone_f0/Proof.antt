@@ -4,18 +4,6 @@ use borrow.Author.Needs.{needs}
 use Rattle.newton.proofs.powcone_f0.Statement.{statement}
 use Rattle.newton.proofs.powcone_f0.Tie as tie
 
-log-requires : tie.Need-log-requires
-log-requires c κs = search needs
-
-log-requires-2 : tie.Need-log-requires-2
-log-requires-2 c κs = search needs
-
-log-requires-3 : tie.Need-log-requires-3
-log-requires-3 c κs = search needs
-
-log-requires-4 : tie.Need-log-requires-4
-log-requires-4 c κs = search needs
-
 returns : tie.Need-returns
 unfolding powF0At
 returns c =
@@ -25,4 +13,4 @@ returns c =
 pub powcone-f0-spec : {M : Type 1} → statement M
 powcone-f0-spec =
     tie.close
-    (tie.spec log-requires log-requires-2 log-requires-3 log-requires-4 returns)
+    (tie.spec (λ c κs. search needs) (λ c κs. search needs) (λ c κs. search needs) (λ c κs. search needs) returns)

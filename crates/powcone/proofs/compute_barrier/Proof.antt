@@ -4,18 +4,6 @@ use Rattle.powcone.specs.Barriers.{computeBarrierOf}
 use Rattle.powcone.proofs.compute_barrier.Statement.{statement}
 use Rattle.powcone.proofs.compute_barrier.Tie as tie
 
-moved3-requires : tie.Need-moved3-requires
-moved3-requires c κs = search needs
-
-moved3-requires-2 : tie.Need-moved3-requires-2
-moved3-requires-2 c κs = search needs
-
-barrier-dual-requires : tie.Need-barrier-dual-requires
-barrier-dual-requires c κs = search needs
-
-barrier-primal-requires : tie.Need-barrier-primal-requires
-barrier-primal-requires c κs = search needs
-
 returns : tie.Need-returns
 unfolding computeBarrierOf
 returns c = rw (c .barrier-primal .ensures, c .before .barrier-dual .ensures, c .before .before .moved32 .ensures, c .before .before .before .moved3 .ensures)
@@ -24,8 +12,5 @@ pub compute-barrier-spec : {M : Type 1} → statement M
 compute-barrier-spec =
     tie.close
     (tie.spec
-    moved3-requires
-    moved3-requires-2
-    barrier-dual-requires
-    barrier-primal-requires
+    (λ c κs. search needs) (λ c κs. search needs) (λ c κs. search needs) (λ c κs. search needs)
     returns)

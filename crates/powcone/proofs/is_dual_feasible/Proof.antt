@@ -5,15 +5,6 @@ use Rattle.powcone.specs.Feasible.{dualFeasible}
 use Rattle.powcone.proofs.is_dual_feasible.Statement.{statement}
 use Rattle.powcone.proofs.is_dual_feasible.Tie as tie
 
-array-read-if1 : tie.Need-array-read-if1
-array-read-if1 c = search needs
-
-array-read-if2 : tie.Need-array-read-if2
-array-read-if2 c = search needs
-
-dual-residue-requires : tie.Need-dual-residue-requires
-dual-residue-requires c κs = search needs
-
 returns : tie.Need-returns
 unfolding dualFeasible
 returns c = simp (c .before .before .before .before .if1 .taken, c .before .before .before .if2 .taken, ← c .before .before .dual-residue .ensures, c .if3 .taken)
@@ -29,4 +20,4 @@ returns-3 c = ⊎-elim (λ w. simp (w .0 .taken, w .1 .left)) (λ w. simp (w .le
 pub is-dual-feasible-spec : {M : Type 1} → statement M
 is-dual-feasible-spec =
     tie.close
-    (tie.spec array-read-if1 array-read-if2 dual-residue-requires returns returns-2 returns-3)
+    (tie.spec (λ c. search needs) (λ c. search needs) (λ c κs. search needs) returns returns-2 returns-3)

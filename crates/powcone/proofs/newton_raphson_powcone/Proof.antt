@@ -5,27 +5,6 @@ use Rattle.powcone.specs.PrimalGradient.{newtonRaphsonPowconeOf, t0Of, x
 use Rattle.powcone.proofs.newton_raphson_powcone.Statement.{statement}
 use Rattle.powcone.proofs.newton_raphson_powcone.Tie as tie
 
-sqrt-requires : tie.Need-sqrt-requires
-sqrt-requires c κs = search needs
-
-log-requires : tie.Need-log-requires
-log-requires c κs = search needs
-
-log-requires-2 : tie.Need-log-requires-2
-log-requires-2 c κs = search needs
-
-log-requires-3 : tie.Need-log-requires-3
-log-requires-3 c κs = search needs
-
-slice-aggregate-newton-raphson-onesided : tie.Need-slice-aggregate-newton-raphson-onesided
-slice-aggregate-newton-raphson-onesided c = search needs
-
-slice-aggregate-newton-raphson-onesided-2 : tie.Need-slice-aggregate-newton-raphson-onesided-2
-slice-aggregate-newton-raphson-onesided-2 c = search needs
-
-newton-raphson-onesided-requires : tie.Need-newton-raphson-onesided-requires
-newton-raphson-onesided-requires c κs = search needs
-
 returns : tie.Need-returns
 unfolding newtonRaphsonPowconeOf x0Of t0Of powF0 f0Of f1Of
 returns c =
@@ -36,11 +15,6 @@ pub newton-raphson-powcone-spec : {M : Type 1} → statement M
 newton-raphson-powcone-spec =
     tie.close
     (tie.spec
-    sqrt-requires
-    log-requires
-    log-requires-2
-    log-requires-3
-    slice-aggregate-newton-raphson-onesided
-    slice-aggregate-newton-raphson-onesided-2
-    newton-raphson-onesided-requires
+    (λ c κs. search needs) (λ c κs. search needs) (λ c κs. search needs) (λ c κs. search needs) (λ c. search needs) (λ c. search needs)
+    (λ c κs. search needs)
     returns)

@@ -8,18 +8,12 @@ use borrow.Author.Needs.{needs}
 use Rattle.record_entries.proofs.barrier_primal.Statement.{statement}
 use Rattle.record_entries.proofs.barrier_primal.Tie as tie
 
-barrier-rows-requires : tie.Need-barrier-rows-requires
-barrier-rows-requires c κs = search needs
-
 returns : tie.Need-returns
 unfolding barrierPrimalOf
 returns c = refused _ _ _ _ (c .before .barrier-rows .ensures) (c .if1 .taken)
 
 primal-barrier-requires : tie.Need-primal-barrier-requires
 primal-barrier-requires c κs = barrier-call _ _ (sym (c .before .barrier-rows .ensures) ∙ c .if1 .left)
-
-judged-requires : tie.Need-judged-requires
-judged-requires c κs = search needs
 
 returns-2 : tie.Need-returns-2
 unfolding barrierPrimalOf
@@ -31,4 +25,4 @@ returns-2 c =
 pub barrier-primal-spec : {M : Type 1} → statement M
 barrier-primal-spec =
     tie.close
-    (tie.spec barrier-rows-requires returns primal-barrier-requires judged-requires returns-2)
+    (tie.spec (λ c κs. search needs) returns primal-barrier-requires (λ c κs. search needs) returns-2)

@@ -26,33 +26,15 @@ answer r out stepz steps σμ k {b = b} e t z p q f g =
     p ∙ ap (publishOf out) (q ∙ ap (λ (l : List Float). shiftOf r l b σμ) f ∙ ap (λ (l : List Float). shiftOf r (threeOf stepz) l σμ) g)
     ∙ done _ k _ (refuse out) (e ∙ ap (correctionRows r (length out) stepz steps) t) z
 
-is-finite-requires : tie.Need-is-finite-requires
-is-finite-requires c κs = search needs
-
-correction-rows-requires : tie.Need-correction-rows-requires
-correction-rows-requires c κs = search needs
-
 returns : tie.Need-returns
 unfolding combinedDsShiftOf
 returns c = refused _ _ _ _ (c .before .correction-rows .ensures ∙ ap (correctionRows _ _ _ _) (c .before .before .is-finite .ensures)) (c .if1 .taken)
-
-three-of-requires : tie.Need-three-of-requires
-three-of-requires c κs = search needs
-
-three-of-requires-2 : tie.Need-three-of-requires-2
-three-of-requires-2 c κs = search needs
-
-shift-requires : tie.Need-shift-requires
-shift-requires c κs = search needs
 
 publish-three-requires : tie.Need-publish-three-requires
 publish-three-requires c κs =
     let let-through = c .before .before .before .before in
     let judged = let-through .before in
     correction-call _ _ _ _ _ (sym (judged .correction-rows .ensures) ∙ let-through .if1 .left)
-
-same-length : tie.Need-same-length
-same-length c = search needs
 
 returns-2 : tie.Need-returns-2
 returns-2 c = answer (c .before .before .before .before .before .before .before .before .before .before .before .before .before .args .scaling) (c .before .before .before .before .before .before .before .before .before .before .before .before .before .args .shifted .now) (c .before .before .before .before .before .before .before .before .before .before .before .before .before .args .stepz .now) (c .before .before .before .before .before .before .before .before .before .before .before .before .before .args .steps .now) (c .before .before .before .before .before .before .before .before .before .before .before .before .before .args .sigmamu) _
@@ -63,12 +45,9 @@ pub combined-ds-shift-spec : {M : Type 1} → statement M
 combined-ds-shift-spec =
     tie.close
     (tie.spec
-    is-finite-requires
-    correction-rows-requires
+    (λ c κs. search needs) (λ c κs. search needs)
     returns
-    three-of-requires
-    three-of-requires-2
-    shift-requires
+    (λ c κs. search needs) (λ c κs. search needs) (λ c κs. search needs)
     publish-three-requires
-    same-length
+    (λ c. search needs)
     returns-2)

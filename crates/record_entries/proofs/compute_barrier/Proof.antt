@@ -8,18 +8,12 @@ use borrow.Author.Needs.{needs}
 use Rattle.record_entries.proofs.compute_barrier.Statement.{statement}
 use Rattle.record_entries.proofs.compute_barrier.Tie as tie
 
-compute-rows-requires : tie.Need-compute-rows-requires
-compute-rows-requires c κs = search needs
-
 returns : tie.Need-returns
 unfolding computeBarrierOf
 returns c = refused _ _ _ _ (c .before .compute-rows .ensures) (c .if1 .taken)
 
 combined-barrier-requires : tie.Need-combined-barrier-requires
 combined-barrier-requires c κs = compute-call _ _ _ _ _ _ (sym (c .before .compute-rows .ensures) ∙ c .if1 .left)
-
-judged-requires : tie.Need-judged-requires
-judged-requires c κs = search needs
 
 returns-2 : tie.Need-returns-2
 unfolding computeBarrierOf
@@ -31,4 +25,4 @@ returns-2 c =
 pub compute-barrier-spec : {M : Type 1} → statement M
 compute-barrier-spec =
     tie.close
-    (tie.spec compute-rows-requires returns combined-barrier-requires judged-requires returns-2)
+    (tie.spec (λ c κs. search needs) returns combined-barrier-requires (λ c κs. search needs) returns-2)

@@ -28,18 +28,9 @@ module _ (r : Scaling) (block : List Float) (k : ℕ) (e : k ≡ blockRows r (le
   unfolding getHsOf
   block-answer t p = done-left _ k _ (refuse block) e z (ne-eqb _ _ t) p
 
-block-rows-requires : tie.Need-block-rows-requires
-block-rows-requires c κs = search needs
-
 returns : tie.Need-returns
 unfolding getHsOf
 returns c = refused _ _ _ _ (c .before .block-rows .ensures) (c .if1 .taken)
-
-cast-dim1 : tie.Need-cast-dim1
-cast-dim1 c = search needs
-
-cast-dim2 : tie.Need-cast-dim2
-cast-dim2 c = search needs
 
 wide-block-requires : tie.Need-wide-block-requires
 wide-block-requires c κs =
@@ -48,18 +39,12 @@ wide-block-requires c κs =
     let judged = let-through .before in
     dims _ (block-call _ _ (sym (judged .block-rows .ensures) ∙ let-through .if1 .left) .0) (by-kind .if2 .taken)
 
-slice-aggregate-publish-wide : tie.Need-slice-aggregate-publish-wide
-slice-aggregate-publish-wide c = search needs
-
 publish-wide-requires : tie.Need-publish-wide-requires
 publish-wide-requires c κs =
     let let-through = c .before .before .before .before .before .before .before in
     let judged = let-through .before in
     let b = block-call _ _ (sym (judged .block-rows .ensures) ∙ let-through .if1 .left) in
     omega (arith, block-fits _ (b .0) _ (b .1))
-
-same-length : tie.Need-same-length
-same-length c = search needs
 
 returns-2 : tie.Need-returns-2
 returns-2 c =
@@ -79,9 +64,6 @@ publish-requires c κs =
     let judged = let-through .before in
     omega (arith, six-numbers _ _ (block-call _ _ (sym (judged .block-rows .ensures) ∙ let-through .if1 .left) .1) (by-kind .if2 .left))
 
-same-length-2 : tie.Need-same-length-2
-same-length-2 c = search needs
-
 returns-3 : tie.Need-returns-3
 returns-3 c =
     let published = c .before .before in
@@ -95,15 +77,14 @@ pub get-hs-spec : {M : Type 1} → statement M
 get-hs-spec =
     tie.close
     (tie.spec
-    block-rows-requires
+    (λ c κs. search needs)
     returns
-    cast-dim1
-    cast-dim2
+    (λ c. search needs) (λ c. search needs)
     wide-block-requires
-    slice-aggregate-publish-wide
+    (λ c. search needs)
     publish-wide-requires
-    same-length
+    (λ c. search needs)
     returns-2
     publish-requires
-    same-length-2
+    (λ c. search needs)
     returns-3)

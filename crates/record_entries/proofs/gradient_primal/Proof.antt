@@ -27,9 +27,6 @@ module _ (r : Scaling) (g s : List Float) (k : ℕ) (e : k ≡ gradientRows r (l
   unfolding gradientPrimalOf
   three-answer t p = done-left _ k _ (refuseRounds g) e z (ne-eqb _ _ t) p
 
-gradient-rows-requires : tie.Need-gradient-rows-requires
-gradient-rows-requires c κs = search needs
-
 returns : tie.Need-returns
 unfolding gradientPrimalOf
 returns c = refused _ _ _ _ (c .before .gradient-rows .ensures) (c .if1 .taken)
@@ -41,9 +38,6 @@ wide-gradient-primal-requires c κs =
     let g = gradient-call _ _ _ (sym (judged .gradient-rows .ensures) ∙ let-through .if1 .left) in
     let d = dims _ (g .0) (c .before .if2 .taken) in
     (point-at-most _ (g .0) _ (g .1), d .0, d .1)
-
-same-length : tie.Need-same-length
-same-length c = search needs
 
 returns-2 : tie.Need-returns-2
 returns-2 c =
@@ -60,9 +54,6 @@ three-gradient-primal-requires c κs =
     let judged = let-through .before in
     three-numbers _ _ (gradient-call _ _ _ (sym (judged .gradient-rows .ensures) ∙ let-through .if1 .left) .1) (c .before .if2 .left)
 
-same-length-2 : tie.Need-same-length-2
-same-length-2 c = search needs
-
 returns-3 : tie.Need-returns-3
 returns-3 c =
     let at-three-gradient-primal = c .before .before in
@@ -76,11 +67,11 @@ pub gradient-primal-spec : {M : Type 1} → statement M
 gradient-primal-spec =
     tie.close
     (tie.spec
-    gradient-rows-requires
+    (λ c κs. search needs)
     returns
     wide-gradient-primal-requires
-    same-length
+    (λ c. search needs)
     returns-2
     three-gradient-primal-requires
-    same-length-2
+    (λ c. search needs)
     returns-3)

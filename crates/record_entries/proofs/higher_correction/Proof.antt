@@ -23,30 +23,15 @@ unfolding higherCorrectionOf
 answer r η ds v k {b = b} e z p q f g =
     p ∙ ap (publishOf η) (q ∙ ap (λ (l : List Float). correctionOf r l b) f ∙ ap (correctionOf r (threeOf ds)) g) ∙ done _ k _ (refuse η) e z
 
-correction-rows-requires : tie.Need-correction-rows-requires
-correction-rows-requires c κs = search needs
-
 returns : tie.Need-returns
 unfolding higherCorrectionOf
 returns c = refused _ _ _ _ (c .before .correction-rows .ensures) (c .if1 .taken)
-
-three-of-requires : tie.Need-three-of-requires
-three-of-requires c κs = search needs
-
-three-of-requires-2 : tie.Need-three-of-requires-2
-three-of-requires-2 c κs = search needs
-
-correction-requires : tie.Need-correction-requires
-correction-requires c κs = search needs
 
 publish-three-requires : tie.Need-publish-three-requires
 publish-three-requires c κs =
     let let-through = c .before .before .before .before in
     let judged = let-through .before in
     correction-call _ _ _ _ _ (sym (judged .correction-rows .ensures) ∙ let-through .if1 .left)
-
-same-length : tie.Need-same-length
-same-length c = search needs
 
 returns-2 : tie.Need-returns-2
 returns-2 c =
@@ -64,11 +49,9 @@ pub higher-correction-spec : {M : Type 1} → statement M
 higher-correction-spec =
     tie.close
     (tie.spec
-    correction-rows-requires
+    (λ c κs. search needs)
     returns
-    three-of-requires
-    three-of-requires-2
-    correction-requires
+    (λ c κs. search needs) (λ c κs. search needs) (λ c κs. search needs)
     publish-three-requires
-    same-length
+    (λ c. search needs)
     returns-2)

@@ -29,9 +29,6 @@ module _ (r : Scaling) (y x : List Float) (k : ℕ) (e : k ≡ productRows r (le
   unfolding mulHsOf
   three-answer t p d h = done-left _ k _ (refuse y) e z (ne-eqb _ _ t) (p ∙ ap (publishOf y) (d ∙ ap (mulOf (r .three .hs)) h))
 
-product-rows-requires : tie.Need-product-rows-requires
-product-rows-requires c κs = search needs
-
 returns : tie.Need-returns
 unfolding mulHsOf
 returns c = refused _ _ _ _ (c .before .product-rows .ensures) (c .if1 .taken)
@@ -42,18 +39,12 @@ wide-product-requires c κs =
     let judged = let-through .before in
     let p = product-call _ _ _ (sym (judged .product-rows .ensures) ∙ let-through .if1 .left) in product-fits _ (p .0) _ (p .2) (c .if2 .taken)
 
-slice-aggregate-publish-wide : tie.Need-slice-aggregate-publish-wide
-slice-aggregate-publish-wide c = search needs
-
 publish-wide-requires : tie.Need-publish-wide-requires
 publish-wide-requires c κs =
     let let-through = c .before .before .before .before in
     let judged = let-through .before in
     let p = product-call _ _ _ (sym (judged .product-rows .ensures) ∙ let-through .if1 .left) in
     omega (arith, point-at-most _ (p .0) _ (p .1))
-
-same-length : tie.Need-same-length
-same-length c = search needs
 
 returns-2 : tie.Need-returns-2
 returns-2 c =
@@ -66,21 +57,12 @@ returns-2 c =
     wide-answer (start .args .scaling) (start .args .y .now) (start .args .x .now) _ (judged .product-rows .ensures) (let-through .if1 .left) (by-kind .if2 .taken)
     (published .publish-wide .ensures) (at-wide-product .wide-product .ensures)
 
-three-of-requires : tie.Need-three-of-requires
-three-of-requires c κs = search needs
-
-mul-requires : tie.Need-mul-requires
-mul-requires c κs = search needs
-
 publish-three-requires : tie.Need-publish-three-requires
 publish-three-requires c κs =
     let by-kind = c .before .before .before .before .before in
     let let-through = by-kind .before in
     let judged = let-through .before in
     three-numbers _ _ (product-call _ _ _ (sym (judged .product-rows .ensures) ∙ let-through .if1 .left) .1) (by-kind .if2 .left)
-
-same-length-2 : tie.Need-same-length-2
-same-length-2 c = search needs
 
 returns-3 : tie.Need-returns-3
 returns-3 c =
@@ -98,15 +80,14 @@ pub mul-hs-spec : {M : Type 1} → statement M
 mul-hs-spec =
     tie.close
     (tie.spec
-    product-rows-requires
+    (λ c κs. search needs)
     returns
     wide-product-requires
-    slice-aggregate-publish-wide
+    (λ c. search needs)
     publish-wide-requires
-    same-length
+    (λ c. search needs)
     returns-2
-    three-of-requires
-    mul-requires
+    (λ c κs. search needs) (λ c κs. search needs)
     publish-three-requires
-    same-length-2
+    (λ c. search needs)
     returns-3)

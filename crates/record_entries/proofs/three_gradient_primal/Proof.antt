@@ -34,26 +34,11 @@ module _ (r : Scaling) (g s : List Float) {a : Gradient} {s3 : List Float} (e : 
       ∙ ap (withRounds (a .rounds)) q
       ∙ ap (λ (b : Gradient). withRounds (b .rounds) (publishOf g (b .g))) gradient)
 
-three-of-requires : tie.Need-three-of-requires
-three-of-requires c κs = search needs
-
-three-gradient-requires : tie.Need-three-gradient-requires
-three-gradient-requires c κs = search needs
-
 returns : tie.Need-returns
 returns c =
     let at-three-of = c .before .before in
     let start = at-three-of .before .before .before in
     panicked (start .args .scaling) (start .args .g .now) (start .args .s .now) (c .before .three-gradient .ensures) (at-three-of .three-of .ensures) (c .if1 .taken)
-
-publish-three-requires : tie.Need-publish-three-requires
-publish-three-requires c κs = search needs
-
-counted-requires : tie.Need-counted-requires
-counted-requires c κs = search needs
-
-same-length : tie.Need-same-length
-same-length c = search needs
 
 returns-2 : tie.Need-returns-2
 returns-2 c =
@@ -69,10 +54,7 @@ pub three-gradient-primal-spec : {M : Type 1} → statement M
 three-gradient-primal-spec =
     tie.close
     (tie.spec
-    three-of-requires
-    three-gradient-requires
+    (λ c κs. search needs) (λ c κs. search needs)
     returns
-    publish-three-requires
-    counted-requires
-    same-length
+    (λ c κs. search needs) (λ c κs. search needs) (λ c. search needs)
     returns-2)

@@ -8,18 +8,12 @@ use borrow.Author.Needs.{needs}
 use Rattle.record_entries.proofs.update_scaling.Statement.{statement}
 use Rattle.record_entries.proofs.update_scaling.Tie as tie
 
-update-rows-requires : tie.Need-update-rows-requires
-update-rows-requires c κs = search needs
-
 returns : tie.Need-returns
 unfolding updateScalingOf
 returns c = refused _ _ _ _ (c .before .update-rows .ensures) (c .if1 .taken)
 
 new-record-requires : tie.Need-new-record-requires
 new-record-requires c κs = update-call _ _ _ _ _ (sym (c .before .update-rows .ensures) ∙ c .if1 .left)
-
-last-rows-requires : tie.Need-last-rows-requires
-last-rows-requires c κs = search needs
 
 returns-2 : tie.Need-returns-2
 unfolding updateScalingOf
@@ -45,9 +39,9 @@ pub update-scaling-spec : {M : Type 1} → statement M
 update-scaling-spec =
     tie.close
     (tie.spec
-    update-rows-requires
+    (λ c κs. search needs)
     returns
     new-record-requires
-    last-rows-requires
+    (λ c κs. search needs)
     returns-2
     returns-3)

@@ -25,24 +25,6 @@ published r g s {a = a} {out = out} e q t =
     ∙ ap (withRounds (a .rounds)) q
     ∙ ap (λ (b : Gradient). withRounds (b .rounds) (publishOf g (take (length g) (b .g)))) e
 
-cast-dim1 : tie.Need-cast-dim1
-cast-dim1 c = search needs
-
-cast-dim2 : tie.Need-cast-dim2
-cast-dim2 c = search needs
-
-wide-gradient-requires : tie.Need-wide-gradient-requires
-wide-gradient-requires c κs = search needs
-
-publish-wide-requires : tie.Need-publish-wide-requires
-publish-wide-requires c κs = search needs
-
-counted-requires : tie.Need-counted-requires
-counted-requires c κs = search needs
-
-same-length : tie.Need-same-length
-same-length c = search needs
-
 returns : tie.Need-returns
 returns c =
     let at-publish-wide = c .before .before .before in
@@ -54,10 +36,5 @@ pub wide-gradient-primal-spec : {M : Type 1} → statement M
 wide-gradient-primal-spec =
     tie.close
     (tie.spec
-    cast-dim1
-    cast-dim2
-    wide-gradient-requires
-    publish-wide-requires
-    counted-requires
-    same-length
+    (λ c. search needs) (λ c. search needs) (λ c κs. search needs) (λ c κs. search needs) (λ c κs. search needs) (λ c. search needs)
     returns)

@@ -4,30 +4,6 @@ use borrow.Author.Needs.{needs}
 use Rattle.record_rows.proofs.product_rows.Statement.{statement}
 use Rattle.record_rows.proofs.product_rows.Tie as tie
 
-numel-requires : tie.Need-numel-requires
-numel-requires c κs = search needs
-
-record-finite-requires : tie.Need-record-finite-requires
-record-finite-requires c κs = search needs
-
-all-finite-requires : tie.Need-all-finite-requires
-all-finite-requires c κs = search needs
-
-cone-ok-requires : tie.Need-cone-ok-requires
-cone-ok-requires c κs = search needs
-
-row-requires : tie.Need-row-requires
-row-requires c κs = search needs
-
-row-requires-2 : tie.Need-row-requires-2
-row-requires-2 c κs = search needs
-
-row-requires-3 : tie.Need-row-requires-3
-row-requires-3 c κs = search needs
-
-row-requires-4 : tie.Need-row-requires-4
-row-requires-4 c κs = search needs
-
 returns : tie.Need-returns
 unfolding productRows
 returns c = simp (c .row4 .ensures, c .before .row3 .ensures, c .before .before .row2 .ensures, c .before .before .before .row .ensures, c .before .before .before .before .before .cone-ok .ensures, c .before .before .before .before .before .before .all-finite .ensures, c .before .before .before .before .before .before .before .record-finite .ensures, c .before .before .before .before .before .before .before .before .numel .ensures)
@@ -36,12 +12,6 @@ pub product-rows-spec : {M : Type 1} → statement M
 product-rows-spec =
     tie.close
     (tie.spec
-    numel-requires
-    record-finite-requires
-    all-finite-requires
-    cone-ok-requires
-    row-requires
-    row-requires-2
-    row-requires-3
-    row-requires-4
+    (λ c κs. search needs) (λ c κs. search needs) (λ c κs. search needs) (λ c κs. search needs) (λ c κs. search needs)
+    (λ c κs. search needs) (λ c κs. search needs) (λ c κs. search needs)
     returns)

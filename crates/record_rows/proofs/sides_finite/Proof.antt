@@ -3,18 +3,6 @@ use borrow.Author.Needs.{needs}
 use Rattle.record_rows.proofs.sides_finite.Statement.{statement}
 use Rattle.record_rows.proofs.sides_finite.Tie as tie
 
-all-finite-requires : tie.Need-all-finite-requires
-all-finite-requires c κs = search needs
-
-all-finite-requires-2 : tie.Need-all-finite-requires-2
-all-finite-requires-2 c κs = search needs
-
-all-finite-requires-3 : tie.Need-all-finite-requires-3
-all-finite-requires-3 c κs = search needs
-
-all-finite-requires-4 : tie.Need-all-finite-requires-4
-all-finite-requires-4 c κs = search needs
-
 returns : tie.Need-returns
 returns c = simp (c .before .before .before .all-finite .ensures, c .before .before .all-finite2 .ensures, c .before .all-finite3 .ensures, c .all-finite4 .ensures)
 
@@ -22,8 +10,5 @@ pub sides-finite-spec : {M : Type 1} → statement M
 sides-finite-spec =
     tie.close
     (tie.spec
-    all-finite-requires
-    all-finite-requires-2
-    all-finite-requires-3
-    all-finite-requires-4
+    (λ c κs. search needs) (λ c κs. search needs) (λ c κs. search needs) (λ c κs. search needs)
     returns)

@@ -45,12 +45,6 @@ add-root c = omega (arith, short (c .before .before))
 mul-root-2 : tie.Need-mul-root-2 Inv-loop μ-loop
 mul-root-2 c = omega (arith, short (c .before .before))
 
-add-i : tie.Need-add-i Inv-loop μ-loop
-add-i c = omega arith
-
-loop-less : tie.Need-loop-less Inv-loop μ-loop
-loop-less c = omega arith
-
 loop-again : tie.Need-loop-again Inv-loop μ-loop
 loop-again c =
     let h = c .before .before in
@@ -92,8 +86,7 @@ digit-by-digit-spec =
     mul-root
     add-root
     mul-root-2
-    add-i
-    loop-less
+    (λ c. omega arith) (λ c. omega arith)
     loop-again
     add-result
     returns

@@ -56,105 +56,39 @@ known c = rest-is (m c) (r c) (rest c) _ (c .before .product .ensures) (c .left 
 shifted : (c : tie.Start) → c .args .m / 2 ^ (c .args .m / 2 ^ 53) ≤ c .args .m
 shifted c = div-le-self _ _
 
-add-x : tie.Need-add-x
-add-x c = search needs
-
-mul-x : tie.Need-mul-x
-mul-x c = search needs
-
-shr-x : tie.Need-shr-x
-shr-x c = search needs
-
 add-x-2 : tie.Need-add-x-2
 add-x-2 c = omega (arith, shifted c)
 
 float-from-bits-x : tie.Need-float-from-bits-x
 float-from-bits-x c = number _ (omega (arith, shifted c))
 
-to-bits-requires : tie.Need-to-bits-requires
-to-bits-requires c κs = search needs
-
-add-r : tie.Need-add-r
-add-r c = search needs
-
-mul-t11 : tie.Need-mul-t11
-mul-t11 c = search needs
-
-sub-product : tie.Need-sub-product
-sub-product c = search needs
-
-product-requires : tie.Need-product-requires
-product-requires c κs = search needs
-
-left-requires : tie.Need-left-requires
-left-requires c κs = search needs
-
-mul-if2 : tie.Need-mul-if2
-mul-if2 c = search needs
-
 returns : tie.Need-returns
 returns c =
     let s = c .before .before in
     first (n s) (r s) (rest s) (omega arith) (known s (omega arith)) (omega arith) (omega arith)
-
-mul-if3 : tie.Need-mul-if3
-mul-if3 c = search needs
-
-add-if3 : tie.Need-add-if3
-add-if3 c = search needs
-
-add-result : tie.Need-add-result
-add-result c = search needs
 
 returns-2 : tie.Need-returns-2
 returns-2 c =
     let s = c .before .before .before in
     second (n s) (r s) (rest s) (omega arith) (known s (omega arith)) (omega arith) (omega arith)
 
-mul-if4 : tie.Need-mul-if4
-mul-if4 c = search needs
-
-add-if4 : tie.Need-add-if4
-add-if4 c = search needs
-
-add-result-2 : tie.Need-add-result-2
-add-result-2 c = search needs
-
 returns-3 : tie.Need-returns-3
 returns-3 c =
     let s = c .before .before .before .before in
     third (n s) (r s) (rest s) (omega arith) (known s (omega arith)) (omega arith) (omega arith)
 
-digit-by-digit-requires : tie.Need-digit-by-digit-requires
-digit-by-digit-requires c κs = search needs
-
-returns-4 : tie.Need-returns-4
-returns-4 c = search needs
-
 pub near-root-spec : {M : Type 1} → statement M
 near-root-spec =
     tie.close
     (tie.spec
-    add-x
-    mul-x
-    shr-x
+    (λ c. search needs) (λ c. search needs) (λ c. search needs)
     add-x-2
     float-from-bits-x
-    to-bits-requires
-    add-r
-    mul-t11
-    sub-product
-    product-requires
-    left-requires
-    mul-if2
+    (λ c κs. search needs) (λ c. search needs) (λ c. search needs) (λ c. search needs) (λ c κs. search needs) (λ c κs. search needs)
+    (λ c. search needs)
     returns
-    mul-if3
-    add-if3
-    add-result
+    (λ c. search needs) (λ c. search needs) (λ c. search needs)
     returns-2
-    mul-if4
-    add-if4
-    add-result-2
+    (λ c. search needs) (λ c. search needs) (λ c. search needs)
     returns-3
-    digit-by-digit-requires
-    returns-4)
+    (λ c κs. search needs) (λ c. search needs))

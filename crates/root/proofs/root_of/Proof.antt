@@ -30,17 +30,8 @@ rounds c =
     subst (λ (q : ℕ). Rounds (2 ^ 52) (radicand (m (c .before)) (k (c .before))) q) (sym (is c))
     (root-of-radicand (m (c .before)) (k (c .before)) (s .pre .0) (s .pre .1))
 
-shl-near-root : tie.Need-shl-near-root
-shl-near-root c = search needs
-
 near-root-requires : tie.Need-near-root-requires
 near-root-requires c κs = omega (arith, whole c, evened (m c) (k c) .most)
-
-add-result : tie.Need-add-result
-add-result c = search needs
-
-mul-result : tie.Need-mul-result
-mul-result c = search needs
 
 add-result-2 : tie.Need-add-result-2
 add-result-2 c = omega (arith, rounds (c .before) .to)
@@ -56,10 +47,9 @@ pub root-of-spec : {M : Type 1} → statement M
 root-of-spec =
     tie.close
     (tie.spec
-    shl-near-root
+    (λ c. search needs)
     near-root-requires
-    add-result
-    mul-result
+    (λ c. search needs) (λ c. search needs)
     add-result-2
     float-from-bits-result
     returns)

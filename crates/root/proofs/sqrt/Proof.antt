@@ -32,9 +32,6 @@ t c = digitsOf (b (c .before))
 fields : (c : tie.Else2) → sqrtOf (x (c .before)) ≡ sqrtFields (x (c .before)) (f c) (t c)
 fields c = bits (c .before) ∙ by-fields (x (c .before)) (b (c .before)) (c .if2 .left)
 
-nan-requires : tie.Need-nan-requires
-nan-requires c κs = search needs
-
 returns : tie.Need-returns
 returns c = c .nan .ensures ∙ of-nan (c .before .before .args .x) (nan-of (c .before .before .args .x) (c .before .if1 .taken))
 
@@ -45,9 +42,6 @@ returns-2 : tie.Need-returns-2
 returns-2 c =
     let e = c .before .before in
     sym (bits e ∙ of-minus-zero (x e) (b e) (c .before .if2 .taken) (omega arith))
-
-nan-requires-2 : tie.Need-nan-requires-2
-nan-requires-2 c κs = search needs
 
 returns-3 : tie.Need-returns-3
 returns-3 c =
@@ -60,23 +54,11 @@ returns-4 c =
     let e = c .before .before in
     sym (fields e ∙ of-zero (x (e .before)) (f e) (t e) (c .before .match .keys1) (c .if4 .taken))
 
-normal-of-low-requires : tie.Need-normal-of-low-requires
-normal-of-low-requires c κs = search needs
-
 root-of-requires : tie.Need-root-of-requires
 root-of-requires c κs =
     let n : Normalised (t (c .before .before .before)) (c .normal-of-low .result .m) (c .normal-of-low .result .k) =
     of-low (t (c .before .before .before)) (c .normal-of-low .result) (omega arith) (omega arith) (c .normal-of-low .ensures) in
     (n .from, n .to, n .most)
-
-add-t12 : tie.Need-add-t12
-add-t12 c = search needs
-
-add-t13 : tie.Need-add-t13
-add-t13 c = search needs
-
-root-of-requires-2 : tie.Need-root-of-requires-2
-root-of-requires-2 c κs = (omega arith, omega arith, omega arith)
 
 returns-5 : tie.Need-returns-5
 returns-5 c =
@@ -102,18 +84,16 @@ pub sqrt-spec : {M : Type 1} → statement M
 sqrt-spec =
     tie.close
     (tie.spec
-    nan-requires
+    (λ c κs. search needs)
     returns
     float-to-bits-b
     returns-2
-    nan-requires-2
+    (λ c κs. search needs)
     returns-3
     returns-4
-    normal-of-low-requires
+    (λ c κs. search needs)
     root-of-requires
-    add-t12
-    add-t13
-    root-of-requires-2
+    (λ c. search needs) (λ c. search needs) (λ c κs. (omega arith, omega arith, omega arith))
     returns-5
     returns-6
     returns-7)

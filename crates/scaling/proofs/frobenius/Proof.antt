@@ -4,24 +4,6 @@ use borrow.Author.Needs.{needs}
 use Rattle.scaling.proofs.frobenius.Statement.{statement}
 use Rattle.scaling.proofs.frobenius.Tie as tie
 
-mul-requires : tie.Need-mul-requires
-mul-requires c κs = search needs
-
-less-requires : tie.Need-less-requires
-less-requires c κs = search needs
-
-outer-requires : tie.Need-outer-requires
-outer-requires c κs = search needs
-
-outer-requires-2 : tie.Need-outer-requires-2
-outer-requires-2 c κs = search needs
-
-rest-requires : tie.Need-rest-requires
-rest-requires c κs = search needs
-
-norm-fro-requires : tie.Need-norm-fro-requires
-norm-fro-requires c κs = search needs
-
 returns : tie.Need-returns
 unfolding frobeniusOf
 returns c =
@@ -39,10 +21,6 @@ pub frobenius-spec : {M : Type 1} → statement M
 frobenius-spec =
     tie.close
     (tie.spec
-    mul-requires
-    less-requires
-    outer-requires
-    outer-requires-2
-    rest-requires
-    norm-fro-requires
+    (λ c κs. search needs) (λ c κs. search needs) (λ c κs. search needs) (λ c κs. search needs) (λ c κs. search needs)
+    (λ c κs. search needs)
     returns)

@@ -4,15 +4,9 @@ use borrow.Author.Needs.{needs}
 use Rattle.scaling.proofs.is_apart.Statement.{statement}
 use Rattle.scaling.proofs.is_apart.Tie as tie
 
-abs-requires : tie.Need-abs-requires
-abs-requires c κs = search needs
-
-abs-requires-2 : tie.Need-abs-requires-2
-abs-requires-2 c κs = search needs
-
 returns : tie.Need-returns
 unfolding apart
 returns c = rw (c .before .before .abs2 .ensures, c .before .before .before .abs .ensures)
 
 pub is-apart-spec : {M : Type 1} → statement M
-is-apart-spec = tie.close (tie.spec abs-requires abs-requires-2 returns)
+is-apart-spec = tie.close (tie.spec (λ c κs. search needs) (λ c κs. search needs) returns)

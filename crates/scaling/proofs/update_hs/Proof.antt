@@ -29,15 +29,9 @@ chosen-told t p =
     (p ∙ ap (chosenBy (start t .args .h) (start t .args .grad) (gradient t .gradient-primal .result .g) (start t .args .s) (start t .args .z)) (t .before .measure .ensures))
     ∙ ap (primalDualBy (start t .args .grad) (start t .args .h) (start t .args .s) (start t .args .z)) (gradient t .gradient-primal .ensures))
 
-use-dual-scaling-requires : tie.Need-use-dual-scaling-requires
-use-dual-scaling-requires c κs = search needs
-
 returns : tie.Need-returns
 unfolding updateHsOf
 returns c = taken _ (eq-eqb _ _ (c .before .if1 .taken)) (ap scaledBy (c .use-dual-scaling .ensures))
-
-gradient-primal-requires : tie.Need-gradient-primal-requires
-gradient-primal-requires c κs = search needs
 
 returns-2 : tie.Need-returns-2
 unfolding updateHsOf primalDualBy
@@ -47,23 +41,11 @@ returns-2 c =
     left _ (ne-eqb _ _ (g .before .if1 .left))
     (taken _ (c .if2 .taken) refl ∙ ap (primalDualBy (a .grad) (a .h) (a .s) (a .z)) (g .gradient-primal .ensures))
 
-measure-requires : tie.Need-measure-requires
-measure-requires c κs = search needs
-
-is-apart-requires : tie.Need-is-apart-requires
-is-apart-requires c κs = search needs
-
-use-primal-dual-scaling-requires : tie.Need-use-primal-dual-scaling-requires
-use-primal-dual-scaling-requires c κs = search needs
-
 returns-3 : tie.Need-returns-3
 unfolding chosenBy
 returns-3 c =
     let t = c .before .before in
     chosen-told t (taken _ (sym (t .is-apart .ensures) ∙ c .before .if3 .taken) (ap scaledBy (c .use-primal-dual-scaling .ensures)))
-
-use-dual-scaling-requires-2 : tie.Need-use-dual-scaling-requires-2
-use-dual-scaling-requires-2 c κs = search needs
 
 returns-4 : tie.Need-returns-4
 unfolding chosenBy
@@ -75,13 +57,11 @@ pub update-hs-spec : {M : Type 1} → statement M
 update-hs-spec =
     tie.close
     (tie.spec
-    use-dual-scaling-requires
+    (λ c κs. search needs)
     returns
-    gradient-primal-requires
+    (λ c κs. search needs)
     returns-2
-    measure-requires
-    is-apart-requires
-    use-primal-dual-scaling-requires
+    (λ c κs. search needs) (λ c κs. search needs) (λ c κs. search needs)
     returns-3
-    use-dual-scaling-requires-2
+    (λ c κs. search needs)
     returns-4)

@@ -80,9 +80,6 @@ add-count c = let h = c .before .before .before .before in record { fits = small
     small : (n b : ℕ) → n < b → b ≤ 141312 → n + 1 < 2 ^ 32
     small n b l m = omega arith
 
-passes-requires : tie.Need-passes-requires Inv-loop μ-loop
-passes-requires c κs = search needs
-
 store-requires : tie.Need-store-requires Inv-loop μ-loop
 store-requires c κs = sym (point-long (written (failed-last (c .before) .before)))
 
@@ -138,7 +135,7 @@ backtrack-search-spec =
     loop-holds
     put-trial-requires
     add-count
-    passes-requires
+    (λ c κs. search needs)
     store-requires
     loop-less
     loop-again

@@ -5,12 +5,6 @@ use Rattle.search.specs.Passes.{genpowPasses}
 use Rattle.search.proofs.genpow_passes.Statement.{statement}
 use Rattle.search.proofs.genpow_passes.Tie as tie
 
-is-primal-feasible-requires : tie.Need-is-primal-feasible-requires
-is-primal-feasible-requires c κs = search needs
-
-is-dual-feasible-requires : tie.Need-is-dual-feasible-requires
-is-dual-feasible-requires c κs = search needs
-
 returns : tie.Need-returns
 unfolding genpowPasses
 returns c = taken _ (c .before .if1 .taken) (c .is-primal-feasible .ensures)
@@ -21,4 +15,4 @@ returns-2 c = left _ (c .before .if1 .left) (c .is-dual-feasible .ensures)
 
 pub genpow-passes-spec : {M : Type 1} → statement M
 genpow-passes-spec =
-    tie.close (tie.spec is-primal-feasible-requires is-dual-feasible-requires returns returns-2)
+    tie.close (tie.spec (λ c κs. search needs) (λ c κs. search needs) returns returns-2)

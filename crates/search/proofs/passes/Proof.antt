@@ -9,33 +9,6 @@ use Rattle.search.specs.Passes.{expPasses, powPasses, genpowPasses, pass
 use Rattle.search.proofs.passes.Statement.{statement}
 use Rattle.search.proofs.passes.Tie as tie
 
-three-of-requires : tie.Need-three-of-requires
-three-of-requires c κs = search needs
-
-exp-passes-requires : tie.Need-exp-passes-requires
-exp-passes-requires c κs = search needs
-
-array-read-pow-passes : tie.Need-array-read-pow-passes
-array-read-pow-passes c = search needs
-
-three-of-requires-2 : tie.Need-three-of-requires-2
-three-of-requires-2 c κs = search needs
-
-pow-passes-requires : tie.Need-pow-passes-requires
-pow-passes-requires c κs = search needs
-
-slice-aggregate-head : tie.Need-slice-aggregate-head
-slice-aggregate-head c = search needs
-
-cast-head : tie.Need-cast-head
-cast-head c = search needs
-
-head-requires : tie.Need-head-requires
-head-requires c κs = search needs
-
-genpow-passes-requires : tie.Need-genpow-passes-requires
-genpow-passes-requires c κs = search needs
-
 returns : tie.Need-returns
 unfolding passesOf
 returns c = simp (c .before .before .match .keys1) (c .exp-passes .ensures ∙ ap (expPasses _) (c .before .three-of .ensures))
@@ -58,15 +31,8 @@ pub passes-spec : {M : Type 1} → statement M
 passes-spec =
     tie.close
     (tie.spec
-    three-of-requires
-    exp-passes-requires
-    array-read-pow-passes
-    three-of-requires-2
-    pow-passes-requires
-    slice-aggregate-head
-    cast-head
-    head-requires
-    genpow-passes-requires
+    (λ c κs. search needs) (λ c κs. search needs) (λ c. search needs) (λ c κs. search needs) (λ c κs. search needs) (λ c. search needs)
+    (λ c. search needs) (λ c κs. search needs) (λ c κs. search needs)
     returns
     returns-2
     returns-3

@@ -32,30 +32,6 @@ target-length s = length-point (now (s .args .q)) (now (s .args .dq)) (s .args .
 loop-holds : tie.Need-loop-holds Inv-loop μ-loop
 loop-holds c = filled-none (target c) (now (c .args .point))
 
-mul-point : tie.Need-mul-point Inv-loop μ-loop
-mul-point c = search needs
-
-shared-slice-read-point : tie.Need-shared-slice-read-point Inv-loop μ-loop
-shared-slice-read-point c = search needs
-
-mul-point-2 : tie.Need-mul-point-2 Inv-loop μ-loop
-mul-point-2 c = search needs
-
-shared-slice-read-point-2 : tie.Need-shared-slice-read-point-2 Inv-loop μ-loop
-shared-slice-read-point-2 c = search needs
-
-mul-point-3 : tie.Need-mul-point-3 Inv-loop μ-loop
-mul-point-3 c = search needs
-
-slice-write-point : tie.Need-slice-write-point Inv-loop μ-loop
-slice-write-point c = search needs
-
-add-i : tie.Need-add-i Inv-loop μ-loop
-add-i c = search needs
-
-loop-less : tie.Need-loop-less Inv-loop μ-loop
-loop-less c = search needs
-
 loop-again : tie.Need-loop-again Inv-loop μ-loop
 loop-again c =
     let h = c .before .before .before in
@@ -65,9 +41,6 @@ loop-again c =
     let below : i < length (now (s .args .q)) = omega arith in
     filled-more (target s) (now (s .args .point)) (h .loop .point) i _ nan (s .pre .1 ∙ sym n) (h .loop .inv) (omega arith)
     (sym (moved-place (now (s .args .q)) (s .args .alpha) (now (s .args .dq)) i below (omega arith)))
-
-same-length : tie.Need-same-length Inv-loop μ-loop
-same-length c = search needs
 
 returns : tie.Need-returns Inv-loop μ-loop
 returns c =
@@ -83,14 +56,8 @@ put-trial-spec =
     Inv-loop
     μ-loop
     loop-holds
-    mul-point
-    shared-slice-read-point
-    mul-point-2
-    shared-slice-read-point-2
-    mul-point-3
-    slice-write-point
-    add-i
-    loop-less
+    (λ c. search needs) (λ c. search needs) (λ c. search needs) (λ c. search needs) (λ c. search needs) (λ c. search needs)
+    (λ c. search needs) (λ c. search needs)
     loop-again
-    same-length
+    (λ c. search needs)
     returns)

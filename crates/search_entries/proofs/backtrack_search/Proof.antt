@@ -7,18 +7,12 @@ use borrow.Author.Needs.{needs}
 use Rattle.search_entries.proofs.backtrack_search.Statement.{statement}
 use Rattle.search_entries.proofs.backtrack_search.Tie as tie
 
-search-rows-requires : tie.Need-search-rows-requires
-search-rows-requires c κs = search needs
-
 returns : tie.Need-returns
 unfolding backtrackSearchOf
 returns c = refused _ _ _ _ (c .before .search-rows .ensures) (c .if1 .taken)
 
 backtrack-search-requires : tie.Need-backtrack-search-requires
 backtrack-search-requires c κs = searchable _ _ _ _ _ (sym (c .before .before .search-rows .ensures) ∙ c .before .if1 .left)
-
-same-length : tie.Need-same-length
-same-length c = search needs
 
 returns-2 : tie.Need-returns-2
 unfolding backtrackSearchOf
@@ -31,4 +25,4 @@ returns-2 c =
 pub backtrack-search-spec : {M : Type 1} → statement M
 backtrack-search-spec =
     tie.close
-    (tie.spec search-rows-requires returns backtrack-search-requires same-length returns-2)
+    (tie.spec (λ c κs. search needs) returns backtrack-search-requires (λ c. search needs) returns-2)

@@ -8,9 +8,6 @@ use borrow.Author.Needs.{needs}
 use Rattle.search_entries.proofs.step_length.Statement.{statement}
 use Rattle.search_entries.proofs.step_length.Tie as tie
 
-step-rows-requires : tie.Need-step-rows-requires
-step-rows-requires c κs = search needs
-
 both : {d d' p p' : Outcome} → d ≡ d' → p ≡ p' → bothFound d p ≡ bothFound d' p'
 both {d' = d'} {p = p} e f = ap (λ (o : Outcome). bothFound o p) e ∙ ap (bothFound d') f
 
@@ -31,12 +28,6 @@ backtrack-search-requires-2 c κs =
     let start = judged .before .before .before .before .before .before .before in
     both-searchable _ _ _ _ _ (start .args .dualpoint .now) (start .args .primalpoint .now) _ (sym (judged .step-rows .ensures) ∙ let-through .if1 .left) .1
 
-same-length : tie.Need-same-length
-same-length c = search needs
-
-same-length-2 : tie.Need-same-length-2
-same-length-2 c = search needs
-
 returns-2 : tie.Need-returns-2
 unfolding stepLengthOf
 returns-2 c =
@@ -51,10 +42,9 @@ pub step-length-spec : {M : Type 1} → statement M
 step-length-spec =
     tie.close
     (tie.spec
-    step-rows-requires
+    (λ c κs. search needs)
     returns
     backtrack-search-requires
     backtrack-search-requires-2
-    same-length
-    same-length-2
+    (λ c. search needs) (λ c. search needs)
     returns-2)

@@ -6,12 +6,9 @@ use Rattle.wide.specs.Products.{productOf}
 use Rattle.wide.proofs.high.Statement.{statement}
 use Rattle.wide.proofs.high.Tie as tie
 
-product-requires : tie.Need-product-requires
-product-requires c κs = search needs
-
 returns : tie.Need-returns
 unfolding productOf
 returns c = ap (λ (r : Halves). r .hi) (c .product .ensures)
 
 pub high-spec : {M : Type 1} → statement M
-high-spec = tie.close (tie.spec product-requires returns)
+high-spec = tie.close (tie.spec (λ c κs. search needs) returns)

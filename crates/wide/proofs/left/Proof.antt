@@ -11,18 +11,6 @@ returns : tie.Need-returns
 unfolding wholeOf
 returns c = told _ _ _ (no-borrow (2 ^ 64) _ _ _ _ (omega arith) (omega arith)) (omega arith)
 
-sub-if4 : tie.Need-sub-if4
-sub-if4 c = search needs
-
-sub-result : tie.Need-sub-result
-sub-result c = search needs
-
-add-result : tie.Need-add-result
-add-result c = search needs
-
-add-result-2 : tie.Need-add-result-2
-add-result-2 c = search needs
-
 returns-2 : tie.Need-returns-2
 unfolding wholeOf
 returns-2 c = told _ _ _ (one-borrow (2 ^ 64) _ _ _ _ (omega arith) (omega arith) (omega arith)) (omega arith)
@@ -44,4 +32,13 @@ unfolding wholeOf
 returns-6 c = below-zero _ _ (upper-half (2 ^ 64) _ _ _ _ (omega arith) (omega arith))
 
 pub left-spec : {M : Type 1} → statement M
-left-spec = tie.close (tie.spec returns sub-if4 sub-result add-result add-result-2 returns-2 returns-3 returns-4 returns-5 returns-6)
+left-spec =
+    tie.close
+    (tie.spec
+    returns
+    (λ c. search needs) (λ c. search needs) (λ c. search needs) (λ c. search needs)
+    returns-2
+    returns-3
+    returns-4
+    returns-5
+    returns-6)

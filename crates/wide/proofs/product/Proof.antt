@@ -42,12 +42,6 @@ add-t15 c = omega (arith, room (c .args .a) (c .args .b) (omega arith) (omega ar
 add-t13 : tie.Need-add-t13
 add-t13 c = omega (arith, room (c .args .a) (c .args .b) (omega arith) (omega arith))
 
-mul-t12 : tie.Need-mul-t12
-mul-t12 c = search needs
-
-add-t18 : tie.Need-add-t18
-add-t18 c = search needs
-
 returns : tie.Need-returns
 returns c = halves-of-product (c .args .a) (c .args .b) _ _ (omega arith) (four-products (c .args .a) (c .args .b))
 
@@ -67,6 +61,5 @@ product-spec =
     mul-t11
     add-t15
     add-t13
-    mul-t12
-    add-t18
+    (λ c. search needs) (λ c. search needs)
     returns)

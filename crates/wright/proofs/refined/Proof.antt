@@ -17,20 +17,8 @@ Inv-loop z w a₀ i₀ a i = (i ≤ 2) × (a ≡ iter (λ _ b. refineOf b) a₀ 
 abbrev μ-loop : tie.MeasureT-loop
 μ-loop z w a₀ i₀ a i = 2 - i
 
-log-requires : tie.Need-log-requires Inv-loop μ-loop
-log-requires c κs = search needs
-
 loop-holds : tie.Need-loop-holds Inv-loop μ-loop
 loop-holds c = (omega arith, iter-none _ _)
-
-refine-requires : tie.Need-refine-requires Inv-loop μ-loop
-refine-requires c κs = search needs
-
-add-i : tie.Need-add-i Inv-loop μ-loop
-add-i c = omega arith
-
-loop-less : tie.Need-loop-less Inv-loop μ-loop
-loop-less c = omega arith
 
 loop-again : tie.Need-loop-again Inv-loop μ-loop
 loop-again c = (omega arith, rw (c .refine .ensures) (iter-next _ _ _ (c .before .before .loop .inv .1)))
@@ -49,10 +37,8 @@ refined-spec =
     (tie.spec
     Inv-loop
     μ-loop
-    log-requires
+    (λ c κs. search needs)
     loop-holds
-    refine-requires
-    add-i
-    loop-less
+    (λ c κs. search needs) (λ c. omega arith) (λ c. omega arith)
     loop-again
     returns)

@@ -4,15 +4,6 @@ use borrow.Author.Needs.{needs}
 use Rattle.wright.proofs.start.Statement.{statement}
 use Rattle.wright.proofs.start.Tie as tie
 
-taylor-start-requires : tie.Need-taylor-start-requires
-taylor-start-requires c κs = search needs
-
-log-requires : tie.Need-log-requires
-log-requires c κs = search needs
-
-log-start-requires : tie.Need-log-start-requires
-log-start-requires c κs = search needs
-
 returns : tie.Need-returns
 unfolding startOf
 returns c = simp (c .before .if1 .taken, c .taylor-start .ensures)
@@ -23,4 +14,4 @@ returns-2 c = simp (c .before .before .if1 .left, c .log-start .ensures, c .befo
 
 pub start-spec : {M : Type 1} → statement M
 start-spec =
-    tie.close (tie.spec taylor-start-requires log-requires log-start-requires returns returns-2)
+    tie.close (tie.spec (λ c κs. search needs) (λ c κs. search needs) (λ c κs. search needs) returns returns-2)

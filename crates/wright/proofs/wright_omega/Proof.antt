@@ -8,15 +8,9 @@ returns : tie.Need-returns
 unfolding omegaOf
 returns c = simp (c .if1 .taken)
 
-start-requires : tie.Need-start-requires
-start-requires c κs = search needs
-
-refined-requires : tie.Need-refined-requires
-refined-requires c κs = search needs
-
 returns-2 : tie.Need-returns-2
 unfolding omegaOf
 returns-2 c = simp (c .before .before .if1 .left, c .refined .ensures, c .before .start .ensures)
 
 pub wright-omega-spec : {M : Type 1} → statement M
-wright-omega-spec = tie.close (tie.spec returns start-requires refined-requires returns-2)
+wright-omega-spec = tie.close (tie.spec returns (λ c κs. search needs) (λ c κs. search needs) returns-2)

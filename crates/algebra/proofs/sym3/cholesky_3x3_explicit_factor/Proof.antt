@@ -6,33 +6,6 @@ use borrow.Author.Needs.{needs}
 use Rattle.algebra.proofs.sym3.cholesky_3x3_explicit_factor.Statement.{statement}
 use Rattle.algebra.proofs.sym3.cholesky_3x3_explicit_factor.Tie as tie
 
-array-read-p0 : tie.Need-array-read-p0
-array-read-p0 c = search needs
-
-sqrt-requires : tie.Need-sqrt-requires
-sqrt-requires c κs = search needs
-
-array-read-l10 : tie.Need-array-read-l10
-array-read-l10 c = search needs
-
-array-read-p1 : tie.Need-array-read-p1
-array-read-p1 c = search needs
-
-sqrt-requires-2 : tie.Need-sqrt-requires-2
-sqrt-requires-2 c κs = search needs
-
-array-read-l20 : tie.Need-array-read-l20
-array-read-l20 c = search needs
-
-array-read-l21 : tie.Need-array-read-l21
-array-read-l21 c = search needs
-
-array-read-p2 : tie.Need-array-read-p2
-array-read-p2 c = search needs
-
-sqrt-requires-3 : tie.Need-sqrt-requires-3
-sqrt-requires-3 c κs = search needs
-
 returns : tie.Need-returns
 unfolding factorOf withFirst withSecond withThird
 returns c =
@@ -67,15 +40,8 @@ pub cholesky-3x3-explicit-factor-spec : {M : Type 1} → statement M
 cholesky-3x3-explicit-factor-spec =
     tie.close
     (tie.spec
-    array-read-p0
-    sqrt-requires
-    array-read-l10
-    array-read-p1
-    sqrt-requires-2
-    array-read-l20
-    array-read-l21
-    array-read-p2
-    sqrt-requires-3
+    (λ c. search needs) (λ c κs. search needs) (λ c. search needs) (λ c. search needs) (λ c κs. search needs) (λ c. search needs)
+    (λ c. search needs) (λ c. search needs) (λ c κs. search needs)
     returns
     returns-2
     returns-3

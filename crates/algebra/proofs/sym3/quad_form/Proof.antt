@@ -4,15 +4,9 @@ use borrow.Author.Needs.{needs}
 use Rattle.algebra.proofs.sym3.quad_form.Statement.{statement}
 use Rattle.algebra.proofs.sym3.quad_form.Tie as tie
 
-mul-requires : tie.Need-mul-requires
-mul-requires c κs = search needs
-
-dot3-requires : tie.Need-dot3-requires
-dot3-requires c κs = search needs
-
 returns : tie.Need-returns
 unfolding quadFormOf
 returns c = rw (c .dot3 .ensures, c .before .mul .ensures)
 
 pub quad-form-spec : {M : Type 1} → statement M
-quad-form-spec = tie.close (tie.spec mul-requires dot3-requires returns)
+quad-form-spec = tie.close (tie.spec (λ c κs. search needs) (λ c κs. search needs) returns)

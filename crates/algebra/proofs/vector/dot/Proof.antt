@@ -17,29 +17,8 @@ Inv-loop xs ys n t₀ i₀ t i = (n ≡ min (length xs) (length ys)) × (i ≤ n
 abbrev μ-loop : tie.MeasureT-loop
 μ-loop xs ys n t₀ i₀ t i = n - i
 
-shorter-requires : tie.Need-shorter-requires Inv-loop μ-loop
-shorter-requires c κs = search needs
-
 loop-holds : tie.Need-loop-holds Inv-loop μ-loop
 loop-holds c = (c .shorter .ensures, omega arith, iter-none _ _)
-
-mul-t : tie.Need-mul-t Inv-loop μ-loop
-mul-t c = omega arith
-
-shared-slice-read-t : tie.Need-shared-slice-read-t Inv-loop μ-loop
-shared-slice-read-t c = omega arith
-
-mul-t-2 : tie.Need-mul-t-2 Inv-loop μ-loop
-mul-t-2 c = omega arith
-
-shared-slice-read-t-2 : tie.Need-shared-slice-read-t-2 Inv-loop μ-loop
-shared-slice-read-t-2 c = omega arith
-
-add-i : tie.Need-add-i Inv-loop μ-loop
-add-i c = omega arith
-
-loop-less : tie.Need-loop-less Inv-loop μ-loop
-loop-less c = omega arith
 
 loop-again : tie.Need-loop-again Inv-loop μ-loop
 loop-again c =
@@ -58,13 +37,8 @@ dot-spec =
     (tie.spec
     Inv-loop
     μ-loop
-    shorter-requires
+    (λ c κs. search needs)
     loop-holds
-    mul-t
-    shared-slice-read-t
-    mul-t-2
-    shared-slice-read-t-2
-    add-i
-    loop-less
+    (λ c. omega arith) (λ c. omega arith) (λ c. omega arith) (λ c. omega arith) (λ c. omega arith) (λ c. omega arith)
     loop-again
     returns)

@@ -4,15 +4,9 @@ use borrow.Author.Needs.{needs}
 use Rattle.algebra.proofs.vector.mean.Statement.{statement}
 use Rattle.algebra.proofs.vector.mean.Tie as tie
 
-sum-requires : tie.Need-sum-requires
-sum-requires c κs = search needs
-
-nearest-u64-to-f64-requires : tie.Need-nearest-u64-to-f64-requires
-nearest-u64-to-f64-requires c κs = search needs
-
 returns : tie.Need-returns
 unfolding meanOf
 returns c = rw (c .nearest-u64-to-f64 .ensures, c .before .sum .ensures)
 
 pub mean-spec : {M : Type 1} → statement M
-mean-spec = tie.close (tie.spec sum-requires nearest-u64-to-f64-requires returns)
+mean-spec = tie.close (tie.spec (λ c κs. search needs) (λ c κs. search needs) returns)

@@ -18,24 +18,6 @@ three-moved
 unfolding movedOf
 three-moved x dx a h k = ap₂ (λ (s t : List Float). movedOf s a t) (sym (three-places x h)) (sym (three-places dx k))
 
-array-read-t8 : tie.Need-array-read-t8
-array-read-t8 c = search needs
-
-array-read-t11 : tie.Need-array-read-t11
-array-read-t11 c = search needs
-
-array-read-t16 : tie.Need-array-read-t16
-array-read-t16 c = search needs
-
-array-read-t19 : tie.Need-array-read-t19
-array-read-t19 c = search needs
-
-array-read-t24 : tie.Need-array-read-t24
-array-read-t24 c = search needs
-
-array-read-t27 : tie.Need-array-read-t27
-array-read-t27 c = search needs
-
 returns : tie.Need-returns
 returns c = three-moved (c .args .t1) (c .args .t3) _ (search needs) (search needs)
 
@@ -43,10 +25,5 @@ pub moved3-spec : {M : Type 1} → statement M
 moved3-spec =
     tie.close
     (tie.spec
-    array-read-t8
-    array-read-t11
-    array-read-t16
-    array-read-t19
-    array-read-t24
-    array-read-t27
+    (λ c. search needs) (λ c. search needs) (λ c. search needs) (λ c. search needs) (λ c. search needs) (λ c. search needs)
     returns)

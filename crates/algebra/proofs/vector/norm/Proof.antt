@@ -4,15 +4,9 @@ use borrow.Author.Needs.{needs}
 use Rattle.algebra.proofs.vector.norm.Statement.{statement}
 use Rattle.algebra.proofs.vector.norm.Tie as tie
 
-sumsq-requires : tie.Need-sumsq-requires
-sumsq-requires c κs = search needs
-
-sqrt-requires : tie.Need-sqrt-requires
-sqrt-requires c κs = search needs
-
 returns : tie.Need-returns
 unfolding normOf
 returns c = rw (c .sqrt .ensures, c .before .sumsq .ensures)
 
 pub norm-spec : {M : Type 1} → statement M
-norm-spec = tie.close (tie.spec sumsq-requires sqrt-requires returns)
+norm-spec = tie.close (tie.spec (λ c κs. search needs) (λ c κs. search needs) returns)

@@ -6,21 +6,9 @@ use borrow.Author.Needs.{needs}
 use Rattle.algebra.proofs.vector.normalize3.Statement.{statement}
 use Rattle.algebra.proofs.vector.normalize3.Tie as tie
 
-norm3-requires : tie.Need-norm3-requires
-norm3-requires c κs = search needs
-
 returns : tie.Need-returns
 unfolding normalizeOf normalizeAt
 returns c = taken _ (c .if1 .taken) refl ∙ ap (normalizeAt _) (c .before .norm3 .ensures)
-
-array-read-t9 : tie.Need-array-read-t9
-array-read-t9 c = search needs
-
-array-read-t13 : tie.Need-array-read-t13
-array-read-t13 c = search needs
-
-array-read-t17 : tie.Need-array-read-t17
-array-read-t17 c = search needs
 
 returns-2 : tie.Need-returns-2
 unfolding normalizeOf normalizeAt
@@ -29,4 +17,4 @@ returns-2 c = left _ (c .if1 .left) refl ∙ ap (normalizeAt _) (c .before .norm
 pub normalize3-spec : {M : Type 1} → statement M
 normalize3-spec =
     tie.close
-    (tie.spec norm3-requires returns array-read-t9 array-read-t13 array-read-t17 returns-2)
+    (tie.spec (λ c κs. search needs) returns (λ c. search needs) (λ c. search needs) (λ c. search needs) returns-2)

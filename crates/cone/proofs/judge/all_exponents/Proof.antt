@@ -16,24 +16,6 @@ Inv-loop xs all₀ i₀ i-end all i = (i ≤ length xs) × (i-end ≡ length xs)
 abbrev μ-loop : tie.MeasureT-loop
 μ-loop xs all₀ i₀ i-end all i = length xs - i
 
-loop-holds : tie.Need-loop-holds Inv-loop μ-loop
-loop-holds c = (omega arith, refl, refl)
-
-mul-exponent-ok : tie.Need-mul-exponent-ok Inv-loop μ-loop
-mul-exponent-ok c = omega arith
-
-shared-slice-read-exponent-ok : tie.Need-shared-slice-read-exponent-ok Inv-loop μ-loop
-shared-slice-read-exponent-ok c = omega arith
-
-exponent-ok-requires : tie.Need-exponent-ok-requires Inv-loop μ-loop
-exponent-ok-requires c κs = search needs
-
-add-i : tie.Need-add-i Inv-loop μ-loop
-add-i c = omega arith
-
-loop-less : tie.Need-loop-less Inv-loop μ-loop
-loop-less c = omega arith
-
 loop-again : tie.Need-loop-again Inv-loop μ-loop
 loop-again c =
     let xs = c .before .before .before .before .before .args .xs .now in
@@ -44,4 +26,11 @@ returns : tie.Need-returns Inv-loop μ-loop
 returns c = sym (c .before .loop .inv .2 ∙ all-ended exponentOk _ (c .before .loop .i) (c .before .loop .all) (omega arith))
 
 pub all-exponents-spec : {M : Type 1} → statement M
-all-exponents-spec = tie.close (tie.spec Inv-loop μ-loop loop-holds mul-exponent-ok shared-slice-read-exponent-ok exponent-ok-requires add-i loop-less loop-again returns)
+all-exponents-spec =
+    tie.close
+    (tie.spec
+    Inv-loop
+    μ-loop
+    (λ c. (omega arith, refl, refl)) (λ c. omega arith) (λ c. omega arith) (λ c κs. search needs) (λ c. omega arith) (λ c. omega arith)
+    loop-again
+    returns)

@@ -5,15 +5,6 @@ use borrow.Author.Needs.{needs}
 use Rattle.cone.proofs.judge.block_len.Statement.{statement}
 use Rattle.cone.proofs.judge.block_len.Tie as tie
 
-cast-result : tie.Need-cast-result
-cast-result c = search needs
-
-cast-result-2 : tie.Need-cast-result-2
-cast-result-2 c = search needs
-
-add-result : tie.Need-add-result
-add-result c = search needs
-
 returns : tie.Need-returns
 unfolding blockOf
 returns c = simp (eq-eqb _ _ (c .before .before .if1 .taken))
@@ -23,4 +14,4 @@ unfolding blockOf
 returns-2 c = simp (ne-eqb _ _ (c .if1 .left))
 
 pub block-len-spec : {M : Type 1} → statement M
-block-len-spec = tie.close (tie.spec cast-result cast-result-2 add-result returns returns-2)
+block-len-spec = tie.close (tie.spec (λ c. search needs) (λ c. search needs) (λ c. search needs) returns returns-2)

@@ -5,15 +5,6 @@ use borrow.Author.Needs.{needs}
 use Rattle.cone.proofs.judge.cone_ok.Statement.{statement}
 use Rattle.cone.proofs.judge.cone_ok.Tie as tie
 
-element-copy-out-power-ok : tie.Need-element-copy-out-power-ok
-element-copy-out-power-ok c = search needs
-
-power-ok-requires : tie.Need-power-ok-requires
-power-ok-requires c κs = search needs
-
-wide-ok-requires : tie.Need-wide-ok-requires
-wide-ok-requires c κs = search needs
-
 returns : tie.Need-returns
 unfolding coneOk
 returns c = simp (c .match .keys1)
@@ -34,9 +25,7 @@ pub cone-ok-spec : {M : Type 1} → statement M
 cone-ok-spec =
     tie.close
     (tie.spec
-    element-copy-out-power-ok
-    power-ok-requires
-    wide-ok-requires
+    (λ c. search needs) (λ c κs. search needs) (λ c κs. search needs)
     returns
     returns-2
     returns-3

@@ -6,14 +6,8 @@ use borrow.Author.Needs.{needs}
 use Rattle.cone.proofs.judge.head_finite.Statement.{statement}
 use Rattle.cone.proofs.judge.head_finite.Tie as tie
 
-head-requires : tie.Need-head-requires
-head-requires c κs = search needs
-
-all-finite-requires : tie.Need-all-finite-requires
-all-finite-requires c κs = search needs
-
 returns : tie.Need-returns
 returns c = c .all-finite .ensures ∙ ap (allOf finite) (c .before .head .ensures)
 
 pub head-finite-spec : {M : Type 1} → statement M
-head-finite-spec = tie.close (tie.spec head-requires all-finite-requires returns)
+head-finite-spec = tie.close (tie.spec (λ c κs. search needs) (λ c κs. search needs) returns)

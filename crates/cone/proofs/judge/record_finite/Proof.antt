@@ -5,15 +5,9 @@ use borrow.Author.Needs.{needs}
 use Rattle.cone.proofs.judge.record_finite.Statement.{statement}
 use Rattle.cone.proofs.judge.record_finite.Tie as tie
 
-wide-finite-requires : tie.Need-wide-finite-requires
-wide-finite-requires c κs = search needs
-
 returns : tie.Need-returns
 unfolding recordFinite
 returns c = simp (eq-eqb _ _ (c .before .if1 .taken)) (c .wide-finite .ensures)
-
-three-finite-requires : tie.Need-three-finite-requires
-three-finite-requires c κs = search needs
 
 returns-2 : tie.Need-returns-2
 unfolding recordFinite
@@ -21,4 +15,4 @@ returns-2 c = simp (ne-eqb _ _ (c .before .if1 .left)) (c .three-finite .ensures
 
 pub record-finite-spec : {M : Type 1} → statement M
 record-finite-spec =
-    tie.close (tie.spec wide-finite-requires returns three-finite-requires returns-2)
+    tie.close (tie.spec (λ c κs. search needs) returns (λ c κs. search needs) returns-2)

@@ -3,18 +3,9 @@ use borrow.Author.Needs.{needs}
 use Rattle.cone.proofs.judge.settings_finite.Statement.{statement}
 use Rattle.cone.proofs.judge.settings_finite.Tie as tie
 
-is-finite-requires : tie.Need-is-finite-requires
-is-finite-requires c κs = search needs
-
-is-finite-requires-2 : tie.Need-is-finite-requires-2
-is-finite-requires-2 c κs = search needs
-
-is-finite-requires-3 : tie.Need-is-finite-requires-3
-is-finite-requires-3 c κs = search needs
-
 returns : tie.Need-returns
 returns c = simp (c .before .before .is-finite .ensures, c .before .is-finite2 .ensures, c .is-finite3 .ensures)
 
 pub settings-finite-spec : {M : Type 1} → statement M
 settings-finite-spec =
-    tie.close (tie.spec is-finite-requires is-finite-requires-2 is-finite-requires-3 returns)
+    tie.close (tie.spec (λ c κs. search needs) (λ c κs. search needs) (λ c κs. search needs) returns)

@@ -4,11 +4,8 @@ use borrow.Author.Needs.{needs}
 use Rattle.cone.proofs.judge.sum_ok.Statement.{statement}
 use Rattle.cone.proofs.judge.sum_ok.Tie as tie
 
-sum-requires : tie.Need-sum-requires
-sum-requires c κs = search needs
-
 returns : tie.Need-returns
 returns c = simp (← c .sum .ensures)
 
 pub sum-ok-spec : {M : Type 1} → statement M
-sum-ok-spec = tie.close (tie.spec sum-requires returns)
+sum-ok-spec = tie.close (tie.spec (λ c κs. search needs) returns)

@@ -4,18 +4,6 @@ use borrow.Author.Needs.{needs}
 use Rattle.cone.proofs.judge.three_finite.Statement.{statement}
 use Rattle.cone.proofs.judge.three_finite.Tie as tie
 
-all-finite-requires : tie.Need-all-finite-requires
-all-finite-requires c κs = search needs
-
-all-finite-requires-2 : tie.Need-all-finite-requires-2
-all-finite-requires-2 c κs = search needs
-
-all-finite-requires-3 : tie.Need-all-finite-requires-3
-all-finite-requires-3 c κs = search needs
-
-all-finite-requires-4 : tie.Need-all-finite-requires-4
-all-finite-requires-4 c κs = search needs
-
 -- where each part is judged, the last first
 abbrev at-hdual : tie.After-all-finite4 → tie.After-all-finite3
 at-hdual c = c .before .before .before .before
@@ -31,4 +19,4 @@ unfolding threeFinite
 returns c = simp (at-z c .all-finite .ensures, at-grad c .all-finite2 .ensures, at-hdual c .all-finite3 .ensures, c .all-finite4 .ensures)
 
 pub three-finite-spec : {M : Type 1} → statement M
-three-finite-spec = tie.close (tie.spec all-finite-requires all-finite-requires-2 all-finite-requires-3 all-finite-requires-4 returns)
+three-finite-spec = tie.close (tie.spec (λ c κs. search needs) (λ c κs. search needs) (λ c κs. search needs) (λ c κs. search needs) returns)

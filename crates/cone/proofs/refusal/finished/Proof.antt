@@ -5,9 +5,6 @@ use borrow.Author.Needs.{needs}
 use Rattle.cone.proofs.refusal.finished.Statement.{statement}
 use Rattle.cone.proofs.refusal.finished.Tie as tie
 
-is-finite-requires : tie.Need-is-finite-requires
-is-finite-requires c κs = search needs
-
 returns : tie.Need-returns
 unfolding numberOf
 returns c = simp (sym (c .before .is-finite .ensures) ∙ c .if1 .taken)
@@ -17,4 +14,4 @@ unfolding numberOf
 returns-2 c = simp (sym (c .before .is-finite .ensures) ∙ c .if1 .left)
 
 pub finished-spec : {M : Type 1} → statement M
-finished-spec = tie.close (tie.spec is-finite-requires returns returns-2)
+finished-spec = tie.close (tie.spec (λ c κs. search needs) returns returns-2)

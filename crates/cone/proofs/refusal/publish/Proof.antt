@@ -7,15 +7,6 @@ use borrow.Author.Needs.{needs}
 use Rattle.cone.proofs.refusal.publish.Statement.{statement}
 use Rattle.cone.proofs.refusal.publish.Tie as tie
 
-all-finite-requires : tie.Need-all-finite-requires
-all-finite-requires c κs = search needs
-
-store-requires : tie.Need-store-requires
-store-requires c κs = search needs
-
-same-length : tie.Need-same-length
-same-length c = search needs
-
 returns : tie.Need-returns
 unfolding publishOf
 returns c = simp (sym (c .before .before .before .before .before .all-finite .ensures) ∙ c .before .before .before .before .if1 .taken) (ap (λ (l : List Float). record { answer = 0; slice = l }) (c .before .before .store .ensures))
@@ -26,4 +17,4 @@ returns-2 c = simp (sym (c .before .all-finite .ensures) ∙ c .if1 .left)
 
 pub publish-spec : {M : Type 1} → statement M
 publish-spec =
-    tie.close (tie.spec all-finite-requires store-requires same-length returns returns-2)
+    tie.close (tie.spec (λ c κs. search needs) (λ c κs. search needs) (λ c. search needs) returns returns-2)

@@ -14,27 +14,6 @@ Inv-loop out₀ ans i₀ i-end out i = (i ≤ length out₀) × (i-end ≡ lengt
 abbrev μ-loop : tie.MeasureT-loop
 μ-loop out₀ ans i₀ i-end out i = length out₀ - i
 
-loop-holds : tie.Need-loop-holds Inv-loop μ-loop
-loop-holds c = (omega arith, refl, refl, refl)
-
-mul-out : tie.Need-mul-out Inv-loop μ-loop
-mul-out c = omega arith
-
-shared-slice-read-out : tie.Need-shared-slice-read-out Inv-loop μ-loop
-shared-slice-read-out c = omega arith
-
-mul-out-2 : tie.Need-mul-out-2 Inv-loop μ-loop
-mul-out-2 c = omega arith
-
-slice-write-out : tie.Need-slice-write-out Inv-loop μ-loop
-slice-write-out c = omega arith
-
-add-i : tie.Need-add-i Inv-loop μ-loop
-add-i c = omega arith
-
-loop-less : tie.Need-loop-less Inv-loop μ-loop
-loop-less c = omega arith
-
 loop-again : tie.Need-loop-again Inv-loop μ-loop
 loop-again c = (
   omega arith,
@@ -55,13 +34,8 @@ store-spec =
     (tie.spec
     Inv-loop
     μ-loop
-    loop-holds
-    mul-out
-    shared-slice-read-out
-    mul-out-2
-    slice-write-out
-    add-i
-    loop-less
+    (λ c. (omega arith, refl, refl, refl)) (λ c. omega arith) (λ c. omega arith) (λ c. omega arith) (λ c. omega arith) (λ c. omega arith)
+    (λ c. omega arith)
     loop-again
     same-length
     returns)

@@ -7,33 +7,6 @@ use Rattle.cone_entries.proofs.formulas.barrier.Tie as tie
 use Rattle.genpowcone.proofs.barrier_dual.Reads as barrier-dual-reads′
 use Rattle.powcone.proofs.barrier_dual.Reads as barrier-dual-reads′′
 
-three-of-requires : tie.Need-three-of-requires
-three-of-requires c κs = search needs
-
-barrier-dual-requires : tie.Need-barrier-dual-requires
-barrier-dual-requires c κs = search needs
-
-array-read-barrier-dual : tie.Need-array-read-barrier-dual
-array-read-barrier-dual c = search needs
-
-three-of-requires-2 : tie.Need-three-of-requires-2
-three-of-requires-2 c κs = search needs
-
-barrier-dual-requires-2 : tie.Need-barrier-dual-requires-2
-barrier-dual-requires-2 c κs = search needs
-
-slice-aggregate-head : tie.Need-slice-aggregate-head
-slice-aggregate-head c = search needs
-
-cast-head : tie.Need-cast-head
-cast-head c = search needs
-
-head-requires : tie.Need-head-requires
-head-requires c κs = search needs
-
-barrier-dual-requires-3 : tie.Need-barrier-dual-requires-3
-barrier-dual-requires-3 c κs = search needs
-
 returns : tie.Need-returns
 unfolding barrierOf
 returns c = simp (c .before .before .match .keys1) (simp (← c .before .three-of .ensures) (c .barrier-dual .ensures))
@@ -56,15 +29,8 @@ pub barrier-spec : {M : Type 1} → statement M
 barrier-spec =
     tie.close
     (tie.spec
-    three-of-requires
-    barrier-dual-requires
-    array-read-barrier-dual
-    three-of-requires-2
-    barrier-dual-requires-2
-    slice-aggregate-head
-    cast-head
-    head-requires
-    barrier-dual-requires-3
+    (λ c κs. search needs) (λ c κs. search needs) (λ c. search needs) (λ c κs. search needs) (λ c κs. search needs) (λ c. search needs)
+    (λ c. search needs) (λ c κs. search needs) (λ c κs. search needs)
     returns
     returns-2
     returns-3

@@ -6,26 +6,11 @@ use borrow.Author.Needs.{needs}
 use Rattle.cone_entries.proofs.formulas.gradients.Statement.{statement}
 use Rattle.cone_entries.proofs.formulas.gradients.Tie as tie
 
-slice-aggregate-head : tie.Need-slice-aggregate-head
-slice-aggregate-head c = search needs
-
-cast-head : tie.Need-cast-head
-cast-head c = search needs
-
-head-requires : tie.Need-head-requires
-head-requires c κs = search needs
-
 update-dual-grad-h-requires : tie.Need-update-dual-grad-h-requires
 update-dual-grad-h-requires c κs =
     let let-through = c .before .before .before .before in
     let start = let-through .before .before in
     wide-fits _ _ (start .pre) (let-through .if1 .taken) (search needs) (c .head .ensures)
-
-no-three-requires : tie.Need-no-three-requires
-no-three-requires c κs = search needs
-
-attempted-requires : tie.Need-attempted-requires
-attempted-requires c κs = search needs
 
 returns : tie.Need-returns
 unfolding gradientsOf
@@ -35,18 +20,6 @@ returns c =
     let at-head = at-update-dual-grad-h .before in
     let let-through = at-head .before .before .before .before in
     simp (eq-eqb _ _ (let-through .if1 .taken), c .attempted .ensures, at-no-three .no-three .ensures, at-update-dual-grad-h .update-dual-grad-h .ensures, at-head .head .ensures)
-
-three-of-requires : tie.Need-three-of-requires
-three-of-requires c κs = search needs
-
-dual-three-requires : tie.Need-dual-three-requires
-dual-three-requires c κs = search needs
-
-no-wide-requires : tie.Need-no-wide-requires
-no-wide-requires c κs = search needs
-
-attempted-requires-2 : tie.Need-attempted-requires-2
-attempted-requires-2 c κs = search needs
 
 returns-2 : tie.Need-returns-2
 unfolding gradientsOf
@@ -60,15 +33,9 @@ pub gradients-spec : {M : Type 1} → statement M
 gradients-spec =
     tie.close
     (tie.spec
-    slice-aggregate-head
-    cast-head
-    head-requires
+    (λ c. search needs) (λ c. search needs) (λ c κs. search needs)
     update-dual-grad-h-requires
-    no-three-requires
-    attempted-requires
+    (λ c κs. search needs) (λ c κs. search needs)
     returns
-    three-of-requires
-    dual-three-requires
-    no-wide-requires
-    attempted-requires-2
+    (λ c κs. search needs) (λ c κs. search needs) (λ c κs. search needs) (λ c κs. search needs)
     returns-2)

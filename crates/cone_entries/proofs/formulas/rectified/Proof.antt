@@ -28,29 +28,8 @@ Inv-loop e m d₀ i₀ i-end d i = (i ≤ length e) × (i-end ≡ length e) × (
 abbrev μ-loop : tie.MeasureT-loop
 μ-loop e m d₀ i₀ i-end d i = length e - i
 
-mean-requires : tie.Need-mean-requires Inv-loop μ-loop
-mean-requires c κs = search needs
-
 loop-holds : tie.Need-loop-holds Inv-loop μ-loop
 loop-holds c = (omega arith, refl, iter-none _ _)
-
-mul-d : tie.Need-mul-d Inv-loop μ-loop
-mul-d c = omega arith
-
-shared-slice-read-d : tie.Need-shared-slice-read-d Inv-loop μ-loop
-shared-slice-read-d c = omega arith
-
-mul-d-2 : tie.Need-mul-d-2 Inv-loop μ-loop
-mul-d-2 c = omega arith
-
-array-write-d : tie.Need-array-write-d Inv-loop μ-loop
-array-write-d c = omega arith
-
-add-i : tie.Need-add-i Inv-loop μ-loop
-add-i c = omega arith
-
-loop-less : tie.Need-loop-less Inv-loop μ-loop
-loop-less c = omega arith
 
 loop-again : tie.Need-loop-again Inv-loop μ-loop
 unfolding rectifiedOf
@@ -74,13 +53,8 @@ rectified-spec =
     (tie.spec
     Inv-loop
     μ-loop
-    mean-requires
+    (λ c κs. search needs)
     loop-holds
-    mul-d
-    shared-slice-read-d
-    mul-d-2
-    array-write-d
-    add-i
-    loop-less
+    (λ c. omega arith) (λ c. omega arith) (λ c. omega arith) (λ c. omega arith) (λ c. omega arith) (λ c. omega arith)
     loop-again
     returns)

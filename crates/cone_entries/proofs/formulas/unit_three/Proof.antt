@@ -6,18 +6,9 @@ use Rattle.cone_entries.proofs.formulas.unit_three.Statement.{statement
 use Rattle.cone_entries.proofs.formulas.unit_three.Tie as tie
 use Rattle.powcone.proofs.unit_initialization.Reads as unit-initialization-reads′
 
-array-read-unit-initialization : tie.Need-array-read-unit-initialization
-array-read-unit-initialization c = search needs
-
-unit-initialization-requires : tie.Need-unit-initialization-requires
-unit-initialization-requires c κs = search needs
-
 returns : tie.Need-returns
 unfolding unitThree
 returns c = simp (eq-eqb _ _ (c .before .before .if1 .taken)) (c .unit-initialization .ensures)
-
-unit-initialization-requires-2 : tie.Need-unit-initialization-requires-2
-unit-initialization-requires-2 c κs = search needs
 
 returns-2 : tie.Need-returns-2
 unfolding unitThree
@@ -27,8 +18,7 @@ pub unit-three-spec : {M : Type 1} → statement M
 unit-three-spec =
     tie.close
     (tie.spec
-    array-read-unit-initialization
-    unit-initialization-requires
+    (λ c. search needs) (λ c κs. search needs)
     returns
-    unit-initialization-requires-2
+    (λ c κs. search needs)
     returns-2)

@@ -6,15 +6,6 @@ use borrow.Author.Needs.{needs}
 use Rattle.cone_entries.proofs.formulas.unit_wide.Statement.{statement}
 use Rattle.cone_entries.proofs.formulas.unit_wide.Tie as tie
 
-slice-aggregate-head : tie.Need-slice-aggregate-head
-slice-aggregate-head c = search needs
-
-cast-head : tie.Need-cast-head
-cast-head c = search needs
-
-head-requires : tie.Need-head-requires
-head-requires c κs = search needs
-
 unit-initialization-requires : tie.Need-unit-initialization-requires
 unit-initialization-requires c κs =
     let start = c .before .before .before .before in
@@ -27,4 +18,4 @@ returns c = simp (← c .before .head .ensures) (c .unit-initialization .ensures
 pub unit-wide-spec : {M : Type 1} → statement M
 unit-wide-spec =
     tie.close
-    (tie.spec slice-aggregate-head cast-head head-requires unit-initialization-requires returns)
+    (tie.spec (λ c. search needs) (λ c. search needs) (λ c κs. search needs) unit-initialization-requires returns)

@@ -15,15 +15,6 @@ one-less-fits k h = go (k * thirdIn53 + fraction k / 2 ^ 40) (border-fits k h)
     go : (b : ℕ) → b + 1 < 2 ^ 64 → b < 2 ^ 64
     go b e = omega arith
 
-mul-result : tie.Need-mul-result
-mul-result c = search needs
-
-mul-result-2 : tie.Need-mul-result-2
-mul-result-2 c = search needs
-
-add-result : tie.Need-add-result
-add-result c = search needs
-
 add-result-2 : tie.Need-add-result-2
 add-result-2 c = record { fits = one-less-fits (c .args .k) (c .pre) }
 
@@ -36,4 +27,4 @@ unfolding border
 returns c = refl
 
 pub border-spec : {M : Type 1} → statement M
-border-spec = tie.close (tie.spec mul-result mul-result-2 add-result add-result-2 add-result-3 returns)
+border-spec = tie.close (tie.spec (λ c. search needs) (λ c. search needs) (λ c. search needs) add-result-2 add-result-3 returns)

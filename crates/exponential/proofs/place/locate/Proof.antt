@@ -41,44 +41,8 @@ module _ (c : tie.Else1) where
   most : (s : Bool) → c .before .args .negative ≡ s → mag f t ≤ cond s 708 709 * 2 ^ 1074
   most s e = subst (λ (b : Bool). mag f t ≤ cond b 708 709 * 2 ^ 1074) e (c .before .pre .most)
 
-add-m : tie.Need-add-m
-add-m c = search needs
-
-mul-shifted : tie.Need-mul-shifted
-mul-shifted c = search needs
-
-sub-shifted : tie.Need-sub-shifted
-sub-shifted c = search needs
-
-sub-shifted-2 : tie.Need-sub-shifted-2
-sub-shifted-2 c = search needs
-
-shifted-requires : tie.Need-shifted-requires
-shifted-requires c κs = search needs
-
-sub-t10 : tie.Need-sub-t10
-sub-t10 c = search needs
-
-sub-t11 : tie.Need-sub-t11
-sub-t11 c = search needs
-
-sub-t14 : tie.Need-sub-t14
-sub-t14 c = search needs
-
 returns : tie.Need-returns
 returns c = by-sign _ (c .before .if2 .taken) (low-negative _ _ _ (search needs) (search needs) (search needs) (c .shifted .ensures))
-
-mul-shifted-2 : tie.Need-mul-shifted-2
-mul-shifted-2 c = search needs
-
-sub-shifted-3 : tie.Need-sub-shifted-3
-sub-shifted-3 c = search needs
-
-shifted-requires-2 : tie.Need-shifted-requires-2
-shifted-requires-2 c κs = search needs
-
-add-t16 : tie.Need-add-t16
-add-t16 c = search needs
 
 returns-2 : tie.Need-returns-2
 returns-2 c = by-sign _ (c .before .if2 .left) (low-positive _ _ _ (search needs) (search needs) (c .shifted2 .ensures))
@@ -105,19 +69,10 @@ pub locate-spec : {M : Type 1} → statement M
 locate-spec =
     tie.close
     (tie.spec
-    add-m
-    mul-shifted
-    sub-shifted
-    sub-shifted-2
-    shifted-requires
-    sub-t10
-    sub-t11
-    sub-t14
+    (λ c. search needs) (λ c. search needs) (λ c. search needs) (λ c. search needs) (λ c κs. search needs) (λ c. search needs)
+    (λ c. search needs) (λ c. search needs)
     returns
-    mul-shifted-2
-    sub-shifted-3
-    shifted-requires-2
-    add-t16
+    (λ c. search needs) (λ c. search needs) (λ c κs. search needs) (λ c. search needs)
     returns-2
     shl-n
     sub-t19

@@ -7,21 +7,6 @@ use Rattle.exponential.specs.Steps.{thirdIn53, border, placeOf}
 use Rattle.exponential.proofs.place.place.Statement.{statement}
 use Rattle.exponential.proofs.place.place.Tie as tie
 
-add-k : tie.Need-add-k
-add-k c = search needs
-
-div-k : tie.Need-div-k
-div-k c = search needs
-
-add-border : tie.Need-add-border
-add-border c = search needs
-
-border-requires : tie.Need-border-requires
-border-requires c κs = search needs
-
-add-result : tie.Need-add-result
-add-result c = search needs
-
 returns : tie.Need-returns
 unfolding placeOf
 returns c =
@@ -37,4 +22,9 @@ returns-2 c =
     simp (lt-leb _ _ b)
 
 pub place-spec : {M : Type 1} → statement M
-place-spec = tie.close (tie.spec add-k div-k add-border border-requires add-result returns returns-2)
+place-spec =
+    tie.close
+    (tie.spec
+    (λ c. search needs) (λ c. search needs) (λ c. search needs) (λ c κs. search needs) (λ c. search needs)
+    returns
+    returns-2)

@@ -46,21 +46,6 @@ two-fit a b d h = record { fits = omega arith }
 all-fit : (a b d : ℕ) → a + b + d ≤ thirdIn64 + 2048 → Fits w64 (a + b + d)
 all-fit a b d h = record { fits = omega arith }
 
-mul-gap : tie.Need-mul-gap
-mul-gap c = search needs
-
-add-gap : tie.Need-add-gap
-add-gap c = search needs
-
-sub-gap : tie.Need-sub-gap
-sub-gap c = search needs
-
-border-requires : tie.Need-border-requires
-border-requires c κs = search needs
-
-sub-result : tie.Need-sub-result
-sub-result c = search needs
-
 mul-result : tie.Need-mul-result
 mul-result c = parts-fit _ (g c) (part c) (small c)
 
@@ -74,4 +59,11 @@ returns : tie.Need-returns
 returns c = is c
 
 pub rest-spec : {M : Type 1} → statement M
-rest-spec = tie.close (tie.spec mul-gap add-gap sub-gap border-requires sub-result mul-result add-result add-result-2 returns)
+rest-spec =
+    tie.close
+    (tie.spec
+    (λ c. search needs) (λ c. search needs) (λ c. search needs) (λ c κs. search needs) (λ c. search needs)
+    mul-result
+    add-result
+    add-result-2
+    returns)

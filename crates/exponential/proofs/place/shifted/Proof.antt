@@ -4,14 +4,8 @@ use Rattle.exponential.proofs.Shifts.{shifted-out}
 use Rattle.exponential.proofs.place.shifted.Statement.{statement}
 use Rattle.exponential.proofs.place.shifted.Tie as tie
 
-shr-result : tie.Need-shr-result
-shr-result c = search needs
-
-returns : tie.Need-returns
-returns c = search needs
-
 returns-2 : tie.Need-returns-2
 returns-2 c = shifted-out _ _ (search needs) (search needs)
 
 pub shifted-spec : {M : Type 1} → statement M
-shifted-spec = tie.close (tie.spec shr-result returns returns-2)
+shifted-spec = tie.close (tie.spec (λ c. search needs) (λ c. search needs) returns-2)

@@ -36,23 +36,11 @@ new-v c =
     ∙ ap (λ (x : ℕ). coefficient (i - 1) + x) (c .high .ensures ∙ ap (λ (x : ℕ). r * x / 2 ^ 64) e)
     ∙ next-term r i (omega arith) (omega arith)
 
-sub-i : tie.Need-sub-i Inv-loop μ-loop
-sub-i c = omega arith
-
-coefficient-requires : tie.Need-coefficient-requires Inv-loop μ-loop
-coefficient-requires c κs = omega arith
-
-high-requires : tie.Need-high-requires Inv-loop μ-loop
-high-requires c κs = search needs
-
 add-v : tie.Need-add-v Inv-loop μ-loop
 add-v c =
     let r = c .before .before .before .before .args .r in
     let i = c .before .before .before .loop .i in
     omega (arith, new-v c, horner-most r (39 - (i - 1)) (omega arith) (omega arith))
-
-loop-less : tie.Need-loop-less Inv-loop μ-loop
-loop-less c = omega arith
 
 loop-again : tie.Need-loop-again Inv-loop μ-loop
 loop-again c = (omega arith, new-v c)
@@ -63,4 +51,14 @@ returns c =
     c .before .loop .inv .1 ∙ ap (λ (x : ℕ). horner (c .before .before .args .r) (39 - x)) z
 
 pub sum-spec : {M : Type 1} → statement M
-sum-spec = tie.close (tie.spec Inv-loop μ-loop loop-holds sub-i coefficient-requires high-requires add-v loop-less loop-again returns)
+sum-spec =
+    tie.close
+    (tie.spec
+    Inv-loop
+    μ-loop
+    loop-holds
+    (λ c. omega arith) (λ c κs. omega arith) (λ c κs. search needs)
+    add-v
+    (λ c. omega arith)
+    loop-again
+    returns)

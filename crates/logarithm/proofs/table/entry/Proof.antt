@@ -24,9 +24,6 @@ in-rows (suc n) l (suc k) j h g =
     let next : 16 + (k * 16 + j) ≡ suc k * 16 + j = omega arith in
     in-rows n (drop 16 l) k j (le-of-suc-le-suc h) g ∙ getD-drop 16 l (k * 16 + j) 0 ∙ ap (λ (i : ℕ). getD l i 0) next
 
-of-rows-requires : tie.Need-of-rows-requires
-of-rows-requires c κs = search needs
-
 returns : tie.Need-returns
 unfolding table
 returns c =
@@ -34,4 +31,4 @@ returns c =
     c .of-rows .ensures ∙ in-rows 16 table (i / 16) (i % 16) (omega arith) (omega arith) ∙ ap (λ (n : ℕ). getD table n 0) (div-add-mod' i 16)
 
 pub entry-spec : {M : Type 1} → statement M
-entry-spec = tie.close (tie.spec of-rows-requires returns)
+entry-spec = tie.close (tie.spec (λ c κs. search needs) returns)

@@ -13,41 +13,11 @@ Inv-loop n xs₀ i₀ xs i = i ≤ 32
 abbrev μ-loop : tie.MeasureT-loop
 μ-loop n xs₀ i₀ xs i = 32 - i
 
-loop-holds : tie.Need-loop-holds Inv-loop μ-loop
-loop-holds c = omega arith
-
-number-requires : tie.Need-number-requires Inv-loop μ-loop
-number-requires c κs = search needs
-
-mul-xs : tie.Need-mul-xs Inv-loop μ-loop
-mul-xs c = omega arith
-
-array-write-xs : tie.Need-array-write-xs Inv-loop μ-loop
-array-write-xs c = omega arith
-
-add-i : tie.Need-add-i Inv-loop μ-loop
-add-i c = omega arith
-
-loop-less : tie.Need-loop-less Inv-loop μ-loop
-loop-less c = omega arith
-
-loop-again : tie.Need-loop-again Inv-loop μ-loop
-loop-again c = omega arith
-
-returns : tie.Need-returns Inv-loop μ-loop
-returns c = search needs
-
 pub numbers32-spec : {M : Type 1} → statement M
 numbers32-spec =
     tie.close
     (tie.spec
     Inv-loop
     μ-loop
-    loop-holds
-    number-requires
-    mul-xs
-    array-write-xs
-    add-i
-    loop-less
-    loop-again
-    returns)
+    (λ c. omega arith) (λ c κs. search needs) (λ c. omega arith) (λ c. omega arith) (λ c. omega arith) (λ c. omega arith)
+    (λ c. omega arith) (λ c. search needs))

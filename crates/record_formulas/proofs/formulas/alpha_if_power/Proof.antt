@@ -5,9 +5,6 @@ use borrow.Author.Needs.{needs}
 use Rattle.record_formulas.proofs.formulas.alpha_if_power.Statement.{statement}
 use Rattle.record_formulas.proofs.formulas.alpha_if_power.Tie as tie
 
-element-copy-out-result : tie.Need-element-copy-out-result
-element-copy-out-result c = search needs
-
 returns : tie.Need-returns
 unfolding alphaIfPower
 returns c = simp (eq-eqb _ _ (c .before .if1 .taken))
@@ -17,4 +14,4 @@ unfolding alphaIfPower
 returns-2 c = simp (ne-eqb _ _ (c .if1 .left))
 
 pub alpha-if-power-spec : {M : Type 1} → statement M
-alpha-if-power-spec = tie.close (tie.spec element-copy-out-result returns returns-2)
+alpha-if-power-spec = tie.close (tie.spec (λ c. search needs) returns returns-2)

@@ -6,12 +6,6 @@ use borrow.Author.Needs.{needs}
 use Rattle.record_formulas.proofs.formulas.combined_barrier.Statement.{statement}
 use Rattle.record_formulas.proofs.formulas.combined_barrier.Tie as tie
 
-cast-dim1 : tie.Need-cast-dim1
-cast-dim1 c = search needs
-
-cast-dim2 : tie.Need-cast-dim2
-cast-dim2 c = search needs
-
 wide-combined-requires : tie.Need-wide-combined-requires
 wide-combined-requires c κs =
     let let-through = c .before .before .before .before .before in
@@ -24,21 +18,6 @@ unfolding combinedBarrierOf
 returns c =
     let let-through = c .before .before .before .before .before .before in
     simp (eq-eqb _ _ (let-through .if1 .taken), c .wide-combined .ensures)
-
-three-of-requires : tie.Need-three-of-requires
-three-of-requires c κs = search needs
-
-three-of-requires-2 : tie.Need-three-of-requires-2
-three-of-requires-2 c κs = search needs
-
-three-of-requires-3 : tie.Need-three-of-requires-3
-three-of-requires-3 c κs = search needs
-
-three-of-requires-4 : tie.Need-three-of-requires-4
-three-of-requires-4 c κs = search needs
-
-three-combined-requires : tie.Need-three-combined-requires
-three-combined-requires c κs = search needs
 
 returns-2 : tie.Need-returns-2
 unfolding combinedBarrierOf
@@ -53,13 +32,8 @@ pub combined-barrier-spec : {M : Type 1} → statement M
 combined-barrier-spec =
     tie.close
     (tie.spec
-    cast-dim1
-    cast-dim2
+    (λ c. search needs) (λ c. search needs)
     wide-combined-requires
     returns
-    three-of-requires
-    three-of-requires-2
-    three-of-requires-3
-    three-of-requires-4
-    three-combined-requires
+    (λ c κs. search needs) (λ c κs. search needs) (λ c κs. search needs) (λ c κs. search needs) (λ c κs. search needs)
     returns-2)

@@ -14,15 +14,6 @@ returns : tie.Need-returns
 unfolding newRecordOf
 returns c = simp (eq-eqb _ _ (c .before .if1 .taken)) (c .new-wide .ensures)
 
-three-of-requires : tie.Need-three-of-requires
-three-of-requires c κs = search needs
-
-three-of-requires-2 : tie.Need-three-of-requires-2
-three-of-requires-2 c κs = search needs
-
-new-three-requires : tie.Need-new-three-requires
-new-three-requires c κs = search needs
-
 returns-2 : tie.Need-returns-2
 unfolding newRecordOf
 returns-2 c =
@@ -36,7 +27,5 @@ new-record-spec =
     (tie.spec
     new-wide-requires
     returns
-    three-of-requires
-    three-of-requires-2
-    new-three-requires
+    (λ c κs. search needs) (λ c κs. search needs) (λ c κs. search needs)
     returns-2)

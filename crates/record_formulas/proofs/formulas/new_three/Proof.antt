@@ -4,21 +4,6 @@ use borrow.Author.Needs.{needs}
 use Rattle.record_formulas.proofs.formulas.new_three.Statement.{statement}
 use Rattle.record_formulas.proofs.formulas.new_three.Tie as tie
 
-dual-three-requires : tie.Need-dual-three-requires
-dual-three-requires c κs = search needs
-
-alpha-if-power-requires : tie.Need-alpha-if-power-requires
-alpha-if-power-requires c κs = search needs
-
-update-hs-requires : tie.Need-update-hs-requires
-update-hs-requires c κs = search needs
-
-no-wide-requires : tie.Need-no-wide-requires
-no-wide-requires c κs = search needs
-
-attempted-requires : tie.Need-attempted-requires
-attempted-requires c κs = search needs
-
 returns : tie.Need-returns
 unfolding newThree
 returns c =
@@ -31,9 +16,5 @@ pub new-three-spec : {M : Type 1} → statement M
 new-three-spec =
     tie.close
     (tie.spec
-    dual-three-requires
-    alpha-if-power-requires
-    update-hs-requires
-    no-wide-requires
-    attempted-requires
+    (λ c κs. search needs) (λ c κs. search needs) (λ c κs. search needs) (λ c κs. search needs) (λ c κs. search needs)
     returns)

@@ -5,28 +5,10 @@ use Rattle.record_rows.proofs.LetThrough.{point-fits}
 use Rattle.record_formulas.proofs.formulas.new_wide.Statement.{statement}
 use Rattle.record_formulas.proofs.formulas.new_wide.Tie as tie
 
-cast-head : tie.Need-cast-head
-cast-head c = search needs
-
-head-requires : tie.Need-head-requires
-head-requires c κs = search needs
-
 update-dual-grad-h-requires : tie.Need-update-dual-grad-h-requires
 update-dual-grad-h-requires c κs =
     let start = c .before .before .before .before .before in
     point-fits _ (start .args .t1 .dim2) _ (start .args .z .now) (start .pre) (search needs) (c .head .ensures)
-
-wide-of-requires : tie.Need-wide-of-requires
-wide-of-requires c κs = search needs
-
-wide-at-requires : tie.Need-wide-at-requires
-wide-at-requires c κs = search needs
-
-no-three-requires : tie.Need-no-three-requires
-no-three-requires c κs = search needs
-
-attempted-requires : tie.Need-attempted-requires
-attempted-requires c κs = search needs
 
 returns : tie.Need-returns
 unfolding newWide
@@ -40,11 +22,7 @@ pub new-wide-spec : {M : Type 1} → statement M
 new-wide-spec =
     tie.close
     (tie.spec
-    cast-head
-    head-requires
+    (λ c. search needs) (λ c κs. search needs)
     update-dual-grad-h-requires
-    wide-of-requires
-    wide-at-requires
-    no-three-requires
-    attempted-requires
+    (λ c κs. search needs) (λ c κs. search needs) (λ c κs. search needs) (λ c κs. search needs)
     returns)

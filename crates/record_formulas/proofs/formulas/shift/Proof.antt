@@ -5,18 +5,9 @@ use borrow.Author.Needs.{needs}
 use Rattle.record_formulas.proofs.formulas.shift.Statement.{statement}
 use Rattle.record_formulas.proofs.formulas.shift.Tie as tie
 
-element-copy-out-combined-ds-shift : tie.Need-element-copy-out-combined-ds-shift
-element-copy-out-combined-ds-shift c = search needs
-
-combined-ds-shift-requires : tie.Need-combined-ds-shift-requires
-combined-ds-shift-requires c κs = search needs
-
 returns : tie.Need-returns
 unfolding shiftOf
 returns c = simp (eq-eqb _ _ (c .before .before .before .if1 .taken)) (c .combined-ds-shift .ensures)
-
-combined-ds-shift-requires-2 : tie.Need-combined-ds-shift-requires-2
-combined-ds-shift-requires-2 c κs = search needs
 
 returns-2 : tie.Need-returns-2
 unfolding shiftOf
@@ -26,8 +17,7 @@ pub shift-spec : {M : Type 1} → statement M
 shift-spec =
     tie.close
     (tie.spec
-    element-copy-out-combined-ds-shift
-    combined-ds-shift-requires
+    (λ c. search needs) (λ c κs. search needs)
     returns
-    combined-ds-shift-requires-2
+    (λ c κs. search needs)
     returns-2)

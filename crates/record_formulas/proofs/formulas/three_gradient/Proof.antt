@@ -5,20 +5,11 @@ use borrow.Author.Needs.{needs}
 use Rattle.record_formulas.proofs.formulas.three_gradient.Statement.{statement}
 use Rattle.record_formulas.proofs.formulas.three_gradient.Tie as tie
 
-element-copy-out-gradient-primal : tie.Need-element-copy-out-gradient-primal
-element-copy-out-gradient-primal c = search needs
-
-gradient-primal-requires : tie.Need-gradient-primal-requires
-gradient-primal-requires c κs = search needs
-
 returns : tie.Need-returns
 unfolding threeGradient
 returns c =
     let let-through = c .before .before .before in
     simp (eq-eqb _ _ (let-through .if1 .taken), c .before .gradient-primal .ensures)
-
-gradient-primal-requires-2 : tie.Need-gradient-primal-requires-2
-gradient-primal-requires-2 c κs = search needs
 
 returns-2 : tie.Need-returns-2
 unfolding threeGradient
@@ -28,8 +19,7 @@ pub three-gradient-spec : {M : Type 1} → statement M
 three-gradient-spec =
     tie.close
     (tie.spec
-    element-copy-out-gradient-primal
-    gradient-primal-requires
+    (λ c. search needs) (λ c κs. search needs)
     returns
-    gradient-primal-requires-2
+    (λ c κs. search needs)
     returns-2)

@@ -5,12 +5,6 @@ use borrow.Author.Needs.{needs}
 use Rattle.record_formulas.proofs.formulas.wide_barrier.Statement.{statement}
 use Rattle.record_formulas.proofs.formulas.wide_barrier.Tie as tie
 
-head-requires : tie.Need-head-requires
-head-requires c κs = search needs
-
-head-requires-2 : tie.Need-head-requires-2
-head-requires-2 c κs = search needs
-
 barrier-primal-requires : tie.Need-barrier-primal-requires
 barrier-primal-requires c κs =
     let start = c .before .before .before .before .before in
@@ -21,4 +15,4 @@ unfolding wideBarrier
 returns c = simp (← c .before .before .head .ensures, ← c .before .head2 .ensures) (c .barrier-primal .ensures)
 
 pub wide-barrier-spec : {M : Type 1} → statement M
-wide-barrier-spec = tie.close (tie.spec head-requires head-requires-2 barrier-primal-requires returns)
+wide-barrier-spec = tie.close (tie.spec (λ c κs. search needs) (λ c κs. search needs) barrier-primal-requires returns)

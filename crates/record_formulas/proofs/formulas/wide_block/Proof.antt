@@ -5,9 +5,6 @@ use borrow.Author.Needs.{needs}
 use Rattle.record_formulas.proofs.formulas.wide_block.Statement.{statement}
 use Rattle.record_formulas.proofs.formulas.wide_block.Tie as tie
 
-head-requires : tie.Need-head-requires
-head-requires c κs = search needs
-
 get-hs-requires : tie.Need-get-hs-requires
 get-hs-requires c κs = part-fits _ _ _ (c .before .before .pre .0) (c .before .before .pre .1) (c .head .ensures)
 
@@ -16,4 +13,4 @@ unfolding wideBlock
 returns c = simp (← c .before .head .ensures) (c .get-hs .ensures)
 
 pub wide-block-spec : {M : Type 1} → statement M
-wide-block-spec = tie.close (tie.spec head-requires get-hs-requires returns)
+wide-block-spec = tie.close (tie.spec (λ c κs. search needs) get-hs-requires returns)

@@ -5,12 +5,6 @@ use borrow.Author.Needs.{needs}
 use Rattle.record_formulas.proofs.formulas.wide_combined.Statement.{statement}
 use Rattle.record_formulas.proofs.formulas.wide_combined.Tie as tie
 
-head-requires : tie.Need-head-requires
-head-requires c κs = search needs
-
-head-requires-2 : tie.Need-head-requires-2
-head-requires-2 c κs = search needs
-
 compute-barrier-requires : tie.Need-compute-barrier-requires
 compute-barrier-requires c κs =
     let start = c .before .before .before .before .before .before .before .before in
@@ -21,4 +15,4 @@ unfolding wideCombined
 returns c = simp (← c .before .before .head .ensures, ← c .before .head2 .ensures) (c .compute-barrier .ensures)
 
 pub wide-combined-spec : {M : Type 1} → statement M
-wide-combined-spec = tie.close (tie.spec head-requires head-requires-2 compute-barrier-requires returns)
+wide-combined-spec = tie.close (tie.spec (λ c κs. search needs) (λ c κs. search needs) compute-barrier-requires returns)

@@ -5,12 +5,6 @@ use borrow.Author.Needs.{needs}
 use Rattle.record_formulas.proofs.formulas.wide_gradient.Statement.{statement}
 use Rattle.record_formulas.proofs.formulas.wide_gradient.Tie as tie
 
-head-requires : tie.Need-head-requires
-head-requires c κs = search needs
-
-head-requires-2 : tie.Need-head-requires-2
-head-requires-2 c κs = search needs
-
 gradient-primal-requires : tie.Need-gradient-primal-requires
 gradient-primal-requires c κs =
     let start = c .before .before .before .before .before in
@@ -21,4 +15,4 @@ unfolding wideGradient
 returns c = simp (← c .before .before .head .ensures, ← c .before .head2 .ensures) (c .gradient-primal .ensures)
 
 pub wide-gradient-spec : {M : Type 1} → statement M
-wide-gradient-spec = tie.close (tie.spec head-requires head-requires-2 gradient-primal-requires returns)
+wide-gradient-spec = tie.close (tie.spec (λ c κs. search needs) (λ c κs. search needs) gradient-primal-requires returns)

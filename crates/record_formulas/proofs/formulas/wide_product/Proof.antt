@@ -4,15 +4,9 @@ use borrow.Author.Needs.{needs}
 use Rattle.record_formulas.proofs.formulas.wide_product.Statement.{statement}
 use Rattle.record_formulas.proofs.formulas.wide_product.Tie as tie
 
-cast-dim1 : tie.Need-cast-dim1
-cast-dim1 c = search needs
-
-mul-hs-requires : tie.Need-mul-hs-requires
-mul-hs-requires c κs = search needs
-
 returns : tie.Need-returns
 unfolding wideProduct
 returns c = c .mul-hs .ensures
 
 pub wide-product-spec : {M : Type 1} → statement M
-wide-product-spec = tie.close (tie.spec cast-dim1 mul-hs-requires returns)
+wide-product-spec = tie.close (tie.spec (λ c. search needs) (λ c κs. search needs) returns)

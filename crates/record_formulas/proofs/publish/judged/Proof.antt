@@ -8,12 +8,9 @@ returns : tie.Need-returns
 unfolding judgedOf
 returns c = simp (c .if1 .taken)
 
-finished-requires : tie.Need-finished-requires
-finished-requires c κs = search needs
-
 returns-2 : tie.Need-returns-2
 unfolding judgedOf
 returns-2 c = simp (c .before .if1 .left) (c .finished .ensures)
 
 pub judged-spec : {M : Type 1} → statement M
-judged-spec = tie.close (tie.spec returns finished-requires returns-2)
+judged-spec = tie.close (tie.spec returns (λ c κs. search needs) returns-2)

@@ -6,14 +6,8 @@ use borrow.Author.Needs.{needs}
 use Rattle.record_formulas.proofs.publish.publish_wide.Statement.{statement}
 use Rattle.record_formulas.proofs.publish.publish_wide.Tie as tie
 
-head-requires : tie.Need-head-requires
-head-requires c κs = search needs
-
 publish-requires : tie.Need-publish-requires
 publish-requires c κs = cut _ _ _ (c .before .before .before .before .pre) refl (c .head .ensures)
-
-same-length : tie.Need-same-length
-same-length c = search needs
 
 returns : tie.Need-returns
 returns c =
@@ -23,4 +17,4 @@ returns c =
     published .publish .ensures ∙ ap (publishOf (start .args .out .now)) (at-head .head .ensures)
 
 pub publish-wide-spec : {M : Type 1} → statement M
-publish-wide-spec = tie.close (tie.spec head-requires publish-requires same-length returns)
+publish-wide-spec = tie.close (tie.spec (λ c κs. search needs) publish-requires (λ c. search needs) returns)

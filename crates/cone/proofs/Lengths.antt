@@ -10,9 +10,11 @@ use lib.ListN.{length, take, length-take}
 use lib.Seq.{length-take-le}
 use borrow.Author.Tests.{leb-true, eqb-true, eq-eqb, ne-eqb, not-false}
 use Rattle.arith.proofs.Branches.{and-left, and-right, or-left, or-right}
+use Rattle.double.specs.Operators.{at}
 use Rattle.double.specs.Numbers.{#tolerance}
 use Rattle.cone.specs.declared.Cone.{Cone}
-use Rattle.cone.specs.Judges.{allOf, exponentOk, sumOk, wideOk, coneOk, numelOf, blockOf}
+use Rattle.cone.specs.declared.Scaling.{Scaling}
+use Rattle.cone.specs.Judges.{allOf, exponentOk, sumOk, wideOk, threeOk, coneOk, numelOf, blockOf, recordFinite, threeFinite, wideFinite}
 use Rattle.cone.specs.Refusals.{badCone}
 use Rattle.cone.specs.Calls.{WideCall}
 
@@ -54,9 +56,28 @@ module _ (n m : ℕ) (e : List Float) (h : wideOk n m e ≡ true) where
   pub dim2-at-most : m ≤ 32
   dim2-at-most = leb-true m 32 (and-right ((leb 1 n && leb n 32) && leb 1 m) (leb m 32) dims)
 
-pub wide-passes : (c : Cone) → coneOk c ≡ true → c .kind ≡ 3 → wideOk (c .dim1) (c .dim2) (c .exps) ≡ true
-unfolding coneOk
-wide-passes c h e = simp e at h
+-- ---- what is judged, by kind
+
+module _ (c : Cone) where
+  pub cone-wide : c .kind ≡ 3 → coneOk c ≡ wideOk (c .dim1) (c .dim2) (c .exps)
+  unfolding coneOk
+  cone-wide e = simp (eq-eqb _ _ e)
+
+  pub cone-3D : (c .kind ≡ 3 → ⊥) → coneOk c ≡ threeOk (c .kind) (at (c .exps) 0)
+  unfolding coneOk
+  cone-3D e = simp (ne-eqb _ _ e)
+
+  pub wide-passes : coneOk c ≡ true → c .kind ≡ 3 → wideOk (c .dim1) (c .dim2) (c .exps) ≡ true
+  wide-passes h e = sym (cone-wide e) ∙ h
+
+module _ (s : Scaling) where
+  pub record-wide : s .cone .kind ≡ 3 → recordFinite s ≡ wideFinite (s .wide) (s .cone .dim1) (s .cone .dim2)
+  unfolding recordFinite
+  record-wide e = simp (eq-eqb _ _ e)
+
+  pub record-3D : (s .cone .kind ≡ 3 → ⊥) → recordFinite s ≡ threeFinite (s .three)
+  unfolding recordFinite
+  record-3D e = simp (ne-eqb _ _ e)
 
 -- ---- numel and block_len by kind
 

@@ -1,11 +1,12 @@
 -- A call that leaves with its rows' number is refused with it, one whose rows give 0 goes on, and then no row applied. Assumes nothing.
 use mathlib.Core.Path.{_≡_, refl, sym, _∙_, ap, subst}
-use mathlib.Core.Bool.{Bool, true, false}
+use mathlib.Core.Bool.{Bool, true, false, cond}
 use mathlib.Core.List.{List}
 use Prim.Native.Nat.{ℕ, zero, suc, _<_}
 use native.Mathlib.Omega.{arith}
 use lib.Ieee.{Float}
-use Rattle.cone.specs.Refusals.{row, settle}
+use Rattle.cone.specs.declared.refusal.Faults.{Faults}
+use Rattle.cone.specs.Refusals.{firstRow, settle}
 
 pub refused : {A : Type 0} (k r : ℕ) (d : A) (f : ℕ → A) → r ≡ k → (r ≡ 0 → ⊥) → f r ≡ settle k d f
 unfolding settle
@@ -16,25 +17,25 @@ pub done : {A : Type 0} (k r : ℕ) (d : A) (f : ℕ → A) → r ≡ k → r �
 unfolding settle
 done k r d f e z = subst (λ (n : ℕ). d ≡ settle n d f) (sym z ∙ e) refl
 
--- the row did not apply
-pub row-off : (bad : Bool) (number rest : ℕ) → 0 < number → row bad number rest ≡ 0 → bad ≡ false
-unfolding row
+-- where the table gives 0, no row applied
+pub record NoFault (f : Faults) : Type 0 where
+  pub cone : f .cone ≡ false
+  pub length : f .length ≡ false
+  pub number : f .number ≡ false
+  pub setting : f .setting ≡ false
+  pub unscaled : f .unscaled ≡ false
+
+-- a row of the table that gives 0 did not apply, nor did those below it
+row-off : (bad : Bool) (number rest : ℕ) → 0 < number → cond bad number rest ≡ 0 → (bad ≡ false) × (rest ≡ 0)
 row-off true number rest h e = absurd (omega arith)
-row-off false number rest h e = refl
+row-off false number rest h e = (refl, e)
 
--- nor did those below it
-pub rows-below : (bad : Bool) (number rest : ℕ) → 0 < number → row bad number rest ≡ 0 → rest ≡ 0
-unfolding row
-rows-below true number rest h e = absurd (omega arith)
-rows-below false number rest h e = e
-
--- rows 1 and 2, with which every entry begins
-module _ (bad₁ bad₂ : Bool) (rest : ℕ) (e : row bad₁ 1 (row bad₂ 2 rest) ≡ 0) where
-  pub row-1-off : bad₁ ≡ false
-  row-1-off = row-off bad₁ 1 _ (omega arith) e
-
-  pub row-2-off : bad₂ ≡ false
-  row-2-off = row-off bad₂ 2 rest (omega arith) (rows-below bad₁ 1 _ (omega arith) e)
-
-  pub rows-3-off : rest ≡ 0
-  rows-3-off = rows-below bad₂ 2 rest (omega arith) (rows-below bad₁ 1 _ (omega arith) e)
+pub no-fault : (f : Faults) → firstRow f ≡ 0 → NoFault f
+unfolding firstRow
+no-fault f e₁ =
+    let below₁ = row-off (f .cone) 1 _ (omega arith) e₁ in
+    let below₂ = row-off (f .length) 2 _ (omega arith) (below₁ .1) in
+    let below₃ = row-off (f .number) 3 _ (omega arith) (below₂ .1) in
+    let below₄ = row-off (f .setting) 4 _ (omega arith) (below₃ .1) in
+    let below₅ = row-off (f .unscaled) 5 0 (omega arith) (below₄ .1) in
+    record { cone = below₁ .0; length = below₂ .0; number = below₃ .0; setting = below₄ .0; unscaled = below₅ .0 }

@@ -42,9 +42,13 @@ sumOk α tolerance = sumOf α ⊖ #1 ≼ tolerance && neg tolerance ≼ sumOf α
 unfoldable pub wideOk : ℕ → ℕ → List Float → Bool
 wideOk dim1 dim2 exps = leb 1 dim1 && leb dim1 32 && leb 1 dim2 && leb dim2 32 && allOf exponentOk (take dim1 exps) && sumOk (take dim1 exps) #tolerance
 
--- 01: "bad cone: kind is not 1 (exponential), 2 (power), 3 (generalized)"
+-- 01: "bad cone: kind is not 1 (exponential), 2 (power), 3 (generalized)". Of the kinds other than 3, which use at most one exponent
+unfoldable pub threeOk : ℕ → Float → Bool
+threeOk kind α = cond (eqb kind 1) true (cond (eqb kind 2) (powerOk α) false)
+
+-- and of all
 unfoldable pub coneOk : Cone → Bool
-coneOk c = byKind (c .kind) true (powerOk (at (c .exps) 0)) (wideOk (c .dim1) (c .dim2) (c .exps)) false
+coneOk c = cond (eqb (c .kind) 3) (wideOk (c .dim1) (c .dim2) (c .exps)) (threeOk (c .kind) (at (c .exps) 0))
 
 -- ---- number 2: lengths. 01: "(3, 6 for a packed block, or dim1+dim2)"
 
@@ -86,5 +90,11 @@ abbrev pub settingsOk : Settings → Bool
 settingsOk s = #0 ≺ s .start && #0 ≺ s .step && s .step ≼ #largestStep && #smallestNormal ≼ s .smallest
 
 -- 01: "strategy code neither 1 (dual) nor 2 (primal-dual)"
+abbrev pub dual : ℕ
+dual = 1
+
+abbrev pub primalDual : ℕ
+primalDual = 2
+
 abbrev pub strategyOk : ℕ → Bool
-strategyOk k = eqb k 1 || eqb k 2
+strategyOk k = eqb k dual || eqb k primalDual

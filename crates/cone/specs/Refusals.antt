@@ -12,12 +12,19 @@ use Rattle.cone.specs.declared.Settings.{Settings}
 use Rattle.cone.specs.declared.Scaling.{Scaling}
 use Rattle.cone.specs.declared.Number.{Number}
 use Rattle.cone.specs.declared.Attempt.{Attempt}
+use Rattle.cone.specs.declared.refusal.Faults.{Faults}
 use Rattle.cone.specs.Judges.{coneOk, allFinite, recordFinite, settingsFinite, settingsOk, strategyOk}
 
--- 01: "Only the first in this order is given." A row gives its number where it applies, and else what the rows below it give.
--- An entry's rows end in 0, "done".
-unfoldable pub row : Bool → ℕ → ℕ → ℕ
-row bad number rest = cond bad number rest
+-- 01: "Only the first in this order is given." The order of the table, for what can be wrong with a call's arguments; 0 is "done".
+-- 6 and 7 are given on the way to an answer, below.
+unfoldable pub firstRow : Faults → ℕ
+firstRow f =
+    cond (f .cone) 1
+    (cond (f .length) 2
+    (cond (f .number) 3
+    (cond (f .setting) 4
+    (cond (f .unscaled) 5
+    0))))
 
 -- ---- the rows' tests
 
@@ -81,7 +88,7 @@ refuseNumber k = record { code = k; value = #0 }
 
 -- 01: "In an update, 7 looks at all new record numbers"
 unfoldable pub lastRows : Attempt → ℕ
-lastRows a = row (a .panics) 6 (row (not (recordFinite (a .scaling))) 7 0)
+lastRows a = cond (a .panics) 6 (cond (recordFinite (a .scaling)) 0 7)
 
 unfoldable pub publishOf : List Float → List Float → Lent ℕ
 publishOf old ans = cond (allFinite ans) (record { answer = 0; slice = ans }) (refuse old 7)

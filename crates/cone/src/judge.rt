@@ -2,12 +2,13 @@
 ghost use mathlib.Core.Path.{_≡_};
 ghost use lib.ListN.{take};
 ghost use lib.Ieee.Scale.{finite};
-ghost use Rattle.cone.specs.Judges.{allOf, powerOk, exponentOk, sumOk, wideOk, coneOk, numelOf, blockOf, settingsOk, settingsFinite, strategyOk, threeFinite, wideFinite, recordFinite};
+ghost use Rattle.cone.specs.Judges.{allOf, powerOk, exponentOk, sumOk, wideOk, threeOk, coneOk, numelOf, blockOf, settingsOk, settingsFinite, strategyOk, threeFinite, wideFinite, recordFinite};
 use crate::Cone;
+use crate::DUAL;
+use crate::PRIMAL_DUAL;
 use crate::Scaling;
 use crate::Settings;
 use crate::Three;
-use crate::Wide;
 use algebra::vector::head;
 use algebra::vector::sum;
 use double::is_finite;
@@ -65,7 +66,7 @@ fn sum_ok(xs: &[f64], tolerance: f64) -> bool
     (d <= tolerance) & (-tolerance <= d)
 }
 
-fn wide_ok(dim1: u32, dim2: u32, exps: &[f64]) -> bool
+pub fn wide_ok(dim1: u32, dim2: u32, exps: &[f64]) -> bool
     ensures { λ r. ⌜ r ≡ wideOk dim1 dim2 (now (exps .entry)) ⌝ }
 {
     let used = head(exps, dim1 as usize);
@@ -77,16 +78,25 @@ fn wide_ok(dim1: u32, dim2: u32, exps: &[f64]) -> bool
         & sum_ok(used, TOLERANCE)
 }
 
+// A cone whose kind is not 3.
+pub fn three_ok(kind: u32, alpha: f64) -> bool
+    ensures { λ r. ⌜ r ≡ threeOk kind alpha ⌝ }
+{
+    match kind {
+        1 => true,
+        2 => power_ok(alpha),
+        _ => false,
+    }
+}
+
 pub fn cone_ok(cone: Cone) -> bool
     ensures { λ r. ⌜ r ≡ coneOk cone ⌝ }
 {
     let kind = cone.kind;
-    match kind {
-        1 => true,
-        2 => power_ok(cone.exps[0]),
-        3 => wide_ok(cone.dim1, cone.dim2, &cone.exps),
-        _ => false,
+    if kind == 3 {
+        return wide_ok(cone.dim1, cone.dim2, &cone.exps);
     }
+    three_ok(kind, cone.exps[0])
 }
 
 // ---- lengths
@@ -130,7 +140,7 @@ pub fn settings_ok(s: Settings) -> bool
 pub fn strategy_ok(strategy: u32) -> bool
     ensures { λ r. ⌜ r ≡ strategyOk strategy ⌝ }
 {
-    (strategy == 1) | (strategy == 2)
+    (strategy == DUAL) | (strategy == PRIMAL_DUAL)
 }
 
 pub fn three_finite(t: Three) -> bool
@@ -139,19 +149,31 @@ pub fn three_finite(t: Three) -> bool
     all_finite(&t.z) & all_finite(&t.grad) & all_finite(&t.hdual) & all_finite(&t.hs)
 }
 
-pub fn wide_finite(w: Wide, dim1: u32, dim2: u32) -> bool
-    ensures { λ r. ⌜ r ≡ wideFinite w dim1 dim2 ⌝ }
+// The numbers are lent one by one, so that no record is copied to be judged.
+pub fn wide_finite<'a>(
+    z: &'a [f64; 64],
+    mu: f64,
+    grad: &'a [f64; 64],
+    p: &'a [f64; 64],
+    q: &'a [f64; 32],
+    r: &'a [f64; 32],
+    d1: &'a [f64; 32],
+    d2: f64,
+    dim1: u32,
+    dim2: u32,
+) -> bool
+    ensures { λ yes. ⌜ yes ≡ wideFinite (record { z = now (z .entry); mu = mu; grad = now (grad .entry); p = now (p .entry); q = now (q .entry); r = now (r .entry); d1 = now (d1 .entry); d2 = d2 }) dim1 dim2 ⌝ }
 {
     let n1 = dim1 as usize;
     let n2 = dim2 as usize;
-    head_finite(&w.z, n1 + n2)
-        & is_finite(w.mu)
-        & head_finite(&w.grad, n1 + n2)
-        & head_finite(&w.p, n1 + n2)
-        & head_finite(&w.q, n1)
-        & head_finite(&w.r, n2)
-        & head_finite(&w.d1, n1)
-        & is_finite(w.d2)
+    head_finite(z, n1 + n2)
+        & is_finite(mu)
+        & head_finite(grad, n1 + n2)
+        & head_finite(p, n1 + n2)
+        & head_finite(q, n1)
+        & head_finite(r, n2)
+        & head_finite(d1, n1)
+        & is_finite(d2)
 }
 
 pub fn record_finite(scaling: Scaling) -> bool
@@ -159,7 +181,18 @@ pub fn record_finite(scaling: Scaling) -> bool
 {
     let kind = scaling.cone.kind;
     if kind == 3 {
-        return wide_finite(scaling.wide, scaling.cone.dim1, scaling.cone.dim2);
+        return wide_finite(
+            &scaling.wide.z,
+            scaling.wide.mu,
+            &scaling.wide.grad,
+            &scaling.wide.p,
+            &scaling.wide.q,
+            &scaling.wide.r,
+            &scaling.wide.d1,
+            scaling.wide.d2,
+            scaling.cone.dim1,
+            scaling.cone.dim2,
+        );
     }
     three_finite(scaling.three)
 }

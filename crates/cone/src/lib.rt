@@ -2,7 +2,7 @@
 ghost use mathlib.Core.Path.{_≡_};
 ghost use Prim.Native.Nat.{_≤_};
 ghost use lib.ListN.{length};
-ghost use Rattle.cone.specs.Fresh.{freshOf, emptyCone, noThree, noWide, attemptOf, houseSettings};
+ghost use Rattle.cone.specs.Fresh.{freshOf, emptyCone, noThree, noWide, attemptOf, houseSettings, houseStrategy};
 ghost use Rattle.cone.specs.Points.{threeOf, wideOf};
 ghost use Rattle.double.specs.Operators.{at};
 use double::nan;
@@ -113,12 +113,10 @@ pub struct Attempt {
     pub scaling: Scaling,
 }
 
-// The scaling strategies, and the one that the house takes.
+// The scaling strategies.
 pub const DUAL: u32 = 1;
 
 pub const PRIMAL_DUAL: u32 = 2;
-
-pub const HOUSE_STRATEGY: u32 = PRIMAL_DUAL;
 
 // The cone of a refused `fresh`.
 pub fn empty_cone() -> Cone
@@ -194,6 +192,13 @@ pub fn house_settings(start: f64) -> Settings
         step: 0.8,
         smallest: 0.0001,
     }
+}
+
+// The strategy of callers who name none.
+pub fn house_strategy() -> u32
+    ensures { λ r. ⌜ r ≡ houseStrategy ⌝ }
+{
+    PRIMAL_DUAL
 }
 
 // Place i of a slice. Behind the end, where no formula reads, there is no number.

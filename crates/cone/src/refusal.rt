@@ -2,18 +2,43 @@
 // and lends them to `publish`, which judges row 7 and only then writes.
 ghost use mathlib.Core.Path.{_≡_};
 ghost use lib.ListN.{length};
-ghost use Rattle.cone.specs.Refusals.{row, Lent, LentTwo, publishOf, publishTwoOf, numberOf, lastRows};
+ghost use Rattle.cone.specs.Refusals.{firstRow, Lent, LentTwo, publishOf, publishTwoOf, numberOf, lastRows};
 use crate::Attempt;
 use crate::Number;
 use crate::judge::all_finite;
 use crate::judge::record_finite;
 use double::is_finite;
 
-// A row of the table: its number where it applies, and else what the rows below it give.
-pub fn row(bad: bool, number: u32, rest: u32) -> u32
-    ensures { λ r. ⌜ r ≡ row bad number rest ⌝ }
+// What is wrong with a call's arguments, a row of the table each: the cone, a slice's length, a number, the settings or the strategy, a
+// record that was never scaled.
+pub struct Faults {
+    pub cone: bool,
+    pub length: bool,
+    pub number: bool,
+    pub setting: bool,
+    pub unscaled: bool,
+}
+
+// The table: the number of the first row that applies, and 0 where none does.
+pub fn first_row(faults: Faults) -> u32
+    ensures { λ r. ⌜ r ≡ firstRow faults ⌝ }
 {
-    if bad { number } else { rest }
+    if faults.cone {
+        return 1;
+    }
+    if faults.length {
+        return 2;
+    }
+    if faults.number {
+        return 3;
+    }
+    if faults.setting {
+        return 4;
+    }
+    if faults.unscaled {
+        return 5;
+    }
+    0
 }
 
 // The lent slice becomes the answer, which is as long.
@@ -68,6 +93,11 @@ pub fn finished(value: f64) -> Number
 pub fn last_rows(a: Attempt) -> u32
     ensures { λ r. ⌜ r ≡ lastRows a ⌝ }
 {
-    let scaling = a.scaling;
-    row(a.panics, 6, row(!record_finite(scaling), 7, 0))
+    if a.panics {
+        return 6;
+    }
+    if record_finite(a.scaling) {
+        return 0;
+    }
+    7
 }

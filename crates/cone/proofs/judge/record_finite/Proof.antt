@@ -7,11 +7,13 @@ use Rattle.cone.proofs.judge.record_finite.Tie as tie
 
 returns : tie.Need-returns
 unfolding recordFinite
-returns c = simp (eq-eqb _ _ (c .before .if1 .taken)) (c .wide-finite .ensures)
+returns c =
+    let lent = c .before .before .before .before .before .before in
+    simp (eq-eqb _ _ (lent .before .before .if1 .taken)) (c .wide-finite .ensures)
 
 returns-2 : tie.Need-returns-2
 unfolding recordFinite
-returns-2 c = simp (ne-eqb _ _ (c .before .if1 .left)) (c .three-finite .ensures)
+returns-2 c = simp (ne-eqb _ _ (c .before .before .if1 .left)) (c .three-finite .ensures)
 
 pub record-finite-spec : {M : Type 1} → statement M
 record-finite-spec =

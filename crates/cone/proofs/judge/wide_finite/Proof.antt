@@ -1,4 +1,6 @@
 -- `wide_finite` joins the judgements of its eight parts. Assumes nothing.
+use mathlib.Core.Path.{_≡_, _∙_, ap}
+use mathlib.Core.Bool.{Bool, _&&_}
 use Rattle.cone.specs.Judges.{wideFinite}
 use borrow.Author.Needs.{needs}
 use Rattle.cone.proofs.judge.wide_finite.Statement.{statement}
@@ -9,35 +11,32 @@ abbrev at-d1 : tie.After-is-finite2 → tie.After-head-finite6
 at-d1 c = c .before
 
 abbrev at-r : tie.After-is-finite2 → tie.After-head-finite5
-at-r c = at-d1 c .before .before .before .before
+at-r c = at-d1 c .before .before
 
 abbrev at-q : tie.After-is-finite2 → tie.After-head-finite4
-at-q c = at-r c .before .before .before .before
+at-q c = at-r c .before .before
 
 abbrev at-p : tie.After-is-finite2 → tie.After-head-finite3
-at-p c = at-q c .before .before .before .before
+at-p c = at-q c .before .before
 
 abbrev at-grad : tie.After-is-finite2 → tie.After-head-finite2
-at-grad c = at-p c .before .before .before .before
+at-grad c = at-p c .before .before
 
 abbrev at-mu : tie.After-is-finite2 → tie.After-is-finite
-at-mu c = at-grad c .before .before .before .before
+at-mu c = at-grad c .before .before
 
 abbrev at-z : tie.After-is-finite2 → tie.After-head-finite
 at-z c = at-mu c .before
 
+both : {a b c d : Bool} → a ≡ b → c ≡ d → (a && c) ≡ (b && d)
+both {b = b} {c = c} e f = ap (λ (t : Bool). t && c) e ∙ ap (λ (t : Bool). b && t) f
+
 returns : tie.Need-returns
 unfolding wideFinite
-returns c = simp (
-  at-z c .head-finite .ensures,
-  at-mu c .is-finite .ensures,
-  at-grad c .head-finite2 .ensures,
-  at-p c .head-finite3 .ensures,
-  at-q c .head-finite4 .ensures,
-  at-r c .head-finite5 .ensures,
-  at-d1 c .head-finite6 .ensures,
-  c .is-finite2 .ensures,
-)
+returns c =
+    let front = both (both (at-z c .head-finite .ensures) (at-mu c .is-finite .ensures)) (at-grad c .head-finite2 .ensures) in
+    let middle = both (both front (at-p c .head-finite3 .ensures)) (at-q c .head-finite4 .ensures) in
+    both (both (both middle (at-r c .head-finite5 .ensures)) (at-d1 c .head-finite6 .ensures)) (c .is-finite2 .ensures)
 
 pub wide-finite-spec : {M : Type 1} → statement M
 wide-finite-spec =

@@ -1,0 +1,4 @@
+pub mod Passes
+pub mod Three
+pub mod Wide
+pub mod Cones

@@ -14,7 +14,8 @@ moved-length [] a dx = sym (zero-min (length dx))
 moved-length (x ∷ xs) a [] = sym (min-zero (suc (length xs)))
 moved-length (x ∷ xs) a (d ∷ dx) = ap suc (moved-length xs a dx) ∙ sym (suc-min-suc (length xs) (length dx))
 
-pub moved-place : (x : List Float) (a : Float) (dx : List Float) (i : ℕ) → i < length x → i < length dx → at (movedOf x a dx) i ≡ at x i ⊕ a ⊗ at dx i
+pub moved-place :
+    (x : List Float) (a : Float) (dx : List Float) (i : ℕ) → i < length x → i < length dx → at (movedOf x a dx) i ≡ at x i ⊕ a ⊗ at dx i
 unfolding movedOf
 moved-place [] a dx i h l = absurd (not-suc-le-zero h)
 moved-place (x ∷ xs) a [] i h l = absurd (not-suc-le-zero l)

@@ -3,7 +3,7 @@ use Prim.Native.Nat.{ℕ, min}
 use mathlib.Core.Bool.{cond}
 use mathlib.Core.List.{List, [], _∷_}
 use lib.IntN.{pos}
-use lib.ListN.{length, set}
+use lib.ListN.{length}
 use lib.Ieee.{Float, binary64, eq, ofInt}
 use Rattle.arith.specs.Turns.{iter}
 use Rattle.double.specs.Operators.{_⊕_, _⊖_, _⊗_, _⊘_, at}
@@ -36,13 +36,6 @@ normOf xs = sqrtOf (sumsqOf xs)
 -- 01: "mean is sum/n"
 unfoldable pub meanOf : List Float → Float
 meanOf xs = sumOf xs ⊘ ofInt binary64 (pos (length xs))
-
--- 01: "axpby is a·x + b·y with each product and the sum rounded". Place by place, over the shorter list
-abbrev pub axpbyTurn : Float → List Float → Float → ℕ → List Float → List Float
-axpbyTurn a x b i y = set y i (a ⊗ at x i ⊕ b ⊗ at y i)
-
-unfoldable pub axpbyOf : Float → List Float → Float → List Float → List Float
-axpbyOf a x b y = iter (axpbyTurn a x b) y (min (length x) (length y))
 
 -- 000 and 001 compute_barrier, cur_z and cur_s; 003 waxpby with the factor 1: x + a·dx, place by place, over the shorter list
 unfoldable pub movedOf : List Float → Float → List Float → List Float

@@ -3,7 +3,7 @@
 ghost use mathlib.Core.Path.{_≡_};
 ghost use Prim.Native.Nat.{min};
 ghost use lib.ListN.{take, drop};
-ghost use Rattle.algebra.specs.Vectors.{dotOf, sumOf, sumsqOf, normOf, meanOf, axpbyOf, movedOf, shiftOf, normalizeOf};
+ghost use Rattle.algebra.specs.Vectors.{dotOf, sumOf, sumsqOf, normOf, meanOf, movedOf, shiftOf, normalizeOf};
 use kernels::sqrt;
 
 // The first n numbers, or all where there are fewer. A range of the Rust that can leave the slice would panic; this one has no bounds for a caller to prove.
@@ -70,16 +70,6 @@ pub fn mean(xs: &[f64]) -> f64
     ensures { λ r. ⌜ r ≡ meanOf (now (xs .entry)) ⌝ }
 {
     sum(xs) / std::num::nearest_u64_to_f64(xs.len() as u64)
-}
-
-// y becomes a*x + b*y, over the shorter of the two; what of y is longer stays.
-pub fn axpby(y: &mut [f64], a: f64, x: &[f64], b: f64)
-    ensures { λ _. ⌜ now (y .exit) ≡ axpbyOf a (now (x .entry)) b (now (y .entry)) ⌝ }
-{
-    let n = shorter(x.len(), y.len());
-    for i in 0..n {
-        y[i] = a * x[i] + b * y[i];
-    }
 }
 
 // ---- three numbers by value

@@ -2,7 +2,8 @@
 -- Not here: powers of 2 (lib.Pow), orders of powers (native.Mathlib.Nat). Assumes nothing.
 use mathlib.Core.Path.{_≡_, ap, _∙_}
 use Prim.Native.Nat.{ℕ, zero, suc, _+_, _*_, _^_, _≤_}
-use native.Mathlib.Nat.{pow-zero, pow-suc, one-mul, mul-assoc, mul-le-mul-left, mul-le-mul-right, pow-le-pow-left, le-add-right, add-suc, suc-add}
+use native.Mathlib.Nat.{pow-zero, pow-suc, one-mul, mul-assoc, mul-le-mul-left, mul-le-mul-right, pow-le-pow-left, le-add-right, add-suc}
+use native.Mathlib.Nat.{suc-add}
 use native.Mathlib.Omega.{arith}
 
 pub pow-one : (p : ℕ) → p ^ 1 ≡ p

@@ -1,17 +1,21 @@
--- Whole quotients and remainders. In order: long division digit by digit; quotients rounded up; a multiple less a number; fractions compared by their whole parts in units of 1/u.
+-- Whole quotients and remainders. In order: long division digit by digit; quotients rounded up; a multiple less a number; fractions compared by their
+-- whole parts in units of 1/u.
 -- Not here: a quotient of a sum of a multiple and a rest (lib.Arith), the laws of _/_ and _%_ (native.Mathlib.Nat). Assumes nothing.
 use mathlib.Core.Path.{_≡_, sym, ap, _∙_}
 use Prim.Native.Nat.{ℕ, zero, _+_, _-_, _*_, _/_, _%_, _≤_, _<_}
-use native.Mathlib.Nat.{mul-comm, mul-right-comm, add-mul, one-mul, mul-pos, mul-le-mul-left, mul-le-mul-right, lt-of-mul-lt-mul-right, div-add-mod', div-mul-le-self, lt-div-mul-add, mul-add-div-right, mul-add-mod-self-right, div-div-eq-div-mul, sub-add-cancel, add-div-right}
+use native.Mathlib.Nat.{mul-comm, mul-right-comm, add-mul, one-mul, mul-pos, mul-le-mul-left, mul-le-mul-right, lt-of-mul-lt-mul-right}
+use native.Mathlib.Nat.{div-add-mod', div-mul-le-self, lt-div-mul-add, mul-add-div-right, mul-add-mod-self-right, div-div-eq-div-mul}
+use native.Mathlib.Nat.{add-div-right}
 use native.Mathlib.Omega.{arith}
-use lib.Arith.{digits-div, digits-mod}
+use lib.Arith.{digits-div}
 
 -- ---- long division: the next digit of x / n in base k comes from the rest x % n
 
 module _ (n : ℕ) (pn : zero < n) where
   next : (x k : ℕ) → x * k ≡ x / n * k * n + x % n * k
   next x k =
-      ap (λ (y : ℕ). y * k) (sym (div-add-mod' x n)) ∙ add-mul (x / n * n) (x % n) k ∙ ap (λ (y : ℕ). y + x % n * k) (mul-right-comm (x / n) n k)
+      ap (λ (y : ℕ). y * k) (sym (div-add-mod' x n)) ∙ add-mul (x / n * n) (x % n) k
+      ∙ ap (λ (y : ℕ). y + x % n * k) (mul-right-comm (x / n) n k)
 
   pub next-digit : (x k : ℕ) → x * k / n ≡ x / n * k + x % n * k / n
   next-digit x k = ap (λ (y : ℕ). y / n) (next x k) ∙ mul-add-div-right pn (x / n * k) (x % n * k)
@@ -47,7 +51,8 @@ up-of-factor a b p hb hp =
 
     whole : a * p + (b * p - 1) ≡ (a + (b - 1)) * p + (p - 1)
     whole =
-        joined (a * p) ((b - 1) * p) (b * p) p (ap (λ (x : ℕ). x * p) (one-less b hb) ∙ add-mul (b - 1) 1 p ∙ ap (λ (x : ℕ). (b - 1) * p + x) (one-mul p)) hp
+        joined (a * p) ((b - 1) * p) (b * p) p
+        (ap (λ (x : ℕ). x * p) (one-less b hb) ∙ add-mul (b - 1) 1 p ∙ ap (λ (x : ℕ). (b - 1) * p + x) (one-mul p)) hp
         ∙ ap (λ (x : ℕ). x + (p - 1)) (sym (add-mul a (b - 1) p))
 
 pub up-of-positive : (a b : ℕ) → 0 < a → 0 < b → (a - 1) / b + 1 ≡ (a + (b - 1)) / b
@@ -75,31 +80,15 @@ module _ (k m a : ℕ) (pm : 0 < m) (h : a ≤ k * m) where
       go n l = omega arith
 
   pub up-most : c ≤ k
-  up-most = go c k (lt-of-mul-lt-mul-right m (one-more (c * m) (k * m) ((k + 1) * m) up-below h (add-mul k 1 m ∙ ap (λ (x : ℕ). k * m + x) (one-mul m))))
+  up-most =
+      go c k (lt-of-mul-lt-mul-right m (one-more (c * m) (k * m) ((k + 1) * m) up-below h
+      (add-mul k 1 m ∙ ap (λ (x : ℕ). k * m + x) (one-mul m))))
     where
       go : (x y : ℕ) → x < y + 1 → x ≤ y
       go x y l = omega arith
 
       one-more : (x y z : ℕ) → x < a + m → a ≤ y → z ≡ y + m → x < z
       one-more x y z p q e = omega arith
-
-  two-parts : k * m - a ≡ (k - c) * m + (c * m - a)
-  two-parts = go (k * m) ((k - c) * m) (c * m) (sym (ap (λ (x : ℕ). x * m) (sub-add-cancel up-most)) ∙ add-mul (k - c) c m) up-reaches
-    where
-      go : (x u v : ℕ) → x ≡ u + v → a ≤ v → x - a ≡ u + (v - a)
-      go x u v e l = omega arith
-
-  rest-lt : c * m - a < m
-  rest-lt = go (c * m) up-reaches up-below
-    where
-      go : (n : ℕ) → a ≤ n → n < a + m → n - a < m
-      go n x y = omega arith
-
-  pub quotient-of-difference : (k * m - a) / m ≡ k - (a + (m - 1)) / m
-  quotient-of-difference = ap (λ (x : ℕ). x / m) two-parts ∙ digits-div (k - c) rest-lt
-
-  pub rest-of-difference : (k * m - a) % m ≡ (a + (m - 1)) / m * m - a
-  rest-of-difference = ap (λ (x : ℕ). x % m) two-parts ∙ digits-mod (k - c) rest-lt
 
 -- ---- whole parts in units of 1/u: what holds of fractions holds of them, but for one unit
 
@@ -112,10 +101,12 @@ sum-above c a b s t r d d′ y pd pd′ ha hb hc k =
 
 -- x′/d′ ≤ x/d + e/y
 pub quotient-at-most :
-    (u x d x′ d′ e y : ℕ) → zero < d → zero < d′ → zero < y → y * (x′ * d) ≤ y * (x * d′) + e * (d * d′) → u * x′ / d′ ≤ u * x / d + u * e / y + 1
+    (u x d x′ d′ e y : ℕ) → zero < d → zero < d′ → zero < y → y * (x′ * d) ≤ y * (x * d′) + e * (d * d′)
+    → u * x′ / d′ ≤ u * x / d + u * e / y + 1
 quotient-at-most u x d x′ d′ e y pd pd′ py h =
     let r : u * x′ / d′ < u * x / d + u * e / y + 2 =
-    sum-above _ _ _ (u * x) (u * e) (u * x′) d d′ y pd pd′ (lt-div-mul-add pd) (lt-div-mul-add py) (div-mul-le-self (u * x′) d′) (omega (arith, mul-le-mul-left u h)) in
+    sum-above _ _ _ (u * x) (u * e) (u * x′) d d′ y pd pd′ (lt-div-mul-add pd) (lt-div-mul-add py) (div-mul-le-self (u * x′) d′)
+    (omega (arith, mul-le-mul-left u h)) in
     omega arith
 
 sum-below :
@@ -131,6 +122,7 @@ pub quotient-at-least :
     → u * x / d + u * e / y ≤ u * x′ / d′ + 1
 quotient-at-least u x d x′ d′ e y z pd pd′ py hz h =
     let r : u * x / d + u * e / y < u * x′ / d′ + 2 =
-    sum-below _ _ _ (u * x) (u * e) (u * x′) d d′ y (u * z) pd pd′ py (div-mul-le-self (u * x) d) (div-mul-le-self (u * e) y) (lt-div-mul-add pd′) hz
+    sum-below _ _ _ (u * x) (u * e) (u * x′) d d′ y (u * z) pd pd′ py (div-mul-le-self (u * x) d) (div-mul-le-self (u * e) y)
+    (lt-div-mul-add pd′) hz
     (omega (arith, mul-le-mul-left u h)) in
     omega arith

@@ -1,7 +1,10 @@
--- Numbers that shrink by a ratio at each step: after K steps, where 2 * R ^ K is Q ^ K at most, a number has halved, so it has a binary digit less. Assumes nothing.
+-- Numbers that shrink by a ratio at each step: after K steps, where 2 * R ^ K is Q ^ K at most, a number has halved, so it has a binary digit less.
+-- Assumes nothing.
 use mathlib.Core.Path.{_≡_, sym, ap, _∙_, subst}
 use Prim.Native.Nat.{ℕ, zero, suc, _+_, _-_, _*_, _^_, _≤_, _<_}
-use native.Mathlib.Nat.{le-refl, le-trans, le-of-eq, lt-of-le-of-lt, lt-of-lt-of-le, lt-of-not-le, not-le-of-lt, mul-comm, mul-assoc, mul-left-comm, mul-right-comm, mul-le-mul-right, mul-le-mul-left, le-of-mul-le-mul-right, mul-suc, mul-zero, add-suc, add-zero, pow-suc, pow-zero}
+use native.Mathlib.Nat.{le-refl, le-trans, le-of-eq, lt-of-le-of-lt, lt-of-lt-of-le, lt-of-not-le, not-le-of-lt, mul-comm, mul-assoc}
+use native.Mathlib.Nat.{mul-left-comm, mul-right-comm, mul-le-mul-right, mul-le-mul-left, le-of-mul-le-mul-right, mul-suc, mul-zero}
+use native.Mathlib.Nat.{add-suc, add-zero, pow-suc, pow-zero}
 use native.Mathlib.Omega.{arith}
 use lib.Pow.{pow-mono}
 use lib.Ieee.{size}
@@ -16,7 +19,8 @@ shrinks-by-power u Q R zero h = le-of-eq (ap (λ (z : ℕ). u 0 * z) (pow-zero Q
 shrinks-by-power u Q R (suc k) h =
     let a : u (suc k) * Q * Q ^ k ≤ u k * R * Q ^ k = mul-le-mul-right (Q ^ k) (h k (le-refl (suc k))) in
     let b : u k * Q ^ k * R ≤ u 0 * R ^ k * R = mul-le-mul-right R (shrinks-by-power u Q R k (λ i l. h i (more i k l))) in
-    let c : u (suc k) * Q ^ suc k ≡ u (suc k) * Q * Q ^ k = ap (λ (z : ℕ). u (suc k) * z) (pow-suc Q k ∙ mul-comm (Q ^ k) Q) ∙ sym (mul-assoc (u (suc k)) Q (Q ^ k)) in
+    let c : u (suc k) * Q ^ suc k ≡ u (suc k) * Q * Q ^ k = ap (λ (z : ℕ). u (suc k) * z) (pow-suc Q k ∙ mul-comm (Q ^ k) Q)
+    ∙ sym (mul-assoc (u (suc k)) Q (Q ^ k)) in
     let d : u k * R * Q ^ k ≡ u k * Q ^ k * R = mul-right-comm (u k) R (Q ^ k) in
     let e : u 0 * R ^ suc k ≡ u 0 * R ^ k * R = ap (λ (z : ℕ). u 0 * z) (pow-suc R k) ∙ sym (mul-assoc (u 0) (R ^ k) R) in
     omega arith
@@ -28,7 +32,8 @@ pub halves : (u : ℕ → ℕ) (Q R k : ℕ) → 0 < Q ^ k → 2 * R ^ k ≤ Q ^
 halves u Q R k P h s =
     let a : 2 * (u k * Q ^ k) ≤ 2 * (u 0 * R ^ k) = mul-le-mul-left 2 (shrinks-by-power u Q R k s) in
     let b : u 0 * (2 * R ^ k) ≤ u 0 * Q ^ k = mul-le-mul-left (u 0) h in
-    le-of-mul-le-mul-right (le-trans (le-of-eq (mul-assoc 2 (u k) (Q ^ k))) (le-trans a (le-trans (le-of-eq (mul-left-comm 2 (u 0) (R ^ k))) b))) P
+    le-of-mul-le-mul-right (le-trans (le-of-eq (mul-assoc 2 (u k) (Q ^ k)))
+    (le-trans a (le-trans (le-of-eq (mul-left-comm 2 (u 0) (R ^ k))) b))) P
 
 -- ---- binary digits
 
@@ -58,15 +63,19 @@ size-half a b A h = lt-of-not-le (λ (g : size b ≤ size a). clash g)
         omega arith
 
 -- K steps take a digit, so K * t steps take t
-pub digits-fall : (u : ℕ → ℕ) (Q R K t : ℕ) → 0 < Q ^ K → 2 * R ^ K ≤ Q ^ K → Shrinks u Q R (K * t) → ((i : ℕ) → i ≤ K * t → 0 < u i) → size (u (K * t)) + t ≤ size (u 0)
+pub digits-fall :
+    (u : ℕ → ℕ) (Q R K t : ℕ) → 0 < Q ^ K → 2 * R ^ K ≤ Q ^ K → Shrinks u Q R (K * t) → ((i : ℕ) → i ≤ K * t → 0 < u i)
+    → size (u (K * t)) + t ≤ size (u 0)
 digits-fall u Q R K zero P h s p = le-of-eq (add-zero (size (u (K * 0))) ∙ ap (λ (z : ℕ). size (u z)) (mul-zero K))
 digits-fall u Q R K (suc t) P h s p =
     let e : K * suc t ≡ K * t + K = mul-suc K t in
     let ih : size (u (K * t)) + t ≤ size (u 0) = digits-fall u Q R K t P h (λ i l. s i (below i K t l e)) (λ i l. p i (upto i K t l e)) in
     let v : ℕ → ℕ = λ (i : ℕ). u (K * t + i) in
-    let sv : Shrinks v Q R K = λ i l. subst (λ (z : ℕ). u z * Q ≤ u (K * t + i) * R) (sym (add-suc (K * t) i)) (s (K * t + i) (shift i K t l e)) in
+    let sv : Shrinks v Q R K = λ i l. subst (λ (z : ℕ). u z * Q ≤ u (K * t + i) * R) (sym (add-suc (K * t) i))
+    (s (K * t + i) (shift i K t l e)) in
     let a : 2 * u (K * t + K) ≤ u (K * t + 0) = halves v Q R K P h sv in
-    let b : suc (size (u (K * t + K))) ≤ size (u (K * t)) = size-half (u (K * t + K)) (u (K * t)) (p (K * t + K) (le-of-eq (sym e))) (subst (λ (z : ℕ). 2 * u (K * t + K) ≤ u z) (add-zero (K * t)) a) in
+    let b : suc (size (u (K * t + K))) ≤ size (u (K * t)) = size-half (u (K * t + K)) (u (K * t)) (p (K * t + K) (le-of-eq (sym e)))
+    (subst (λ (z : ℕ). 2 * u (K * t + K) ≤ u z) (add-zero (K * t)) a) in
     subst (λ (z : ℕ). size (u z) + suc t ≤ size (u 0)) (sym e) (omega arith)
   where
     below : (i K t : ℕ) {x : ℕ} → i < K * t → x ≡ K * t + K → i < x

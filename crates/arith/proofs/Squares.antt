@@ -1,7 +1,8 @@
 -- Squares and their order. Not here: the square of a sum or a double, which `omega arith` multiplies out by itself. Assumes nothing.
 use mathlib.Core.Path.{_≡_, ap}
 use Prim.Native.Nat.{ℕ, _+_, _-_, _*_, _≤_, _<_}
-use native.Mathlib.Nat.{mul-le-mul, mul-le-mul-left, mul-lt-mul-of-pos-right, lt-of-le-of-lt, lt-of-lt-of-le, lt-irrefl, le-of-lt, le-trans, lt-of-not-le}
+use native.Mathlib.Nat.{mul-le-mul, mul-le-mul-left, mul-lt-mul-of-pos-right, lt-of-le-of-lt, lt-of-lt-of-le, lt-irrefl, le-of-lt, le-trans}
+use native.Mathlib.Nat.{lt-of-not-le}
 use native.Mathlib.Omega.{arith}
 
 -- the odd number below 2 r

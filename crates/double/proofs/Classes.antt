@@ -38,7 +38,9 @@ of-fields s (suc j) t l = go (decLt j 2046)
     go (yes h) = mid j refl h (mid-value s j t h)
     go (no h) = subst (λ (f : ℕ). Class (ofFields binary64 s f t) s f t) (is-top l2 h) (at-top s t)
 
-pub class : (x : Float) → T (fits binary64 x) → Class x (signOf (toBits binary64 x)) (fieldOf (toBits binary64 x)) (digitsOf (toBits binary64 x))
+pub class :
+    (x : Float) → T (fits binary64 x) → Class x (signOf (toBits binary64 x)) (fieldOf (toBits binary64 x)) (digitsOf (toBits binary64 x))
 class x F =
     let b = toBits binary64 x in
-    subst (λ (y : Float). Class y (signOf b) (fieldOf b) (digitsOf b)) (by-fields x F) (of-fields (signOf b) (fieldOf b) (digitsOf b) (field-lt b))
+    subst (λ (y : Float). Class y (signOf b) (fieldOf b) (digitsOf b)) (by-fields x F)
+    (of-fields (signOf b) (fieldOf b) (digitsOf b) (field-lt b))

@@ -1,5 +1,6 @@
 -- From a bit pattern to its fields, from the fields to the size in units of 2^-1074, and back. Assumes nothing.
--- In order: `ofBits-is`, the ranges of the fields, `low-value`, `mid-value` and both as `mag-value`, that a number has one sign and one size, `measured` and `read`.
+-- In order: `ofBits-is`, the ranges of the fields, `low-value`, `mid-value` and both as `mag-value`, that a number has one sign and one size,
+-- `measured` and `read`.
 use mathlib.Core.Path.{_≡_, sym, ap, subst, _∙_}
 use mathlib.Core.Bool.{Bool, true, false, cond}
 use Prim.Native.Nat.{ℕ, zero, suc, _+_, _*_, _/_, _^_, _<_}
@@ -21,7 +22,9 @@ unfolding ofBits
 ofBits-is b = ap (λ (f : ℕ). ofFields binary64 (signOf b) f (digitsOf b)) (field b 11 52)
 
 -- a double by the fields of its pattern
-pub by-fields : (x : Float) → T (fits binary64 x) → ofFields binary64 (signOf (toBits binary64 x)) (fieldOf (toBits binary64 x)) (digitsOf (toBits binary64 x)) ≡ x
+pub by-fields :
+    (x : Float) → T (fits binary64 x)
+    → ofFields binary64 (signOf (toBits binary64 x)) (fieldOf (toBits binary64 x)) (digitsOf (toBits binary64 x)) ≡ x
 by-fields x F = sym (ofBits-is (toBits binary64 x)) ∙ ofBits-toBits binary64 x F
 
 pub field-lt : (b : ℕ) → fieldOf b < 2048
@@ -86,10 +89,16 @@ measured x F h = go (decLt f 2047)
     is-top l k = omega arith
 
     go : Dec (f < 2047) → Measured x b
-    go (yes l) = record { field = l; is = subst (λ (y : Float). Sized y (signOf b) (mag f (digitsOf b))) (by-fields x F) (mag-value (signOf b) f (digitsOf b) l) }
+    go (yes l) =
+        record {
+          field = l;
+          is = subst (λ (y : Float). Sized y (signOf b) (mag f (digitsOf b))) (by-fields x F)
+              (mag-value (signOf b) f (digitsOf b) l);
+        }
     go (no k) =
         absurd (top-not-finite (signOf b) (digitsOf b)
-        (subst (λ (y : Float). T (finite y)) (sym (by-fields x F) ∙ ap (λ (g : ℕ). ofFields binary64 (signOf b) g (digitsOf b)) (is-top (field-lt b) k)) h))
+        (subst (λ (y : Float). T (finite y)) (sym (by-fields x F) ∙ ap (λ (g : ℕ). ofFields binary64 (signOf b) g (digitsOf b)) (is-top
+        (field-lt b) k)) h))
 
 -- the fields that a double of the sign s and n units must have
 pub record Read (s : Bool) (n b : ℕ) : Type 0 where
@@ -107,4 +116,9 @@ read x s n F h =
     let b = toBits binary64 x in
     let m = measured x F (finite-of-value x s n (2 ^ 1074) h) in
     let e = same-sign x (signOf b) s (mag (fieldOf b) (digitsOf b)) n (m .is) h in
-    record { sign = e; field = m .field; size = same-units x s n (mag (fieldOf b) (digitsOf b)) h (subst (λ (r : Bool). Sized x r (mag (fieldOf b) (digitsOf b))) e (m .is)) }
+    record {
+      sign = e;
+      field = m .field;
+      size = same-units x s n (mag (fieldOf b) (digitsOf b)) h
+          (subst (λ (r : Bool). Sized x r (mag (fieldOf b) (digitsOf b))) e (m .is));
+    }

@@ -10,3 +10,4 @@ pub mod NotNan
 pub mod Finite
 pub mod Sizes
 pub mod RoundTrips
+pub mod Agree

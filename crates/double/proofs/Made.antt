@@ -1,4 +1,5 @@
--- A double put together as the pattern j * 2^52 + q, with the leading one left in q, from 2^52 up to and including 2^53. It carries into the field by itself. Assumes nothing.
+-- A double put together as the pattern j * 2^52 + q, with the leading one left in q, from 2^52 up to and including 2^53. It carries into the field by
+-- itself. Assumes nothing.
 use mathlib.Core.Path.{_≡_, sym, ap, subst, _∙_}
 use mathlib.Core.Logic.{_⊎_, inl, inr}
 use mathlib.Core.Bool.{Bool, false, not}
@@ -40,7 +41,8 @@ made j q a b h = go (eq-or-lt-of-le b)
         let pattern : suc j * 2 ^ 52 + (q - 2 ^ 52) ≡ j * 2 ^ 52 + q = omega arith in
         let units : 2 ^ 52 + (q - 2 ^ 52) ≡ q = omega arith in
         subst (λ (x : ℕ). Units (ofBits binary64 x) (q * 2 ^ j)) pattern
-        (subst (λ (x : ℕ). Units (ofBits binary64 (suc j * 2 ^ 52 + (q - 2 ^ 52))) (x * 2 ^ j)) units (of-parts j (q - 2 ^ 52) (omega arith) (omega arith)))
+        (subst (λ (x : ℕ). Units (ofBits binary64 (suc j * 2 ^ 52 + (q - 2 ^ 52))) (x * 2 ^ j)) units
+        (of-parts j (q - 2 ^ 52) (omega arith) (omega arith)))
 
 -- no pattern up to an infinity's is a NaN's: what `f64::from_bits` asks
 pub number : (b : ℕ) → b ≤ 2047 * 2 ^ 52 → T (not (nanBits binary64 b))

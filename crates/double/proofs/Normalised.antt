@@ -1,8 +1,11 @@
--- A positive finite double as m * 2^(k - 1126), m from 2^52 up to 2^53, subnormals included: its units, its exact fraction, its binary exponent. Assumes nothing.
+-- A positive finite double as m * 2^(k - 1126), m from 2^52 up to 2^53, subnormals included: its units, its exact fraction, its binary exponent.
+-- Assumes nothing.
 use mathlib.Core.Path.{_≡_, refl, sym, ap, subst, _∙_}
 use mathlib.Core.Bool.{false}
 use Prim.Native.Nat.{ℕ, zero, suc, _+_, _-_, _*_, _^_, _≤_, _<_}
-use native.Mathlib.Nat.{not-suc-le-zero, mul-assoc, mul-comm, mul-right-comm, mul-le-mul-right, mul-lt-mul-of-pos-right, le-of-mul-le-mul-right, lt-of-mul-lt-mul-right, eq-of-mul-eq-mul-right, le-antisymm, lt-of-not-le, le-trans, le-of-eq, lt-of-lt-of-le, lt-irrefl}
+use native.Mathlib.Nat.{not-suc-le-zero, mul-assoc, mul-comm, mul-right-comm, mul-le-mul-right, mul-lt-mul-of-pos-right}
+use native.Mathlib.Nat.{le-of-mul-le-mul-right, lt-of-mul-lt-mul-right, eq-of-mul-eq-mul-right, le-antisymm, lt-of-not-le, le-trans}
+use native.Mathlib.Nat.{le-of-eq, lt-of-lt-of-le, lt-irrefl}
 use native.Mathlib.Omega.{arith}
 use lib.Dec.{T}
 use lib.IntN.{ℤ}
@@ -63,13 +66,15 @@ of-mid (suc j) t h = refl
 
 -- a positive finite double
 pub of-double : (x : Float) (n : ℕ) → T (fits binary64 x) → Units x n → 0 < n
-    → Normalised n (normalOf (fieldOf (toBits binary64 x)) (digitsOf (toBits binary64 x)) .m) (normalOf (fieldOf (toBits binary64 x)) (digitsOf (toBits binary64 x)) .k)
+    → Normalised n (normalOf (fieldOf (toBits binary64 x)) (digitsOf (toBits binary64 x)) .m)
+    (normalOf (fieldOf (toBits binary64 x)) (digitsOf (toBits binary64 x)) .k)
 of-double x n F u p =
     let b = toBits binary64 x in
     let r = read x false n F u in
     let f = fieldOf b in
     let t = digitsOf b in
-    subst (λ (a : ℕ). Normalised a (normalOf f t .m) (normalOf f t .k)) (sym (r .size)) (normalised f t (r .field) (digits-lt b) (subst (λ (a : ℕ). 0 < a) (r .size) p))
+    subst (λ (a : ℕ). Normalised a (normalOf f t .m) (normalOf f t .k)) (sym (r .size))
+    (normalised f t (r .field) (digits-lt b) (subst (λ (a : ℕ). 0 < a) (r .size) p))
 
 -- ---- the exact fraction s * up e / down e of the double, with the exponent k - 1074 = i or -i
 
@@ -80,7 +85,8 @@ module _ (s n m k : ℕ) (e : ℤ) (u : Units (fin false s e) n) (z : Normalised
   pub fraction-up : (i : ℕ) → k ≡ i + 1074 → s * up e * 2 ^ 52 ≡ m * (down e * 2 ^ i)
   fraction-up i h =
       eq-of-mul-eq-mul-right (2 ^ 1074) (pow-pos 1074) (s * up e * 2 ^ 52) (m * (down e * 2 ^ i))
-      (mul-right-comm (s * up e) (2 ^ 52) (2 ^ 1074) ∙ whole-fraction ∙ ap (λ (a : ℕ). m * a * down e) (ap (λ (a : ℕ). 2 ^ a) h ∙ pow-add 2 i 1074) ∙ shape m (2 ^ i) (2 ^ 1074) (down e))
+      (mul-right-comm (s * up e) (2 ^ 52) (2 ^ 1074) ∙ whole-fraction
+      ∙ ap (λ (a : ℕ). m * a * down e) (ap (λ (a : ℕ). 2 ^ a) h ∙ pow-add 2 i 1074) ∙ shape m (2 ^ i) (2 ^ 1074) (down e))
     where
       shape : (m p q d : ℕ) → m * (p * q) * d ≡ m * (d * p) * q
       shape m p q d = omega arith
@@ -101,19 +107,25 @@ module _ (s n m k : ℕ) (e : ℤ) (u : Units (fin false s e) n) (z : Normalised
 
 module _ (n m k : ℕ) (z : Normalised n m k) where
   pub exponent-from : 2 ^ k ≤ n
-  exponent-from = le-of-mul-le-mul-right {k = 2 ^ 52} (le-trans (le-of-eq (mul-comm (2 ^ k) (2 ^ 52))) (le-trans (mul-le-mul-right (2 ^ k) (z .from)) (le-of-eq (sym (z .is))))) (pow-pos 52)
+  exponent-from =
+      le-of-mul-le-mul-right {k = 2 ^ 52}
+      (le-trans (le-of-eq (mul-comm (2 ^ k) (2 ^ 52))) (le-trans (mul-le-mul-right (2 ^ k) (z .from)) (le-of-eq (sym (z .is)))))
+      (pow-pos 52)
 
   pub exponent-to : n < 2 ^ suc k
   exponent-to =
       lt-of-mul-lt-mul-right (2 ^ 52)
-      (subst (λ (a : ℕ). a < 2 ^ suc k * 2 ^ 52) (sym (z .is)) (subst (λ (a : ℕ). m * 2 ^ k < a) (sym (pow-add 2 53 k) ∙ ap (λ (a : ℕ). 2 ^ a) sum ∙ pow-add 2 (suc k) 52) (mul-lt-mul-of-pos-right (z .to) (pow-pos k))))
+      (subst (λ (a : ℕ). a < 2 ^ suc k * 2 ^ 52) (sym (z .is)) (subst (λ (a : ℕ). m * 2 ^ k < a)
+      (sym (pow-add 2 53 k) ∙ ap (λ (a : ℕ). 2 ^ a) sum ∙ pow-add 2 (suc k) 52) (mul-lt-mul-of-pos-right (z .to) (pow-pos k))))
     where
       sum : 53 + k ≡ suc k + 52
       sum = omega arith
 
   -- the number of binary digits of the units is one above k
   pub size-is : size n ≡ suc k
-  size-is = le-antisymm (size-le n (suc k) exponent-to) (lt-of-not-le (λ (g : size n ≤ k). lt-irrefl n (lt-of-lt-of-le (size-lt n) (le-trans (pow-mono g) exponent-from))))
+  size-is =
+      le-antisymm (size-le n (suc k) exponent-to)
+      (lt-of-not-le (λ (g : size n ≤ k). lt-irrefl n (lt-of-lt-of-le (size-lt n) (le-trans (pow-mono g) exponent-from))))
 
 -- at a field f from 1 to 2046 that is f + 52, so the exponent is f - 1023
 pub size-of-normal : (f t : ℕ) → 1 ≤ f → f < 2047 → t < 2 ^ 52 → size (mag f t) ≡ f + 52

@@ -6,7 +6,6 @@ use lib.Dec.{T}
 use lib.Ieee.{Float, nan, inf, fin, isNan, ne}
 use lib.Ieee.Exact.{HasValue}
 use lib.Ieee.Compare.{differs-from-itself, nan-differs}
-use lib.Ieee.Scale.{finite}
 
 pub nan-of : (x : Float) → ne x x ≡ true → x ≡ nan
 nan-of x h = differs-from-itself x (subst T (sym h) tt)
@@ -26,9 +25,3 @@ unfolding isNan
 no-nan-of-value nan s a c h = absurd h
 no-nan-of-value (inf r) s a c h = refl
 no-nan-of-value (fin r m e) s a c h = refl
-
-pub no-nan-of-finite : (x : Float) → T (finite x) → isNan x ≡ false
-unfolding isNan
-no-nan-of-finite nan h = absurd h
-no-nan-of-finite (inf s) h = refl
-no-nan-of-finite (fin s m e) h = refl

@@ -1,11 +1,11 @@
 -- From a double to its pattern and back, and from a pattern to its double and back. Assumes nothing.
-use mathlib.Core.Path.{_≡_, refl, sym, ap, subst, _∙_}
-use mathlib.Core.Bool.{Bool, true, false, cond, not}
+use mathlib.Core.Path.{_≡_, refl, sym, ap, _∙_}
+use mathlib.Core.Bool.{Bool, true, cond}
 use Prim.Native.Nat.{ℕ, _+_, _-_, _*_, _/_, _^_, _<_}
 use native.Mathlib.Nat.{mul-div-cancel}
 use lib.Dec.{T}
 use lib.Ieee.{Float, nan, inf, fin, binary64, fits, isNan, ofBits, toBits, nanBits, size, up, down}
-use lib.Ieee.Bits.{ofBits-toBits, toBits-ofBits, toBits-lt, nanBits-is}
+use lib.Ieee.Bits.{ofBits-toBits, toBits-lt, nanBits-is}
 use lib.Ieee.Fits.{down-pos}
 use Rattle.arith.proofs.Branches.{false-not-true}
 use Rattle.double.specs.Fields.{Sized}
@@ -26,7 +26,9 @@ pattern-of-size : (x : Float) (s : Bool) (n : ℕ) → Sized x s n → toBits bi
 unfolding toBits patternOf
 pattern-of-size nan s n h = absurd h
 pattern-of-size (inf r) s n h = absurd h
-pattern-of-size (fin r m e) s n h = ap (λ (t : Bool). patternOf t (m * up e * 2 ^ 1074 / down e)) (h .0) ∙ ap (patternOf s) (ap (λ (a : ℕ). a / down e) (h .1) ∙ mul-div-cancel n (down-pos e))
+pattern-of-size (fin r m e) s n h =
+    ap (λ (t : Bool). patternOf t (m * up e * 2 ^ 1074 / down e)) (h .0)
+    ∙ ap (patternOf s) (ap (λ (a : ℕ). a / down e) (h .1) ∙ mul-div-cancel n (down-pos e))
 
 -- doubles with one pattern are one double
 pub same-pattern : (x y : Float) → T (fits binary64 x) → T (fits binary64 y) → toBits binary64 x ≡ toBits binary64 y → x ≡ y
@@ -36,10 +38,6 @@ same-pattern x y F G e = sym (double-back x F) ∙ ap (ofBits binary64) e ∙ do
 pub same-size : (x y : Float) (s : Bool) (n : ℕ) → T (fits binary64 x) → T (fits binary64 y) → Sized x s n → Sized y s n → x ≡ y
 same-size x y s n F G h k = same-pattern x y F G (pattern-of-size x s n h ∙ sym (pattern-of-size y s n k))
 
--- a pattern that is not a NaN's is the pattern of its double
-pub pattern-back : (b : ℕ) → b < 2 ^ 64 → nanBits binary64 b ≡ false → toBits binary64 (ofBits binary64 b) ≡ b
-pattern-back b h n = toBits-ofBits binary64 b h (subst (λ (t : Bool). T (not t)) (sym (sym (nanBits-is binary64 b) ∙ n)) tt)
-
 is-nan : (x : Float) → isNan x ≡ true → x ≡ nan
 unfolding isNan
 is-nan nan e = refl
@@ -48,8 +46,3 @@ is-nan (fin s m k) e = absurd (false-not-true e)
 
 pub nan-of-pattern : (b : ℕ) → nanBits binary64 b ≡ true → ofBits binary64 b ≡ nan
 nan-of-pattern b n = is-nan (ofBits binary64 b) (sym (nanBits-is binary64 b) ∙ n)
-
--- and every NaN's pattern comes back as the one that 01 names: "7FF8000000000000"
-pub nan-back : (b : ℕ) → nanBits binary64 b ≡ true → toBits binary64 (ofBits binary64 b) ≡ 0x7ff8_0000_0000_0000
-unfolding toBits
-nan-back b n = ap (toBits binary64) (nan-of-pattern b n)

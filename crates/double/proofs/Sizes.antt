@@ -57,8 +57,10 @@ not-one p r a b c = omega arith
 -- a zero is written with the exponent 0
 exponent-of-zero : (e : ℤ) → T (eqb (up e * down e) 1) → e ≡ pos 0
 exponent-of-zero (pos zero) t = refl
-exponent-of-zero (pos (suc k)) t = absurd (not-one (2 ^ suc k) (2 ^ suc k * 1) (pow-lt {i = 0} {j = suc k} (omega arith)) (eqb→eq _ _ t) (mul-one _))
-exponent-of-zero (negsuc k) t = absurd (not-one (2 ^ suc k) (1 * 2 ^ suc k) (pow-lt {i = 0} {j = suc k} (omega arith)) (eqb→eq _ _ t) (one-mul _))
+exponent-of-zero (pos (suc k)) t =
+    absurd (not-one (2 ^ suc k) (2 ^ suc k * 1) (pow-lt {i = 0} {j = suc k} (omega arith)) (eqb→eq _ _ t) (mul-one _))
+exponent-of-zero (negsuc k) t =
+    absurd (not-one (2 ^ suc k) (1 * 2 ^ suc k) (pow-lt {i = 0} {j = suc k} (omega arith)) (eqb→eq _ _ t) (one-mul _))
 
 -- equal to 0: the size is +0, of -0 too
 pub abs-of-zero : (x : Float) → T (fits binary64 x) → eq x +0 ≡ true → +0 ≡ absOf x

@@ -21,7 +21,8 @@ at-leading t z j h e a b =
     let under : j < 52 = lt-of-not-le (λ (g : 52 ≤ j). not-le-of-lt (lt-of-le-of-lt a h) (pow-mono g)) in
     let place : j + (z - 11) ≡ 52 = omega arith in
     let above : suc j + (z - 11) ≡ 53 = omega arith in
-    let from : 2 ^ 52 ≤ t * 2 ^ (z - 11) = subst (λ (k : ℕ). k ≤ t * 2 ^ (z - 11)) (sym (pow-add 2 j (z - 11)) ∙ ap (λ (k : ℕ). 2 ^ k) place) (mul-le-mul-right (2 ^ (z - 11)) a) in
+    let from : 2 ^ 52 ≤ t * 2 ^ (z - 11) = subst (λ (k : ℕ). k ≤ t * 2 ^ (z - 11))
+    (sym (pow-add 2 j (z - 11)) ∙ ap (λ (k : ℕ). 2 ^ k) place) (mul-le-mul-right (2 ^ (z - 11)) a) in
     let to : t * 2 ^ (z - 11) < 2 ^ 53 = subst (λ (k : ℕ). t * 2 ^ (z - 11) < 2 ^ k) above (shl-lt (suc j) (z - 11) b) in
     record { least = omega arith; most = omega arith; from = from; to = to; whole = mod-eq-of-lt (omega arith) }
 

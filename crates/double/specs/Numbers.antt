@@ -121,7 +121,8 @@ pub record NamesRight : Type 0 where
   pub n61440-right : #61440 ≡ dec 61440 0
   pub n708-right : #708 ≡ dec 708 0
   pub n709-right : #709 ≡ dec 709 0
-  pub pi-right : #π ≡ dec 3141592653589793 15
+  -- π to twenty digits behind the point
+  pub pi-right : #π ≡ dec 314159265358979323846 20
   pub epsilon-right : #ε ≡ pow2 52
   pub root-epsilon-right : #√ε ≡ pow2 26
   pub tolerance-right : #tolerance ≡ pow2 40

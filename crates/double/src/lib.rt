@@ -6,6 +6,12 @@ ghost use lib.Ieee.Scale.{finite};
 ghost use Rattle.double.specs.Fields.{normalOf};
 ghost use Rattle.double.specs.Sizes.{absOf};
 
+// 01: "ε is 2^-52". The Rust's T::epsilon()
+pub const EPSILON: f64 = 2.220446049250313e-16;
+
+// 01: "√ε is 2^-26". The Rust's T::sqrt(T::epsilon())
+pub const SQRT_EPSILON: f64 = 1.4901161193847656e-8;
+
 // 01: "Any NaN that a kernel answers has the bits 7FF8000000000000". A division of two literals is folded by the compiler to those bits;
 // one that is carried out on x86 would give FFF8000000000000.
 pub fn nan() -> f64

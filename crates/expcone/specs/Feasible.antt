@@ -1,15 +1,11 @@
--- When a point lies in the exponential cone or in its dual, as 000 tests it, and the point that 000 starts from. Definitions only.
+-- When a point lies in the exponential cone or in its dual, as 000 tests it. Definitions only.
 use mathlib.Core.Bool.{Bool, _&&_}
-use mathlib.Core.List.{List, [], _∷_}
+use mathlib.Core.List.{List}
 use lib.Ieee.{Float, neg}
 use Rattle.double.specs.Operators.{_⊖_, _⊗_, _⊘_, _≺_, at}
-use Rattle.double.specs.Numbers.{#0, #start1, #start2, #start3}
+use Rattle.double.specs.Numbers.{#0}
 use Rattle.kernels.specs.Door.{logOf}
 use Rattle.expcone.specs.declared.Residue.{Residue}
-
--- 000 unit_initialization: s, and z the same
-unfoldable pub unitInitializationOf : List Float
-unitInitializationOf = neg #start1 ∷ #start2 ∷ #start3 ∷ []
 
 -- 000 is_primal_feasible, res: s2·log(s3/s2) - s1, counting from 1; l is the logarithm
 unfoldable pub primalResidueAt : List Float → Float → Residue

@@ -1,13 +1,17 @@
--- The gradient of the exponential cone's primal barrier, as 000 gradient_primal computes it. Definitions only.
+-- The unit start and the gradient of the exponential cone's primal barrier, as 000 computes them. Definitions only.
 use mathlib.Core.Bool.{true, false, cond}
 use mathlib.Core.List.{List, [], _∷_}
-use lib.Ieee.{Float}
+use lib.Ieee.{Float, neg}
 use Rattle.double.specs.Operators.{_⊕_, _⊖_, _⊗_, _⊘_, at}
-use Rattle.double.specs.Numbers.{#0, #1}
+use Rattle.double.specs.Numbers.{#0, #1, #start1, #start2, #start3}
 use Rattle.kernels.specs.Door.{logOf}
 use Rattle.expcone.specs.declared.Gradient.{Gradient}
 use Rattle.wright.specs.declared.Omega.{Omega}
 use Rattle.wright.specs.Omega.{omegaAt}
+
+-- 000 unit_initialization: z and s alike
+unfoldable pub unitInitializationOf : List Float
+unitInitializationOf = neg #start1 ∷ #start2 ∷ #start3 ∷ []
 
 -- 000 gradient_primal, w the value of omega, l the logarithm of w·s2/s3, counting from 1
 unfoldable pub gradientAt : Float → Float → Float → Float → Gradient

@@ -4,18 +4,18 @@
 // Dual exponential cone: z3 ≥ -z1*e^(z2/z1 - 1), z3 > 0, z1 < 0
 
 ghost use mathlib.Core.Path.{_≡_};
-ghost use Rattle.expcone.specs.Feasible.{unitInitializationOf, primalResidue, dualResidue, primalFeasible, dualFeasible};
+ghost use Rattle.expcone.specs.Feasible.{primalResidue, dualResidue, primalFeasible, dualFeasible};
 ghost use Rattle.expcone.specs.Barriers.{barrierPrimalOf, barrierDualOf, computeBarrierOf};
 ghost use Rattle.expcone.specs.Correction.{correctionOf, higherCorrectionOf, combinedDsShiftOf};
 ghost use Rattle.expcone.specs.DualGradient.{updateDualGradHOf};
-ghost use Rattle.expcone.specs.PrimalGradient.{gradientPrimalOf};
+ghost use Rattle.expcone.specs.PrimalGradient.{unitInitializationOf, gradientPrimalOf};
 use algebra::sym3::cholesky_3x3_explicit_factor;
 use algebra::sym3::cholesky_3x3_explicit_solve;
 use algebra::vector::dot3;
 use algebra::vector::moved3;
 use algebra::vector::shift3;
 use kernels::log;
-use wright::wright_omega;
+use wright::omega_at;
 
 // What a cone test compares with 0, beside the logarithm in it.
 pub struct Residue {
@@ -142,10 +142,9 @@ pub fn is_dual_feasible(z: [f64; 3]) -> bool
 pub fn barrier_primal(s: [f64; 3]) -> Barrier
     ensures { λ r. ⌜ r ≡ barrierPrimalOf s ⌝ }
 {
-    let s0 = s[0];
     let s1 = s[1];
     let s2 = s[2];
-    let o = wright_omega(1.0 - s0 / s1 - log(s1 / s2));
+    let o = omega_at(s);
     if o.panics {
         return Barrier {
             panics: true,
@@ -281,10 +280,9 @@ pub fn update_dual_grad_h(z: [f64; 3]) -> GradH
 pub fn gradient_primal(s: [f64; 3]) -> Gradient
     ensures { λ r. ⌜ r ≡ gradientPrimalOf s ⌝ }
 {
-    let s0 = s[0];
     let s1 = s[1];
     let s2 = s[2];
-    let o = wright_omega(1.0 - s0 / s1 - log(s1 / s2));
+    let o = omega_at(s);
     if o.panics {
         return Gradient {
             panics: true,

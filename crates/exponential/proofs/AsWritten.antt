@@ -40,4 +40,5 @@ module _ (p q : ℕ) where
   pub last-terms-are-sum : lastTerms p q 39 ≡ sumNum p q
   unfolding sumTo
   last-terms-are-sum =
-      sym (zero-add (lastTerms p q 39 * p ^ 0) ∙ ap (λ (x : ℕ). lastTerms p q 39 * x) (pow-zero p) ∙ mul-one (lastTerms p q 39)) ∙ first-and-last 39 (lit< tt)
+      sym (zero-add (lastTerms p q 39 * p ^ 0) ∙ ap (λ (x : ℕ). lastTerms p q 39 * x) (pow-zero p) ∙ mul-one (lastTerms p q 39))
+      ∙ first-and-last 39 (lit< tt)

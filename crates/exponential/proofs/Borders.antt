@@ -4,7 +4,8 @@ use mathlib.Core.Path.{_≡_, refl, sym, ap, _∙_, subst}
 use mathlib.Core.Bool.{Bool, true, false, not, cond}
 use mathlib.Core.Logic.{_⊎_, inl, inr}
 use Prim.Native.Nat.{ℕ, _+_, _-_, _*_, _/_, _^_, _≤_, _<_}
-use native.Mathlib.Nat.{le-trans, le-of-eq, lt-of-lt-of-le, lt-of-le-of-lt, le-div-iff-mul-le, div-lt-iff-lt-mul, div-mul-le-self, lt-div-mul-add, eq-or-lt-of-le, not-le-of-lt, le-of-suc-le-suc, suc-mul, add-le-add, le-refl, mul-le-mul-right}
+use native.Mathlib.Nat.{le-trans, le-of-eq, lt-of-lt-of-le, lt-of-le-of-lt, le-div-iff-mul-le, div-lt-iff-lt-mul, div-mul-le-self}
+use native.Mathlib.Nat.{lt-div-mul-add, eq-or-lt-of-le, not-le-of-lt, le-of-suc-le-suc, suc-mul, add-le-add, le-refl, mul-le-mul-right}
 use native.Mathlib.Numerals.{add-one, add-one-le}
 use native.Mathlib.Omega.{arith}
 use lib.Dec.{T, leb, ltb, leb→le, ltb→lt, nleb→lt, lit≤, lit<}
@@ -116,7 +117,8 @@ rest-small y part k h l = go (border k) (border (k + 1)) (gap k) (h .from) (h .b
 border-mono : {j k : ℕ} → j ≤ k → border j ≤ border k
 unfolding border
 border-mono h =
-    add-le-add (add-le-add (mul-le-mul-right thirdIn53 h) (shr-mono 40 (add-le-add (mul-le-mul-right thirdRest h) (le-refl homeRest)))) (le-refl 1)
+    add-le-add (add-le-add (mul-le-mul-right thirdIn53 h) (shr-mono 40 (add-le-add (mul-le-mul-right thirdRest h) (le-refl homeRest))))
+    (le-refl 1)
 
 last-border : border 2047 < 2 ^ 64
 unfolding border
@@ -162,7 +164,8 @@ module _ (y : ℕ) (range : InRange y) where
   unfolding k₀
   next-border =
       lt-of-lt-of-le (lt-div-mul-add {a = y} {b = thirdIn53 + 1} (lit< tt))
-      (le-trans (le-of-eq (sym (suc-mul k₀ (thirdIn53 + 1)) ∙ ap (λ (x : ℕ). x * (thirdIn53 + 1)) (sym (add-one k₀)))) (border-above-multiple k₀ (omega (arith, k₀-high))))
+      (le-trans (le-of-eq (sym (suc-mul k₀ (thirdIn53 + 1)) ∙ ap (λ (x : ℕ). x * (thirdIn53 + 1)) (sym (add-one k₀))))
+      (border-above-multiple k₀ (omega (arith, k₀-high))))
 
   pub at-place : AtPlace y (placeOf y)
   unfolding placeOf k₀
@@ -180,5 +183,12 @@ module _ (y : ℕ) (range : InRange y) where
           pick (inr m) = add-one-le m
 
       go : (b : Bool) → (T b → border (k₀ + 1) ≤ y) → (T (not b) → y < border (k₀ + 1)) → AtPlace y (cond b (k₀ + 1) k₀)
-      go true p q = record { from = p tt; below = subst (λ (x : ℕ). y < border x) (omega arith) next-border; low = omega (arith, k₀-low); high = high (p tt) }
+      go true p q =
+          record {
+            from = p tt;
+            below = subst (λ (x : ℕ). y < border x) (omega arith) next-border;
+            low = omega (arith, k₀-low);
+            high = high
+                (p tt);
+          }
       go false p q = record { from = low-border; below = q tt; low = k₀-low; high = le-of-suc-le-suc k₀-high }

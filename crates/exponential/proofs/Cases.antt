@@ -34,7 +34,8 @@ unfolding toBits
 top-of-nan = refl
 
 pub number-of-class : (x : Float) → fieldOf (toBits binary64 x) < 2047 → ne x x ≡ false
-number-of-class x h = number x (λ (e : x ≡ nan). go (fieldOf (toBits binary64 x)) h (ap (λ (y : Float). fieldOf (toBits binary64 y)) e ∙ top-of-nan))
+number-of-class x h =
+    number x (λ (e : x ≡ nan). go (fieldOf (toBits binary64 x)) h (ap (λ (y : Float). fieldOf (toBits binary64 y)) e ∙ top-of-nan))
   where
     go : (f : ℕ) → f < 2047 → f ≡ 2047 → ⊥
     go f l e = omega arith
@@ -97,14 +98,17 @@ one-at true t h = go (eq-zero-or-pos t)
 
     go : (t ≡ zero) ⊎ (zero < t) → expAt (home * 2048 - (t * 2 ^ 64 + (2 ^ 1074 - 1)) / 2 ^ 1074) ≡ #1
     go (inl e) = ap (λ (n : ℕ). expAt (home * 2048 - (n * 2 ^ 64 + (2 ^ 1074 - 1)) / 2 ^ 1074)) e ∙ at-home
-    go (inr p) = ap (λ (n : ℕ). expAt (home * 2048 - n)) (sym (up-of-small (2 ^ 1074) (t * 2 ^ 64) (positive t p) (le-of-lt (tiny t h)))) ∙ at-home-less
+    go (inr p) =
+        ap (λ (n : ℕ). expAt (home * 2048 - n)) (sym (up-of-small (2 ^ 1074) (t * 2 ^ 64) (positive t p) (le-of-lt (tiny t h))))
+        ∙ at-home-less
 
 pub class-0 : (x : Float) → T (fits binary64 x) → fieldOf (toBits binary64 x) ≡ 0 → #1 ≡ expOf x
 unfolding mag
 class-0 x F e =
     let b = toBits binary64 x in
     let t = digitsOf b in
-    let v : Sized x (signOf b) t = subst (λ (y : Float). Sized y (signOf b) t) (sym (ap (λ (f : ℕ). ofFields binary64 (signOf b) f t) e) ∙ by-fields x F) (low-value (signOf b) t) in
+    let v : Sized x (signOf b) t = subst (λ (y : Float). Sized y (signOf b) t)
+    (sym (ap (λ (f : ℕ). ofFields binary64 (signOf b) f t) e) ∙ by-fields x F) (low-value (signOf b) t) in
     let small : t ≤ 708 * 2 ^ 1074 = le-trans (le-of-lt (lt-trans (digits-lt b) (pow-lt {i = 52} {j = 1074} (lit< tt)))) (lit≤ tt) in
     let small′ : t ≤ 709 * 2 ^ 1074 = le-trans small (lit≤ tt) in
     sym (one-at (signOf b) t (digits-lt b)) ∙ ap (λ (f : ℕ). expAt (raised (signOf b) (mag f t) (2 ^ 1074))) (sym e)

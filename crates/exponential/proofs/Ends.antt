@@ -31,14 +31,16 @@ unfolding lt ofBits
 most-709 nan a c v h = absurd v
 most-709 (inf s) a c v h = absurd v
 most-709 (fin true m e) a c v h = absurd (false-not-true (sym (v .0)))
-most-709 (fin false m e) a c v h = scaled-at-most m (up e) (down e) a c 709 (down-pos e) (v .1) (le-trans (le-of-eq (sym (mul-one (m * up e)))) (le-of-test h))
+most-709 (fin false m e) a c v h =
+    scaled-at-most m (up e) (down e) a c 709 (down-pos e) (v .1) (le-trans (le-of-eq (sym (mul-one (m * up e)))) (le-of-test h))
 
 pub not-over : (x : Float) (s : Bool) (a c : ℕ) → 0 < c → HasValue x s a c → a ≤ 709 * c → (#709 ≺ x) ≡ false
 unfolding lt ofBits
 not-over nan s a c p v h = refl
 not-over (inf r) s a c p v h = absurd v
 not-over (fin true m e) s a c p v h = refl
-not-over (fin false m e) s a c p v h = le-ltb _ _ (le-trans (le-of-eq (mul-one (m * up e))) (number-at-most m (up e) (down e) a c 709 p (v .1) h))
+not-over (fin false m e) s a c p v h =
+    le-ltb _ _ (le-trans (le-of-eq (mul-one (m * up e))) (number-at-most m (up e) (down e) a c 709 p (v .1) h))
 
 -- ---- -708
 
@@ -47,14 +49,16 @@ unfolding lt ofBits neg
 most-708 nan a c v h = absurd v
 most-708 (inf s) a c v h = absurd v
 most-708 (fin false m e) a c v h = absurd (false-not-true (v .0))
-most-708 (fin true m e) a c v h = scaled-at-most m (up e) (down e) a c 708 (down-pos e) (v .1) (le-trans (le-of-eq (sym (mul-one (m * up e)))) (le-of-test h))
+most-708 (fin true m e) a c v h =
+    scaled-at-most m (up e) (down e) a c 708 (down-pos e) (v .1) (le-trans (le-of-eq (sym (mul-one (m * up e)))) (le-of-test h))
 
 pub not-under : (x : Float) (s : Bool) (a c : ℕ) → 0 < c → HasValue x s a c → a ≤ 708 * c → (x ≺ neg #708) ≡ false
 unfolding lt ofBits neg
 not-under nan s a c p v h = refl
 not-under (inf r) s a c p v h = absurd v
 not-under (fin false m e) s a c p v h = refl
-not-under (fin true m e) s a c p v h = le-ltb _ _ (le-trans (le-of-eq (mul-one (m * up e))) (number-at-most m (up e) (down e) a c 708 p (v .1) h))
+not-under (fin true m e) s a c p v h =
+    le-ltb _ _ (le-trans (le-of-eq (mul-one (m * up e))) (number-at-most m (up e) (down e) a c 708 p (v .1) h))
 
 -- ---- both
 

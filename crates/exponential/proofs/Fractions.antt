@@ -1,8 +1,10 @@
--- A double from -708 to 709 as a fraction: the range of its fields, that it is a whole number of 2^-53 from ½ on, and that the steps do not depend on how the fraction is written. Assumes nothing.
+-- A double from -708 to 709 as a fraction: the range of its fields, that it is a whole number of 2^-53 from ½ on, and that the steps do not depend on
+-- how the fraction is written. Assumes nothing.
 use mathlib.Core.Path.{_≡_, sym, ap, _∙_}
 use mathlib.Core.Bool.{Bool, true, false, cond}
 use Prim.Native.Nat.{ℕ, zero, suc, _+_, _-_, _*_, _/_, _^_, _≤_, _<_}
-use native.Mathlib.Nat.{mul-comm, mul-div-mul-right, mul-lt-mul-of-pos-left, mul-lt-mul-of-pos-right, lt-of-mul-lt-mul-right, lt-of-lt-of-le, lt-trans, lt-of-not-le, eq-of-mul-eq-mul-right}
+use native.Mathlib.Nat.{mul-comm, mul-div-mul-right, mul-lt-mul-of-pos-left, mul-lt-mul-of-pos-right, lt-of-mul-lt-mul-right}
+use native.Mathlib.Nat.{lt-of-lt-of-le, lt-trans, lt-of-not-le, eq-of-mul-eq-mul-right}
 use native.Mathlib.Decide.{decLe}
 use native.Mathlib.Omega.{arith}
 use lib.Dec.{T, lit<}
@@ -74,7 +76,8 @@ fine-fields (suc j) t h = go (decLe (suc j) 1021)
     go (yes e) = low (mul-lt-mul-of-pos-left {k = 2} (lt-of-lt-of-le (shl-lt 53 j (digits t h)) (pow-mono {j = 1073} (small e))) (lit< tt))
     go (no e) =
         whole ((2 ^ 52 + t) * 2 ^ (j - 1021))
-        (ap (λ (x : ℕ). (2 ^ 52 + t) * x * 2 ^ 53) (ap (λ (x : ℕ). 2 ^ x) (back (lt-of-not-le e)) ∙ pow-add 2 (j - 1021) 1021) ∙ regroup (2 ^ 52 + t) (2 ^ (j - 1021)) (2 ^ 1021))
+        (ap (λ (x : ℕ). (2 ^ 52 + t) * x * 2 ^ 53) (ap (λ (x : ℕ). 2 ^ x) (back (lt-of-not-le e)) ∙ pow-add 2 (j - 1021) 1021)
+        ∙ regroup (2 ^ 52 + t) (2 ^ (j - 1021)) (2 ^ 1021))
 
 -- ---- the same fraction, written twice
 
@@ -93,7 +96,8 @@ module _ (a b A B : ℕ) (bp : 0 < b) (Bp : 0 < B) (same : a * B ≡ A * b) wher
   unfolding raised
   raised-same false =
       ap (λ (x : ℕ). home * 2048 + x)
-      (sym (mul-div-mul-right (a * 2 ^ 64) b Bp) ∙ ap (λ (x : ℕ). x / (b * B)) units-same ∙ ap (λ (x : ℕ). A * 2 ^ 64 * b / x) (mul-comm b B)
+      (sym (mul-div-mul-right (a * 2 ^ 64) b Bp) ∙ ap (λ (x : ℕ). x / (b * B)) units-same
+      ∙ ap (λ (x : ℕ). A * 2 ^ 64 * b / x) (mul-comm b B)
       ∙ mul-div-mul-right (A * 2 ^ 64) B bp)
   raised-same true =
       ap (λ (x : ℕ). home * 2048 - x)
@@ -112,7 +116,8 @@ same-value (fin i m e) s r a b A B h k =
 -- what the theorem needs of a fraction that x is
 pub record FractionOf (x : Float) (s : Bool) (a b : ℕ) : Type 0 where
   pub fine : Fine a b
-  pub same : raised s a b ≡ raised (signOf (toBits binary64 x)) (mag (fieldOf (toBits binary64 x)) (digitsOf (toBits binary64 x))) (2 ^ 1074)
+  pub same :
+      raised s a b ≡ raised (signOf (toBits binary64 x)) (mag (fieldOf (toBits binary64 x)) (digitsOf (toBits binary64 x))) (2 ^ 1074)
 
 pub written : (x : Float) → Between x → (s : Bool) (a b : ℕ) → 0 < b → HasValue x s a b → FractionOf x s a b
 written x is s a b bp v =

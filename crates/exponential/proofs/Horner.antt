@@ -1,7 +1,9 @@
--- The sum by Horner's rule against the exact one, term by term from the last: at each step two numbers are cut to whole units, and r is cut once. Assumes nothing.
+-- The sum by Horner's rule against the exact one, term by term from the last: at each step two numbers are cut to whole units, and r is cut once.
+-- Assumes nothing.
 use mathlib.Core.Path.{_≡_}
 use Prim.Native.Nat.{ℕ, zero, suc, _+_, _-_, _*_, _/_, _^_, _≤_, _<_}
-use native.Mathlib.Nat.{add-mul, le-trans, le-refl, le-of-eq, le-of-lt, lt-of-le-of-lt, add-le-add, mul-le-mul, mul-le-mul-left, mul-le-mul-right, le-of-mul-le-mul-right, div-mul-le-self, lt-div-mul-add, pow-succ', pow-zero, le-add-right}
+use native.Mathlib.Nat.{add-mul, le-trans, le-refl, le-of-eq, le-of-lt, lt-of-le-of-lt, add-le-add, mul-le-mul, mul-le-mul-left}
+use native.Mathlib.Nat.{mul-le-mul-right, le-of-mul-le-mul-right, div-mul-le-self, lt-div-mul-add, pow-succ', pow-zero, le-add-right}
 use native.Mathlib.Omega.{arith}
 use lib.Dec.{lit≤, lit<}
 use lib.Pow.{shr-mono}
@@ -63,8 +65,10 @@ unfolding lastTerms horner factorial
 horner-not-above p q r zero hd hr = rw (pow-zero q) (lit≤ tt)
 horner-not-above p q r (suc d) hd hr =
     rw (pow-succ' q d)
-    (step-not-above (2 ^ 64) (factorial 39) (2 ^ 62) (share (38 - d)) (coefficient (38 - d)) p q r (horner r d) (lastTerms p q d) (q ^ d) (r * horner r d / 2 ^ 64) (lit< tt)
-    (coefficient-not-above (38 - d) (omega arith)) hr (horner-not-above p q r d (omega arith) hr) (div-mul-le-self (r * horner r d) (2 ^ 64)))
+    (step-not-above (2 ^ 64) (factorial 39) (2 ^ 62) (share (38 - d)) (coefficient (38 - d)) p q r (horner r d) (lastTerms p q d) (q ^ d)
+    (r * horner r d / 2 ^ 64) (lit< tt)
+    (coefficient-not-above (38 - d) (omega arith)) hr (horner-not-above p q r d (omega arith) hr)
+    (div-mul-le-self (r * horner r d) (2 ^ 64)))
 
 -- r is at most 3 units of 2^-64 too small, which a sum below 2^63 turns into at most 2 of its units; each step cuts 2 more
 horner-not-below : (p q r d : ℕ) → d < 40 → p * 2 ^ 64 ≤ (r + 3) * q → p ≤ q → r ≤ thirdIn64
@@ -73,7 +77,8 @@ unfolding lastTerms horner factorial
 horner-not-below p q r zero hd hr hpq hm = rw (pow-zero q) (lit≤ tt)
 horner-not-below p q r (suc d) hd hr hpq hm =
     rw (pow-succ' q d, grow)
-    (step-not-below (2 ^ 64) (factorial 39) (2 ^ 62) (share (38 - d)) (coefficient (38 - d)) p q r (horner r d) (lastTerms p q d) (q ^ d) (r * horner r d / 2 ^ 64) 3 2 (1 + d * 4) (lit< tt)
+    (step-not-below (2 ^ 64) (factorial 39) (2 ^ 62) (share (38 - d)) (coefficient (38 - d)) p q r (horner r d) (lastTerms p q d) (q ^ d)
+    (r * horner r d / 2 ^ 64) 3 2 (1 + d * 4) (lit< tt)
     (coefficient-not-below (38 - d) (omega arith)) hr hpq (two (horner r d) (horner-most r d (omega arith) (omega arith)))
     (le-of-lt (lt-div-mul-add {a = r * horner r d} {b = 2 ^ 64} (lit< tt))) (horner-not-below p q r d (omega arith) hr hpq hm))
   where
@@ -92,11 +97,15 @@ from-one p q = le-add-right (factorial 39 * q ^ 39) (p * lastTerms p q 38)
 
 -- within 2^-44: 157 units of 39 steps and 512 of the rounding are far less than the 262144 that 2^-44 allows
 pub rounded : (p q r : ℕ) → r * q ≤ p * 2 ^ 64 → p * 2 ^ 64 ≤ (r + 3) * q → p ≤ q → r ≤ thirdIn64
-    → Within (2 ^ 44 * ((horner r 39 + 512) / 1024 * 1024 * (factorial 39 * q ^ 39))) (2 ^ 44 * (2 ^ 62 * lastTerms p q 39)) (2 ^ 62 * lastTerms p q 39)
+    → Within (2 ^ 44 * ((horner r 39 + 512) / 1024 * 1024 * (factorial 39 * q ^ 39))) (2 ^ 44 * (2 ^ 62 * lastTerms p q 39))
+    (2 ^ 62 * lastTerms p q 39)
 rounded p q r h₁ h₂ hpq hm =
-    go (horner r 39) (lastTerms p q 39) (factorial 39 * q ^ 39) (horner-not-above p q r 39 (lit< tt) h₁) (horner-not-below p q r 39 (lit< tt) h₂ hpq hm) (from-one p q)
+    go (horner r 39) (lastTerms p q 39) (factorial 39 * q ^ 39) (horner-not-above p q r 39 (lit< tt) h₁)
+    (horner-not-below p q r 39 (lit< tt) h₂ hpq hm) (from-one p q)
   where
-    go : (v t u : ℕ) → v * u ≤ 2 ^ 62 * t → 2 ^ 62 * t ≤ (v + 157) * u → u ≤ t → Within (2 ^ 44 * ((v + 512) / 1024 * 1024 * u)) (2 ^ 44 * (2 ^ 62 * t)) (2 ^ 62 * t)
+    go :
+        (v t u : ℕ) → v * u ≤ 2 ^ 62 * t → 2 ^ 62 * t ≤ (v + 157) * u → u ≤ t
+        → Within (2 ^ 44 * ((v + 512) / 1024 * 1024 * u)) (2 ^ 44 * (2 ^ 62 * t)) (2 ^ 62 * t)
     go v t u a b e =
         let n : ℕ = (v + 512) / 1024 * 1024 in
         let n≤ : n ≤ v + 512 = omega arith in

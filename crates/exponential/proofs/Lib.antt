@@ -10,3 +10,4 @@ pub mod Cases
 pub mod Fractions
 pub mod Bound
 pub mod AsWritten
+pub mod Agree

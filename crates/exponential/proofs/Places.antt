@@ -4,7 +4,9 @@ use mathlib.Core.Path.{_≡_, refl, sym, ap, _∙_}
 use mathlib.Core.Logic.{_⊎_, inl, inr}
 use mathlib.Core.Bool.{true, false}
 use Prim.Native.Nat.{ℕ, zero, _+_, _-_, _*_, _/_, _^_, _≤_, _<_}
-use native.Mathlib.Nat.{le-trans, le-of-eq, le-of-lt, lt-of-lt-of-le, lt-of-le-of-lt, mul-le-mul-right, mul-le-mul-left, mul-right-comm, mul-pos, mul-lt-mul-of-pos-left, mul-div-cancel, div-mul-le-self, lt-div-mul-add, div-le-of-le-mul, sub-add-cancel, eq-zero-or-pos, add-mul, one-mul, zero-mul}
+use native.Mathlib.Nat.{le-trans, le-of-eq, le-of-lt, lt-of-lt-of-le, lt-of-le-of-lt, mul-le-mul-right, mul-le-mul-left, mul-right-comm}
+use native.Mathlib.Nat.{mul-pos, mul-lt-mul-of-pos-left, mul-div-cancel, div-mul-le-self, lt-div-mul-add, div-le-of-le-mul, sub-add-cancel}
+use native.Mathlib.Nat.{eq-zero-or-pos, add-mul, one-mul, zero-mul}
 use native.Mathlib.Omega.{arith}
 use lib.Dec.{lit≤, lit<}
 use lib.Arith.{digits-div}
@@ -14,7 +16,8 @@ use Rattle.exponential.specs.Sum.{thirdNum, thirdDen, factorial}
 use Rattle.exponential.specs.Steps.{home, border, gap, placeOf, raised, rest, thirdIn64, horner, InRange, AtPlace}
 use Rattle.exponential.proofs.Horner.{lastTerms, rounded}
 use Rattle.exponential.proofs.Borders.{excess, excess-is, gap-not-above, gap-not-below, border-below-next, border-order, at-place}
-use Rattle.exponential.proofs.Remainder.{rest-not-above, rest-not-below, floor-from, floor-below, up-not-above, up-not-below, up-exact, down-not-above, down-not-below, down-exact, rest-most}
+use Rattle.exponential.proofs.Remainder.{rest-not-above, rest-not-below, floor-from, floor-below, up-not-above, up-not-below}
+use Rattle.exponential.proofs.Remainder.{up-exact, down-not-above, down-not-below, down-exact, rest-most}
 
 third-pos : 0 < thirdNum
 unfolding thirdNum
@@ -67,7 +70,8 @@ pub record Placed (b w U : ℕ) : Type 0 where
       (2 ^ 44 * (2 ^ 62 * lastTerms p (thirdDen * b) 39)) (2 ^ 62 * lastTerms p (thirdDen * b) 39)
 
 module _ (b w U : ℕ) (bp : 0 < b) (range : InRange (w / 2048))
-    (lo : w * (thirdDen * b) ≤ excess * b + U * 2 ^ 64) (hi : excess * b + U * 2 ^ 64 ≤ w * (thirdDen * b) + thirdDen * b) (kept : Kept b w U) where
+    (lo : w * (thirdDen * b) ≤ excess * b + U * 2 ^ 64) (hi : excess * b + U * 2 ^ 64 ≤ w * (thirdDen * b) + thirdDen * b)
+    (kept : Kept b w U) where
   abbrev k : ℕ
   k = placeOf (w / 2048)
 
@@ -122,9 +126,13 @@ module _ (b w U : ℕ) (bp : 0 < b) (range : InRange (w / 2048))
   found =
       let p : ℕ = U - k * thirdNum * b in
       let splits : U ≡ p + k * thirdNum * b = sym (sub-add-cancel from) in
-      let below : p < thirdNum * b = less (k * thirdNum * b) (thirdNum * b) ((k + 1) * thirdNum * b) (ap (λ (x : ℕ). x * b) (add-mul k 1 thirdNum ∙ ap (λ (x : ℕ). k * thirdNum + x) (one-mul thirdNum)) ∙ add-mul (k * thirdNum) thirdNum b) from under in
-      let lower = rest-not-above thirdNum thirdDen b (2 ^ 64) excess k (border k * 2048) (gap k) w U p (rest w k) rest-is lo splits (gap-not-above k inside) in
-      let upper = rest-not-below thirdNum thirdDen b (2 ^ 64) excess k (border k * 2048) (gap k) w U p (rest w k) rest-is hi splits (gap-not-below k inside) in
+      let below : p < thirdNum * b = less (k * thirdNum * b) (thirdNum * b) ((k + 1) * thirdNum * b)
+      (ap (λ (x : ℕ). x * b) (add-mul k 1 thirdNum ∙ ap (λ (x : ℕ). k * thirdNum + x) (one-mul thirdNum))
+      ∙ add-mul (k * thirdNum) thirdNum b) from under in
+      let lower = rest-not-above thirdNum thirdDen b (2 ^ 64) excess k (border k * 2048) (gap k) w U p (rest w k) rest-is lo splits
+      (gap-not-above k inside) in
+      let upper = rest-not-below thirdNum thirdDen b (2 ^ 64) excess k (border k * 2048) (gap k) w U p (rest w k) rest-is hi splits
+      (gap-not-below k inside) in
       let small = rest-most thirdNum thirdDen b (2 ^ 64) p (rest w k) thirdIn64 lower below (lit< tt) third-in-64 in
       record {
         p = p;
@@ -178,7 +186,8 @@ module _ (a b : ℕ) (bp : 0 < b) (most : a ≤ 709 * b) where
       go : (n : ℕ) → home ≤ (home * 2048 + n) / 2048
       go n = omega arith
   kept-up (whole n e) =
-      exact (back (f) n is) (up-exact thirdNum thirdDen b (2 ^ 64) excess (home * 2048) a (home * 2048 + f) (1024 * thirdNum * b + a * thirdDen) f excess-is refl refl (le-of-eq (units a b n e ∙ ap (λ (x : ℕ). x * b) (sym is))))
+      exact (back (f) n is) (up-exact thirdNum thirdDen b (2 ^ 64) excess (home * 2048) a (home * 2048 + f)
+      (1024 * thirdNum * b + a * thirdDen) f excess-is refl refl (le-of-eq (units a b n e ∙ ap (λ (x : ℕ). x * b) (sym is))))
     where
       is : f ≡ n * 2048
       is = ap (λ (x : ℕ). x / b) (units a b n e) ∙ mul-div-cancel (n * 2048) bp
@@ -190,8 +199,10 @@ module _ (a b : ℕ) (bp : 0 < b) (most : a ≤ 709 * b) where
   unfolding raised f
   up-found fine =
       found b (home * 2048 + f) (1024 * thirdNum * b + a * thirdDen) bp up-range
-      (up-not-above thirdNum thirdDen b (2 ^ 64) excess (home * 2048) a (home * 2048 + f) (1024 * thirdNum * b + a * thirdDen) f excess-is refl refl (div-mul-le-self (a * 2 ^ 64) b))
-      (up-not-below thirdNum thirdDen b (2 ^ 64) excess (home * 2048) a (home * 2048 + f) (1024 * thirdNum * b + a * thirdDen) f excess-is refl refl (le-of-lt (lt-div-mul-add {a = a * 2 ^ 64} bp)))
+      (up-not-above thirdNum thirdDen b (2 ^ 64) excess (home * 2048) a (home * 2048 + f) (1024 * thirdNum * b + a * thirdDen) f excess-is
+      refl refl (div-mul-le-self (a * 2 ^ 64) b))
+      (up-not-below thirdNum thirdDen b (2 ^ 64) excess (home * 2048) a (home * 2048 + f) (1024 * thirdNum * b + a * thirdDen) f excess-is
+      refl refl (le-of-lt (lt-div-mul-add {a = a * 2 ^ 64} bp)))
       (kept-up fine)
 
 module _ (a b : ℕ) (bp : 0 < b) (most : a ≤ 708 * b) where
@@ -226,7 +237,8 @@ module _ (a b : ℕ) (bp : 0 < b) (most : a ≤ 708 * b) where
       go n h = omega arith
 
   pub down-fits : a * thirdDen ≤ 1024 * thirdNum * b
-  down-fits = le-trans (mul-le-mul-right thirdDen most) (le-trans (le-of-eq (mul-right-comm 708 b thirdDen)) (mul-le-mul-right b end-in-range))
+  down-fits =
+      le-trans (mul-le-mul-right thirdDen most) (le-trans (le-of-eq (mul-right-comm 708 b thirdDen)) (mul-le-mul-right b end-in-range))
 
   taken : 1024 * thirdNum * b - a * thirdDen + a * thirdDen ≡ 1024 * thirdNum * b
   taken = sub-add-cancel down-fits
@@ -253,7 +265,8 @@ module _ (a b : ℕ) (bp : 0 < b) (most : a ≤ 708 * b) where
       at-whole : (n : ℕ) → a * 2 ^ 53 ≡ n * b → Kept b (home * 2048 - g) (1024 * thirdNum * b - a * thirdDen)
       at-whole n e =
           exact (back g n is g-in-range)
-          (down-exact thirdNum thirdDen b (2 ^ 64) excess (home * 2048) a (home * 2048 - g) (1024 * thirdNum * b - a * thirdDen) g excess-is sum-is taken (le-of-eq (ap (λ (x : ℕ). x * b) is ∙ sym (units a b n e))))
+          (down-exact thirdNum thirdDen b (2 ^ 64) excess (home * 2048) a (home * 2048 - g) (1024 * thirdNum * b - a * thirdDen) g excess-is
+          sum-is taken (le-of-eq (ap (λ (x : ℕ). x * b) is ∙ sym (units a b n e))))
         where
           is : g ≡ n * 2048
           is = ap (λ (x : ℕ). (x + (b - 1)) / b) (units a b n e) ∙ digits-div (n * 2048) {m = b} {r = b - 1} (pred b bp)
@@ -261,12 +274,15 @@ module _ (a b : ℕ) (bp : 0 < b) (most : a ≤ 708 * b) where
       go : Fine a b → (a ≡ zero) ⊎ (zero < a) → Kept b (home * 2048 - g) (1024 * thirdNum * b - a * thirdDen)
       go (whole n e) z = at-whole n e
       go (low l) (inl z) = at-whole 0 (ap (λ (x : ℕ). x * 2 ^ 53) z ∙ sym (zero-mul b))
-      go (low l) (inr p) = known 1023 (less _ _ _ taken (mul-pos p den-pos)) (room (border 1023) g border-before-home (g-most (2 ^ 63) (half l)))
+      go (low l) (inr p) =
+          known 1023 (less _ _ _ taken (mul-pos p den-pos)) (room (border 1023) g border-before-home (g-most (2 ^ 63) (half l)))
 
   pub down-found : Fine a b → Placed b (raised true a b) (1024 * thirdNum * b - a * thirdDen)
   unfolding raised g
   down-found fine =
       found b (home * 2048 - g) (1024 * thirdNum * b - a * thirdDen) bp down-range
-      (down-not-above thirdNum thirdDen b (2 ^ 64) excess (home * 2048) a (home * 2048 - g) (1024 * thirdNum * b - a * thirdDen) g excess-is sum-is taken (up-reaches (708 * 2 ^ 64) b (a * 2 ^ 64) bp end))
-      (down-not-below thirdNum thirdDen b (2 ^ 64) excess (home * 2048) a (home * 2048 - g) (1024 * thirdNum * b - a * thirdDen) g excess-is sum-is taken (le-of-lt (up-below (708 * 2 ^ 64) b (a * 2 ^ 64) bp end)))
+      (down-not-above thirdNum thirdDen b (2 ^ 64) excess (home * 2048) a (home * 2048 - g) (1024 * thirdNum * b - a * thirdDen) g excess-is
+      sum-is taken (up-reaches (708 * 2 ^ 64) b (a * 2 ^ 64) bp end))
+      (down-not-below thirdNum thirdDen b (2 ^ 64) excess (home * 2048) a (home * 2048 - g) (1024 * thirdNum * b - a * thirdDen) g excess-is
+      sum-is taken (le-of-lt (up-below (708 * 2 ^ 64) b (a * 2 ^ 64) bp end)))
       (kept-down fine)

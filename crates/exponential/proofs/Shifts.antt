@@ -2,7 +2,8 @@
 use mathlib.Core.Path.{_≡_, sym, ap, ap₂, _∙_}
 use mathlib.Core.Bool.{Bool, true, false, cond}
 use Prim.Native.Nat.{ℕ, zero, suc, _+_, _-_, _*_, _/_, _%_, _^_, _≤_, _<_}
-use native.Mathlib.Nat.{le-trans, le-of-eq, not-suc-le-zero, not-le-of-lt, lt-of-not-le, mul-assoc, mul-le-mul, mul-le-mul-right, le-of-mul-le-mul-right, le-add-right, mul-div-mul-right, mul-div-cancel, div-eq-of-lt, lt-of-lt-of-le}
+use native.Mathlib.Nat.{le-trans, le-of-eq, not-suc-le-zero, not-le-of-lt, lt-of-not-le, mul-assoc, mul-le-mul, mul-le-mul-right}
+use native.Mathlib.Nat.{le-of-mul-le-mul-right, le-add-right, mul-div-mul-right, mul-div-cancel, div-eq-of-lt, lt-of-lt-of-le}
 use native.Mathlib.Decide.{decLe}
 use native.Mathlib.Omega.{arith}
 use lib.Dec.{lit<, lit≤}
@@ -50,7 +51,9 @@ module _ (j t : ℕ) (h : suc j < 1022) where
 -- from ½ on it is a whole number of 2048 units
 whole-units : (j t : ℕ) → 1022 ≤ suc j → mag (suc j) t * 2 ^ 64 ≡ (2 ^ 52 + t) * 2 ^ (suc j - 1022) * 2048 * 2 ^ 1074
 unfolding mag
-whole-units j t h = ap (λ (x : ℕ). (2 ^ 52 + t) * x * 2 ^ 64) (ap (λ (x : ℕ). 2 ^ x) (sum j h) ∙ pow-add 2 (suc j - 1022) 1021) ∙ go (2 ^ (suc j - 1022)) (2 ^ 1021)
+whole-units j t h =
+    ap (λ (x : ℕ). (2 ^ 52 + t) * x * 2 ^ 64) (ap (λ (x : ℕ). 2 ^ x) (sum j h) ∙ pow-add 2 (suc j - 1022) 1021)
+    ∙ go (2 ^ (suc j - 1022)) (2 ^ 1021)
   where
     sum : (j : ℕ) → 1022 ≤ suc j → j ≡ suc j - 1022 + 1021
     sum j h = omega arith
@@ -70,7 +73,8 @@ field-most (suc f) t n hn h = pick (decLe (suc f) 1032)
     pick (yes e) = e
     pick (no e) =
         absurd (not-le-of-lt (lit< tt)
-        (le-trans (mul-le-mul (le-add-right (2 ^ 52) t) (pow-mono {i = 1032} (less (lt-of-not-le e)))) (le-trans h (mul-le-mul-right (2 ^ 1074) hn))))
+        (le-trans (mul-le-mul (le-add-right (2 ^ 52) t) (pow-mono {i = 1032} (less (lt-of-not-le e))))
+        (le-trans h (mul-le-mul-right (2 ^ 1074) hn))))
       where
         less : {g : ℕ} → 1032 < suc g → 1032 ≤ g
         less u = omega arith
@@ -142,7 +146,8 @@ high-positive zero t n l e = absurd (not-suc-le-zero l)
 high-positive (suc j) t n l e =
     up-whole-point n
     ∙ ap (λ (x : ℕ). pointOf (home * 2048 + x))
-    (ap (λ (x : ℕ). x * 2048) e ∙ sym (ap (λ (x : ℕ). x / 2 ^ 1074) (whole-units j t l) ∙ mul-div-cancel ((2 ^ 52 + t) * 2 ^ (suc j - 1022) * 2048) (pow-pos 1074)))
+    (ap (λ (x : ℕ). x * 2048) e ∙ sym (ap (λ (x : ℕ). x / 2 ^ 1074) (whole-units j t l)
+    ∙ mul-div-cancel ((2 ^ 52 + t) * 2 ^ (suc j - 1022) * 2048) (pow-pos 1074)))
 
 pub high-negative : (f t n : ℕ) → 1022 ≤ f → n ≤ home → n ≡ (2 ^ 52 + t) * 2 ^ (f - 1022)
     → record { whole = home - n; part = 0 } ≡ pointOf (raised true (mag f t) (2 ^ 1074))
@@ -152,4 +157,5 @@ high-negative (suc j) t n l h e =
     down-whole-point n h
     ∙ ap (λ (x : ℕ). pointOf (home * 2048 - x))
     (ap (λ (x : ℕ). x * 2048) e
-    ∙ sym (ap (λ (x : ℕ). (x + (2 ^ 1074 - 1)) / 2 ^ 1074) (whole-units j t l) ∙ digits-div ((2 ^ 52 + t) * 2 ^ (suc j - 1022) * 2048) {m = 2 ^ 1074} {r = 2 ^ 1074 - 1} (lit< tt)))
+    ∙ sym (ap (λ (x : ℕ). (x + (2 ^ 1074 - 1)) / 2 ^ 1074) (whole-units j t l)
+    ∙ digits-div ((2 ^ 52 + t) * 2 ^ (suc j - 1022) * 2048) {m = 2 ^ 1074} {r = 2 ^ 1074 - 1} (lit< tt)))

@@ -1,4 +1,5 @@
-// The exponential: 2^j times a sum, with x = j·S(1/3) + r. The rest r is kept to 2^-64 and the sum to 2^-62, in whole numbers; the answer is rounded once, at the end.
+// The exponential: 2^j times a sum, with x = j·S(1/3) + r. The rest r is kept to 2^-64 and the sum to 2^-62, in whole numbers; the answer is rounded
+// once, at the end.
 ghost use mathlib.Core.Path.{_≡_};
 ghost use Prim.Native.Nat.{_+_, _*_, _^_, _≤_, _<_};
 ghost use Rattle.exponential.specs.Steps.{composed, expAt, expOf, InRange};

@@ -1,6 +1,5 @@
 // Which multiple of S(1/3) a number lies over, and by how much. All is raised by 1024·S(1/3), so that nothing is below 0.
 ghost use mathlib.Core.Path.{_≡_};
-ghost use mathlib.Core.Bool.{Bool};
 ghost use Prim.Native.Nat.{_+_, _*_, _^_, _/_, _≤_, _<_};
 ghost use Rattle.double.specs.Fields.{mag};
 ghost use Rattle.exponential.specs.Steps.{border, placeOf, rest, raised, pointOf, InRange, AtPlace, NormalFields};

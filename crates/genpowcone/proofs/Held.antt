@@ -1,20 +1,22 @@
--- The statements of specs/Places, by the laws of arrays written place by place: a place behind the last written one holds the +0 it began with. Assumes nothing.
+-- The statements of specs/Places, by the laws of arrays written place by place: a place behind the last written one holds the +0 it began with.
+-- Assumes nothing.
 use Prim.Native.Nat.{ℕ, _+_, _≤_, _<_, min}
-use mathlib.Core.Path.{_≡_, refl, sym, subst, _∙_}
+use mathlib.Core.Path.{_≡_, sym, subst, _∙_}
 use mathlib.Core.Bool.{Bool, true, false, cond}
 use mathlib.Core.List.{List}
 use native.Mathlib.Omega.{arith}
-use lib.ListN.{length, take, drop, length-take, length-drop, getD-replicate}
+use lib.ListN.{length, drop, length-take, length-drop, getD-replicate}
 use lib.Ieee.{Float, nan}
-use Rattle.double.specs.Operators.{_⊖_, _⊗_, _⊘_, _≺_, at}
-use Rattle.double.specs.Numbers.{#0, #2}
+use Rattle.double.specs.Operators.{_⊖_, _⊗_, _≺_, at}
+use Rattle.double.specs.Numbers.{#0}
 use Rattle.algebra.specs.Vectors.{sumsqOf}
 use Rattle.cone.specs.Fresh.{noWide}
 use Rattle.cone.specs.declared.Wide.{Wide}
 use Rattle.genpowcone_loops.specs.Folds.{dualPhi}
-use Rattle.genpowcone_loops.specs.Places.{wide, withTail, narrow, timesAt, scaledAt, constantAt, tauAt, gradAt, d1At, headsOf}
-use Rattle.genpowcone_loops.proofs.Arrays.{narrow-behind, wide-behind, wide-within, wide-length, withTail-before, withTail-behind, withTail-within}
-use Rattle.genpowcone.specs.Rank3.{getHsOf, coefficientsOf, pOf, qOf, rank3At}
+use Rattle.genpowcone_loops.specs.Places.{wide, withTail, timesAt, constantAt, headsOf}
+use Rattle.genpowcone_loops.proofs.Arrays.{narrow-behind, wide-behind, wide-within, wide-length, withTail-before, withTail-behind}
+use Rattle.genpowcone_loops.proofs.Arrays.{withTail-within}
+use Rattle.genpowcone.specs.Rank3.{getHsOf, pOf, qOf, rank3At}
 use Rattle.genpowcone.specs.DualGradient.{gradHAt, updateDualGradHOf}
 use Rattle.genpowcone.specs.Places.{HsPlaces, UnusedZero}
 use Rattle.genpowcone.specs.declared.GradH.{GradH}

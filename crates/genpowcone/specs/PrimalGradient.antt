@@ -51,5 +51,5 @@ gradientPrimalOf α s w =
     let norm = normOf (drop (length α) s) in
     cond
     (#ε ≺ norm)
-    (gradientAt α p w norm (newtonRaphsonGenpowconeOf norm p (primalPhi α s) α (psiOf α)))
+    (gradientAt α p w norm (newtonRaphsonGenpowconeOf norm p (primalPhi α p) α (psiOf α)))
     (flatGradient α p)

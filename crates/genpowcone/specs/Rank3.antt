@@ -8,7 +8,8 @@ use Rattle.double.specs.Numbers.{#0, #2}
 use Rattle.kernels.specs.Door.{sqrtOf}
 use Rattle.algebra.specs.Vectors.{dotOf}
 use Rattle.cone.specs.declared.Wide.{Wide}
-use Rattle.genpowcone_loops.specs.Places.{narrow, wide, withTail, timesAt, scaledAt, constantAt, headsOf, d1At, productHeadAt, productTailAt, finishedAt}
+use Rattle.genpowcone_loops.specs.Places.{narrow, wide, withTail, timesAt, scaledAt, constantAt, headsOf, d1At, productHeadAt}
+use Rattle.genpowcone_loops.specs.Places.{productTailAt, finishedAt}
 use Rattle.genpowcone.specs.declared.Coefficients.{Coefficients}
 
 -- 002 update_dual_grad_H: p0, p1, q0 and r1, with n2 = norm2w
@@ -54,11 +55,15 @@ rank3At α z φ n2 =
 unfoldable pub getHsOf : Float → List Float → Float → ℕ → List Float
 getHsOf μ d1 d2 dim2 = withTail (wide (timesAt μ d1) (length d1)) (length d1) (constantAt (μ ⊗ d2)) dim2
 
--- 002 mul_Hs by the record's numbers w
-unfoldable pub mulHsOf : Wide → ℕ → List Float → List Float
-mulHsOf w dim1 x =
+-- 002 mul_Hs, with the record's numbers one by one
+unfoldable pub mulHsAt : List Float → List Float → List Float → List Float → Float → Float → ℕ → List Float → List Float
+mulHsAt p q r d1 d2 μ dim1 x =
     let x1 = take dim1 x in
     let x2 = drop dim1 x in
-    let y1 = wide (productHeadAt (w .d1) (w .q) (dotOf (w .q) x1) x1) (length x1) in
-    let y = withTail y1 dim1 (productTailAt (w .d2) (w .r) (dotOf (w .r) x2) x2) (length x2) in
-    wide (finishedAt y (dotOf (w .p) x) (w .p) (w .mu)) (length x)
+    let y1 = wide (productHeadAt d1 q (dotOf q x1) x1) (length x1) in
+    let y = withTail y1 dim1 (productTailAt d2 r (dotOf r x2) x2) (length x2) in
+    wide (finishedAt y (dotOf p x) p μ) (length x)
+
+-- 002 mul_Hs by the record's numbers w
+unfoldable pub mulHsOf : Wide → ℕ → List Float → List Float
+mulHsOf w dim1 x = mulHsAt (w .p) (w .q) (w .r) (w .d1) (w .d2) (w .mu) dim1 x

@@ -6,13 +6,15 @@
 // `alpha` is the slice of the exponents in use, so dim1 is its length. Arrays that are handed back have 64 or 32 places; those behind
 // the used ones are +0.
 ghost use mathlib.Core.Path.{_≡_};
+ghost use Rattle.newton.specs.Equations.{genF0At, genF1};
+ghost use Rattle.newton.specs.Rounds.{newtonOf};
 ghost use Prim.Native.Nat.{_+_, _≤_};
 ghost use lib.ListN.{length};
 ghost use Rattle.genpowcone.specs.Feasible.{residueAt, primalResidue, dualResidue, primalFeasible, dualFeasible};
-ghost use Rattle.genpowcone.specs.PrimalGradient.{unitInitializationOf, newtonRaphsonGenpowconeOf, gradientAt, gradientPrimalOf};
+ghost use Rattle.genpowcone.specs.PrimalGradient.{unitInitializationOf, x0Of, gradientAt, gradientPrimalOf};
 ghost use Rattle.genpowcone.specs.Barriers.{barrierDualOf, barrierPrimalAt, barrierPrimalOf, computeBarrierOf};
 ghost use Rattle.genpowcone.specs.DualGradient.{updateDualGradHOf};
-ghost use Rattle.genpowcone.specs.Rank3.{getHsOf, mulHsOf, coefficientsOf, pOf, qOf, rank3At};
+ghost use Rattle.genpowcone.specs.Rank3.{getHsOf, mulHsAt, coefficientsOf, pOf, qOf, rank3At};
 use algebra::vector::dot;
 use algebra::vector::head;
 use algebra::vector::norm;
@@ -21,6 +23,7 @@ use algebra::vector::sumsq;
 use algebra::vector::tail;
 use cone::Wide;
 use cone::no_wide;
+use double::EPSILON;
 use genpowcone_loops::folds::all_above_zero;
 use genpowcone_loops::folds::dual_log_sum;
 use genpowcone_loops::folds::dual_phi;
@@ -36,12 +39,12 @@ use genpowcone_loops::places::negated;
 use genpowcone_loops::places::product_finished;
 use genpowcone_loops::places::product_head;
 use genpowcone_loops::places::product_tail;
+use genpowcone_loops::places::ratios;
 use genpowcone_loops::places::scale32;
 use genpowcone_loops::places::set_tail;
 use genpowcone_loops::places::tau_and_grad;
-use genpowcone_loops::places::times_tail;
+use genpowcone_loops::places::times_from;
 use genpowcone_loops::places::times32;
-use genpowcone_loops::places::times64;
 use genpowcone_loops::places::unit_head;
 use kernels::exp;
 use kernels::log;
@@ -49,8 +52,6 @@ use kernels::sqrt;
 use newton::Equation;
 use newton::Found;
 use newton::newton_raphson_onesided;
-
-const EPSILON: f64 = 2.220446049250313e-16;
 
 // What a cone test compares, with the two numbers that it is the difference of: res = power - square.
 pub struct Residue {
@@ -92,29 +93,34 @@ pub fn get_hs(mu: f64, d1: &[f64], d2: f64, dim2: usize) -> [f64; 64]
     requires { ⌜ length (now d1) + dim2 ≤ 64 ⌝ }
     ensures { λ r. ⌜ r ≡ getHsOf mu (now (d1 .entry)) d2 dim2 ⌝ }
 {
-    let block = times64(mu, d1);
+    let block = times_from([0.0; 64], 0, mu, d1);
     set_tail(block, d1.len(), dim2, mu * d2)
 }
 
-// Hs = μ*(D + pp' -qq' -rr')
-pub fn mul_hs(wide: Wide, dim1: usize, x: &[f64]) -> [f64; 64]
+// Hs = μ*(D + pp' -qq' -rr'). One lifetime for the lists: a caller lends them from one record.
+pub fn mul_hs<'a>(
+    p: &'a [f64; 64],
+    q: &'a [f64; 32],
+    r: &'a [f64; 32],
+    d1: &'a [f64; 32],
+    d2: f64,
+    mu: f64,
+    dim1: usize,
+    x: &[f64],
+) -> [f64; 64]
     requires { ⌜ (dim1 ≤ 32) × (length (now x) ≤ dim1 + 32) ⌝ }
-    ensures { λ r. ⌜ r ≡ mulHsOf wide dim1 (now (x .entry)) ⌝ }
+    ensures { λ y. ⌜ y ≡ mulHsAt (now (p .entry)) (now (q .entry)) (now (r .entry)) (now (d1 .entry)) d2 mu dim1 (now (x .entry)) ⌝ }
 {
-    let p = wide.p;
-    let q = wide.q;
-    let r = wide.r;
-    let d1 = wide.d1;
     let x1 = head(x, dim1);
     let x2 = tail(x, dim1);
 
-    let coef_p = dot(&p, x);
-    let coef_q = dot(&q, x1);
-    let coef_r = dot(&r, x2);
+    let coef_p = dot(p, x);
+    let coef_q = dot(q, x1);
+    let coef_r = dot(r, x2);
 
     let y1 = product_head(d1, q, coef_q, x1);
-    let y = product_tail(y1, dim1, wide.d2, r, coef_r, x2);
-    product_finished(y, x.len(), coef_p, p, wide.mu)
+    let y = product_tail(y1, dim1, d2, r, coef_r, x2);
+    product_finished(&y, x.len(), coef_p, p, mu)
 }
 
 // step is the Rust's α, the length of the step from z and s; w is the tail that gradient_primal takes.
@@ -128,7 +134,8 @@ pub fn compute_barrier(
     w: &[f64],
 ) -> f64
     requires { ⌜ (length (now alpha) + length (now w) ≤ 64) × (length (now s) ≤ 64) × (length (now z) ≤ 64) ⌝ }
-    ensures { λ r. ⌜ r ≡ computeBarrierOf (now (alpha .entry)) (now (z .entry)) (now (s .entry)) (now (dz .entry)) (now (ds .entry)) step (now (w .entry)) ⌝ }
+    ensures { λ r. ⌜ r ≡ computeBarrierOf (now (alpha .entry)) (now (z .entry)) (now (s .entry))
+        (now (dz .entry)) (now (ds .entry)) step (now (w .entry)) ⌝ }
 {
     let cur_s = moved(s, step, ds);
     let ns = shorter(s.len(), ds.len());
@@ -203,14 +210,14 @@ pub fn barrier_primal(alpha: &[f64], s: &[f64], w: &[f64]) -> f64
 {
     let f = gradient_primal(alpha, s, w);
     let g = f.g;
-    barrier_primal_at(alpha, g, s.len())
+    barrier_primal_at(alpha, &g, s.len())
 }
 
 // barrier_primal from the gradient on, of which n places are in use
-fn barrier_primal_at(alpha: &[f64], g: [f64; 64], n: usize) -> f64
-    ensures { λ r. ⌜ r ≡ barrierPrimalAt (now (alpha .entry)) g n ⌝ }
+fn barrier_primal_at(alpha: &[f64], g: &[f64; 64], n: usize) -> f64
+    ensures { λ r. ⌜ r ≡ barrierPrimalAt (now (alpha .entry)) (now (g .entry)) n ⌝ }
 {
-    let used = head(&g, n);
+    let used = head(g, n);
     let minus_g = negated(used); //-g(s)
     let barrier = barrier_dual(alpha, head(&minus_g, used.len()));
     let degree = alpha.len() as u64 + 1;
@@ -258,17 +265,17 @@ fn rank3(alpha: &[f64], z: &[f64], phi: f64, norm2w: f64) -> Wide
     let heads = tau_and_grad(alpha, z, phi, zeta);
     let tau = heads.tau;
     let grad1 = heads.grad;
-    let grad = times_tail(grad1, dim1, 2.0 / zeta, w);
+    let grad = times_from(grad1, dim1, 2.0 / zeta, w);
 
     // compute Hessian information at z
     let c = coefficients_of(phi, norm2w);
 
     // compute the diagonal d1,d2
-    let d1 = diagonal(alpha, z, tau, phi, zeta);
+    let d1 = diagonal(alpha, z, &tau, phi, zeta);
 
     // compute p, q, r; in the Rust τ shares memory with q
-    let p = p_of(tau, dim1, c.p0 / zeta, w, c.p1 / zeta);
-    let q = q_of(tau, dim1, c.q0 / zeta);
+    let p = p_of(&tau, dim1, c.p0 / zeta, w, c.p1 / zeta);
+    let q = q_of(&tau, dim1, c.q0 / zeta);
     let r = times32(c.r1 / zeta, w);
     Wide {
         z: [0.0; 64],
@@ -294,18 +301,18 @@ fn coefficients_of(phi: f64, norm2w: f64) -> Coefficients
 }
 
 // c0 times τ, then c1 times the tail w
-fn p_of(tau: [f64; 32], dim1: usize, c0: f64, w: &[f64], c1: f64) -> [f64; 64]
+fn p_of(tau: &[f64; 32], dim1: usize, c0: f64, w: &[f64], c1: f64) -> [f64; 64]
     requires { ⌜ dim1 + length (now w) ≤ 64 ⌝ }
-    ensures { λ r. ⌜ r ≡ pOf tau dim1 c0 (now (w .entry)) c1 ⌝ }
+    ensures { λ r. ⌜ r ≡ pOf (now (tau .entry)) dim1 c0 (now (w .entry)) c1 ⌝ }
 {
-    let p = times64(c0, head(&tau, dim1));
-    times_tail(p, dim1, c1, w)
+    let p = times_from([0.0; 64], 0, c0, head(tau, dim1));
+    times_from(p, dim1, c1, w)
 }
 
-fn q_of(tau: [f64; 32], dim1: usize, c: f64) -> [f64; 32]
-    ensures { λ r. ⌜ r ≡ qOf tau dim1 c ⌝ }
+fn q_of(tau: &[f64; 32], dim1: usize, c: f64) -> [f64; 32]
+    ensures { λ r. ⌜ r ≡ qOf (now (tau .entry)) dim1 c ⌝ }
 {
-    scale32(head(&tau, dim1), c)
+    scale32(head(tau, dim1), c)
 }
 
 // Compute the primal gradient of f(s) at s. Its tail is g1/norm_r times w, which is the record's r
@@ -313,16 +320,20 @@ pub fn gradient_primal(alpha: &[f64], s: &[f64], w: &[f64]) -> Gradient
     requires { ⌜ length (now alpha) + length (now w) ≤ 64 ⌝ }
     ensures { λ r. ⌜ r ≡ gradientPrimalOf (now (alpha .entry)) (now (s .entry)) (now (w .entry)) ⌝ }
 {
+    // the logarithms of the heads are taken once: the powers of phi need them, and so does each of Newton's rounds
+    let p = head(s, alpha.len());
+    let logs_of_p = logarithms(p);
+    let logs = head(&logs_of_p, p.len());
+
     // unscaled phi
-    let phi = primal_phi(alpha, s);
+    let phi = primal_phi(alpha, p, logs);
 
     // obtain g1 from the Newton-Raphson method
-    let p = head(s, alpha.len());
     let norm_r = norm(tail(s, alpha.len()));
 
     if norm_r > EPSILON {
         let psi = 1.0 / sumsq(alpha);
-        let found = newton_raphson_genpowcone(norm_r, p, phi, alpha, psi);
+        let found = newton_raphson_genpowcone(norm_r, logs, phi, alpha, psi);
         gradient_from(alpha, p, w, norm_r, found)
     } else {
         let g = gradient_flat_head(alpha, p);
@@ -337,7 +348,7 @@ fn gradient_from(alpha: &[f64], p: &[f64], w: &[f64], normr: f64, found: Found) 
 {
     let g1 = found.x;
     let gp = gradient_head(alpha, p, g1, normr);
-    let g = times_tail(gp, alpha.len(), g1 / normr, w);
+    let g = times_from(gp, alpha.len(), g1 / normr, w);
     Gradient {
         g,
         rounds: found.rounds,
@@ -352,20 +363,24 @@ fn gradient_from(alpha: &[f64], p: &[f64], w: &[f64], normr: f64, found: Found) 
 // x(k+1) = x(k) - f(x(k))/f'(x(k))
 // When we initialize x0 such that 0 < x0 < x* and f(x0) > 0,
 // the Newton-Raphson method converges quadratically
-fn newton_raphson_genpowcone(normr: f64, p: &[f64], phi: f64, alpha: &[f64], psi: f64) -> Found
-    requires { ⌜ length (now p) ≤ 64 ⌝ }
-    ensures { λ r. ⌜ r ≡ newtonRaphsonGenpowconeOf normr (now (p .entry)) phi (now (alpha .entry)) psi ⌝ }
+//
+// logs are the logarithms of the Rust's p.
+fn newton_raphson_genpowcone(normr: f64, logs: &[f64], phi: f64, alpha: &[f64], psi: f64) -> Found
+    requires { ⌜ length (now alpha) ≤ 64 ⌝ }
+    ensures { λ r. ⌜ r ≡ newtonOf (genF0At normr (now (alpha .entry)) (now (logs .entry)))
+        (genF1 normr (now (alpha .entry))) (x0Of normr phi psi) ⌝ }
 {
     // init point x0: f(x0) > 0
     let x0 = -(1.0 / normr)
         + (psi * normr + sqrt((phi / normr / normr + psi * psi - 1.0) * phi))
             / (phi - normr * normr);
 
-    let logs = logarithms(p);
+    let ratios_of_alpha = ratios(alpha);
     newton_raphson_onesided(
         x0,
         Equation::Generalized(normr),
         alpha,
-        head(&logs, p.len()),
+        head(&ratios_of_alpha, alpha.len()),
+        logs,
     )
 }

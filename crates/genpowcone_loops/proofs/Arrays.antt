@@ -2,12 +2,12 @@
 -- In order: put (from the front), putFrom (from place n on), by them narrow, wide and withTail; then arrays whose used places are a list that has a name:
 -- -x, log x, and x + a·dx.
 use Prim.Native.Nat.{ℕ, zero, suc, _+_, _≤_, _<_, min}
-use mathlib.Core.Path.{_≡_, refl, sym, subst, _∙_}
+use mathlib.Core.Path.{_≡_, refl, sym, subst, _∙_, ap}
 use mathlib.Core.List.{List, map}
 use mathlib.Core.Logic.{_⊎_, inl, inr}
-use native.Mathlib.Nat.{not-suc-le-zero, eq-or-lt-of-le, le-of-suc-le-suc}
+use native.Mathlib.Nat.{zero-add, not-suc-le-zero, eq-or-lt-of-le, le-of-suc-le-suc}
 use native.Mathlib.Omega.{arith}
-use lib.ListN.{length, take, set, replicate, length-set, length-take, length-map, length-replicate, getD-replicate, List·getD-map}
+use lib.ListN.{length, getD, take, set, replicate, length-set, length-take, length-map, length-replicate, getD-replicate, List·getD-map}
 use lib.Seq.{getD-set-same, getD-set-other, getD-take, ext-getD}
 use lib.Ieee.{Float, nan, neg, isNan}
 use Rattle.arith.specs.Turns.{iter}
@@ -107,10 +107,22 @@ module _ (g : List Float) (n : ℕ) (f : ℕ → Float) (m : ℕ) where
   unfolding withTail
   withTail-within j h l = putFrom-within n f g m j h l
 
+-- from place 0 on is from the front
+turns-from-first : (f : ℕ → Float) (g : List Float) (n : ℕ) → iter (putFrom 0 f) g n ≡ iter (put f) g n
+unfolding iter
+turns-from-first f g zero = refl
+turns-from-first f g (suc n) = rw (zero-add, turns-from-first f g n)
+
+pub from-first : (f : ℕ → Float) (n : ℕ) → withTail (replicate 64 #0) 0 f n ≡ wide f n
+unfolding wide withTail
+from-first f n = turns-from-first f (replicate 64 #0) n
+
 -- ---- the used places as a list
 
 -- a list whose places are f's stands in front of the array that f filled
-pub wide-front : (f : ℕ → Float) (xs : List Float) → length xs ≤ 64 → ((i : ℕ) → i < length xs → f i ≡ at xs i) → take (length xs) (wide f (length xs)) ≡ xs
+pub wide-front :
+    (f : ℕ → Float) (xs : List Float) → length xs ≤ 64 → ((i : ℕ) → i < length xs → f i ≡ at xs i)
+    → take (length xs) (wide f (length xs)) ≡ xs
 wide-front f xs fits same =
     ext-getD nan front xs front-length
     (λ i h.
@@ -126,20 +138,23 @@ wide-front f xs fits same =
     front-length : length front ≡ n
     front-length = simp (length-take, wide-length f n) (omega arith)
 
+-- f of each number; what stands behind the list does not matter, since f of a NaN is a NaN
+pub map-front
+    : (f : Float → Float)
+    → f nan ≡ nan
+    → (xs : List Float) → length xs ≤ 64 → take (length xs) (wide (λ (i : ℕ). f (at xs i)) (length xs)) ≡ map f xs
+map-front f e xs fits =
+    subst (λ (n : ℕ). take n (wide (λ (i : ℕ). f (at xs i)) n) ≡ map f xs) (length-map xs f)
+    (wide-front (λ (i : ℕ). f (at xs i)) (map f xs) (subst (λ (n : ℕ). n ≤ 64) (sym (length-map xs f)) fits)
+    (λ i h. sym (ap (λ (d : Float). getD (map f xs) i d) (sym e) ∙ List·getD-map f xs i nan)))
+
 pub negated-front : (xs : List Float) → length xs ≤ 64 → take (length xs) (wide (negatedAt xs) (length xs)) ≡ map neg xs
 unfolding neg
-negated-front xs fits =
-    subst (λ (n : ℕ). take n (wide (negatedAt xs) n) ≡ map neg xs) (length-map xs neg)
-    (wide-front (negatedAt xs) (map neg xs) (subst (λ (n : ℕ). n ≤ 64) (sym (length-map xs neg)) fits)
-    (λ i h. sym (List·getD-map neg xs i nan)))
+negated-front = map-front neg refl
 
--- what stands behind the list does not matter: log of a NaN is a NaN
 pub logs-front : (xs : List Float) → length xs ≤ 64 → take (length xs) (wide (logAt xs) (length xs)) ≡ map logOf xs
 unfolding logOf isNan
-logs-front xs fits =
-    subst (λ (n : ℕ). take n (wide (logAt xs) n) ≡ map logOf xs) (length-map xs logOf)
-    (wide-front (logAt xs) (map logOf xs) (subst (λ (n : ℕ). n ≤ 64) (sym (length-map xs logOf)) fits)
-    (λ i h. sym (List·getD-map logOf xs i nan)))
+logs-front = map-front logOf refl
 
 pub moved-front
     : (x : List Float) (a : Float) (dx : List Float)

@@ -37,12 +37,12 @@ lessLogsTurn α z i t = t ⊖ logOf (at z i) ⊗ (#1 ⊖ at α i)
 unfoldable pub lessLogs : Float → List Float → List Float → Float
 lessLogs b α z = iter (lessLogsTurn α z) b (min (length α) (length z))
 
--- 002 gradient_primal, unscaled phi: Π sᵢ^2αᵢ from 1
+-- 002 gradient_primal, unscaled phi: Π pᵢ^2αᵢ from 1, over the point's head p
 abbrev pub primalPhiTurn : List Float → List Float → ℕ → Float → Float
-primalPhiTurn α s i t = t ⊗ powfOf (at s i) (#2 ⊗ at α i)
+primalPhiTurn α p i t = t ⊗ powfOf (at p i) (#2 ⊗ at α i)
 
 unfoldable pub primalPhi : List Float → List Float → Float
-primalPhi α s = iter (primalPhiTurn α s) #1 (min (length α) (length s))
+primalPhi α p = iter (primalPhiTurn α p) #1 (min (length α) (length p))
 
 -- 002 update_dual_grad_H, phi: Π (zᵢ/αᵢ)^2αᵢ from 1
 abbrev pub dualPhiTurn : List Float → List Float → ℕ → Float → Float

@@ -50,6 +50,10 @@ movedAt x a dx i = at x i ⊕ a ⊗ at dx i
 abbrev pub logAt : List Float → ℕ → Float
 logAt x i = logOf (at x i)
 
+-- place i of the ratios (1 + x)/x
+abbrev pub ratioAt : List Float → ℕ → Float
+ratioAt x i = (#1 ⊕ at x i) ⊘ at x i
+
 -- 002 unit_initialization, the head
 abbrev pub unitAt : List Float → ℕ → Float
 unitAt α i = sqrtOf (#1 ⊕ at α i)

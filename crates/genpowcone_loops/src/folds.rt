@@ -1,8 +1,11 @@
 // Sums and products over the head of a point. Each runs over the shorter of its two lists, as the Rust's zip does.
 ghost use mathlib.Core.Path.{_≡_};
+ghost use mathlib.Core.List.{map};
+ghost use Rattle.kernels.specs.Door.{logOf};
 ghost use Rattle.genpowcone_loops.specs.Folds.{allAboveZero, primalLogSum, dualLogSum, lessLogs, primalPhi, dualPhi};
 use algebra::vector::shorter;
 use kernels::log;
+use kernels::power;
 use kernels::powf;
 
 // Whether every number is above 0. The Rust's `all` stops at the first that is not; the answer is the same.
@@ -51,13 +54,15 @@ pub fn less_logs(start: f64, alpha: &[f64], z: &[f64]) -> f64
     barrier
 }
 
-pub fn primal_phi(alpha: &[f64], s: &[f64]) -> f64
-    ensures { λ r. ⌜ r ≡ primalPhi (now (alpha .entry)) (now (s .entry)) ⌝ }
+// p is the head of the point, and logs are its logarithms, which the Rust's powf takes for itself.
+pub fn primal_phi(alpha: &[f64], p: &[f64], logs: &[f64]) -> f64
+    requires { ⌜ now logs ≡ map logOf (now p) ⌝ }
+    ensures { λ r. ⌜ r ≡ primalPhi (now (alpha .entry)) (now (p .entry)) ⌝ }
 {
-    let n = shorter(alpha.len(), s.len());
+    let n = shorter(alpha.len(), p.len());
     let mut phi = 1.0;
     for i in 0..n {
-        phi = phi * powf(s[i], 2.0 * alpha[i]);
+        phi = phi * power(p[i], 2.0 * alpha[i], logs[i]);
     }
     phi
 }

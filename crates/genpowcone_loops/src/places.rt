@@ -2,23 +2,14 @@
 ghost use mathlib.Core.Path.{_≡_};
 ghost use Prim.Native.Nat.{_+_, _≤_, min};
 ghost use lib.ListN.{length};
-ghost use Rattle.genpowcone_loops.specs.Places.{narrow, wide, withTail, timesAt, scaledAt, constantAt, negatedAt, movedAt, unitAt, headAt, flatHeadAt, logAt, tauAt, gradAt, headsOf, d1At, productHeadAt, productTailAt, finishedAt};
+ghost use Rattle.genpowcone_loops.specs.Places.{narrow, wide, withTail, timesAt, scaledAt, constantAt, negatedAt, movedAt, unitAt};
+ghost use Rattle.genpowcone_loops.specs.Places.{headAt, flatHeadAt, logAt, ratioAt, headsOf, d1At, productHeadAt, productTailAt};
+ghost use Rattle.genpowcone_loops.specs.Places.{finishedAt};
 use algebra::vector::shorter;
 use kernels::log;
 use kernels::sqrt;
 
 // c*x in each place.
-pub fn times64(c: f64, xs: &[f64]) -> [f64; 64]
-    requires { ⌜ length (now xs) ≤ 64 ⌝ }
-    ensures { λ r. ⌜ r ≡ wide (timesAt c (now (xs .entry))) (length (now (xs .entry))) ⌝ }
-{
-    let mut g = [0.0; 64];
-    for i in 0..xs.len() {
-        g[i] = c * xs[i];
-    }
-    g
-}
-
 pub fn times32(c: f64, xs: &[f64]) -> [f64; 32]
     requires { ⌜ length (now xs) ≤ 32 ⌝ }
     ensures { λ r. ⌜ r ≡ narrow (timesAt c (now (xs .entry))) (length (now (xs .entry))) ⌝ }
@@ -31,7 +22,7 @@ pub fn times32(c: f64, xs: &[f64]) -> [f64; 32]
 }
 
 // c*x from place n on.
-pub fn times_tail(g0: [f64; 64], n: usize, c: f64, xs: &[f64]) -> [f64; 64]
+pub fn times_from(g0: [f64; 64], n: usize, c: f64, xs: &[f64]) -> [f64; 64]
     requires { ⌜ n + length (now xs) ≤ 64 ⌝ }
     ensures { λ r. ⌜ r ≡ withTail g0 n (timesAt c (now (xs .entry))) (length (now (xs .entry))) ⌝ }
 {
@@ -80,6 +71,19 @@ pub fn logarithms(xs: &[f64]) -> [f64; 64]
     g
 }
 
+// (1 + x)/x in each place.
+pub fn ratios(xs: &[f64]) -> [f64; 64]
+    requires { ⌜ length (now xs) ≤ 64 ⌝ }
+    ensures { λ r. ⌜ r ≡ wide (ratioAt (now (xs .entry))) (length (now (xs .entry))) ⌝ }
+{
+    let mut g = [0.0; 64];
+    for i in 0..xs.len() {
+        let x = xs[i];
+        g[i] = (1.0 + x) / x;
+    }
+    g
+}
+
 // `negate`
 pub fn negated(xs: &[f64]) -> [f64; 64]
     requires { ⌜ length (now xs) ≤ 64 ⌝ }
@@ -120,7 +124,8 @@ pub fn unit_head(alpha: &[f64]) -> [f64; 64]
 // The head of gradient_primal where Newton was entered.
 pub fn gradient_head(alpha: &[f64], p: &[f64], g1: f64, normr: f64) -> [f64; 64]
     requires { ⌜ length (now alpha) ≤ 64 ⌝ }
-    ensures { λ r. ⌜ r ≡ wide (headAt (now (alpha .entry)) (now (p .entry)) g1 normr) (min (length (now (alpha .entry))) (length (now (p .entry)))) ⌝ }
+    ensures { λ r. ⌜ r ≡ wide (headAt (now (alpha .entry)) (now (p .entry)) g1 normr)
+        (min (length (now (alpha .entry))) (length (now (p .entry)))) ⌝ }
 {
     let n = shorter(alpha.len(), p.len());
     let mut g = [0.0; 64];
@@ -134,7 +139,8 @@ pub fn gradient_head(alpha: &[f64], p: &[f64], g1: f64, normr: f64) -> [f64; 64]
 // The head of gradient_primal where it was not.
 pub fn gradient_flat_head(alpha: &[f64], p: &[f64]) -> [f64; 64]
     requires { ⌜ length (now alpha) ≤ 64 ⌝ }
-    ensures { λ r. ⌜ r ≡ wide (flatHeadAt (now (alpha .entry)) (now (p .entry))) (min (length (now (alpha .entry))) (length (now (p .entry)))) ⌝ }
+    ensures { λ r. ⌜ r ≡ wide (flatHeadAt (now (alpha .entry)) (now (p .entry)))
+        (min (length (now (alpha .entry))) (length (now (p .entry)))) ⌝ }
 {
     let n = shorter(alpha.len(), p.len());
     let mut g = [0.0; 64];
@@ -167,9 +173,10 @@ pub fn tau_and_grad(alpha: &[f64], z: &[f64], phi: f64, zeta: f64) -> Heads
     Heads { tau, grad }
 }
 
-pub fn diagonal(alpha: &[f64], z: &[f64], tau: [f64; 32], phi: f64, zeta: f64) -> [f64; 32]
+pub fn diagonal(alpha: &[f64], z: &[f64], tau: &[f64; 32], phi: f64, zeta: f64) -> [f64; 32]
     requires { ⌜ length (now alpha) ≤ 32 ⌝ }
-    ensures { λ r. ⌜ r ≡ narrow (d1At (now (alpha .entry)) (now (z .entry)) tau phi zeta) (min (length (now (alpha .entry))) (length (now (z .entry)))) ⌝ }
+    ensures { λ r. ⌜ r ≡ narrow (d1At (now (alpha .entry)) (now (z .entry)) (now (tau .entry)) phi zeta)
+        (min (length (now (alpha .entry))) (length (now (z .entry)))) ⌝ }
 {
     let n = shorter(alpha.len(), z.len());
     let mut d1 = [0.0; 32];
@@ -181,9 +188,9 @@ pub fn diagonal(alpha: &[f64], z: &[f64], tau: [f64; 32], phi: f64, zeta: f64) -
 }
 
 // mul_hs, y1 .= K.d1 .* x1 - coef_q.*K.q
-pub fn product_head(d1: [f64; 32], q: [f64; 32], coefq: f64, x: &[f64]) -> [f64; 64]
+pub fn product_head(d1: &[f64; 32], q: &[f64; 32], coefq: f64, x: &[f64]) -> [f64; 64]
     requires { ⌜ length (now x) ≤ 32 ⌝ }
-    ensures { λ r. ⌜ r ≡ wide (productHeadAt d1 q coefq (now (x .entry))) (length (now (x .entry))) ⌝ }
+    ensures { λ r. ⌜ r ≡ wide (productHeadAt (now (d1 .entry)) (now (q .entry)) coefq (now (x .entry))) (length (now (x .entry))) ⌝ }
 {
     let mut y = [0.0; 64];
     for i in 0..x.len() {
@@ -197,12 +204,12 @@ pub fn product_tail(
     y0: [f64; 64],
     n: usize,
     d2: f64,
-    r: [f64; 32],
+    r: &[f64; 32],
     coefr: f64,
     x: &[f64],
 ) -> [f64; 64]
     requires { ⌜ (n + length (now x) ≤ 64) × (length (now x) ≤ 32) ⌝ }
-    ensures { λ t. ⌜ t ≡ withTail y0 n (productTailAt d2 r coefr (now (x .entry))) (length (now (x .entry))) ⌝ }
+    ensures { λ t. ⌜ t ≡ withTail y0 n (productTailAt d2 (now (r .entry)) coefr (now (x .entry))) (length (now (x .entry))) ⌝ }
 {
     let mut y = y0;
     for j in 0..x.len() {
@@ -213,9 +220,9 @@ pub fn product_tail(
 }
 
 // mul_hs, y.axpby(coef_p, p, 1) and y.scale(μ): the first n places
-pub fn product_finished(y: [f64; 64], n: usize, coefp: f64, p: [f64; 64], mu: f64) -> [f64; 64]
+pub fn product_finished(y: &[f64; 64], n: usize, coefp: f64, p: &[f64; 64], mu: f64) -> [f64; 64]
     requires { ⌜ n ≤ 64 ⌝ }
-    ensures { λ r. ⌜ r ≡ wide (finishedAt y coefp p mu) n ⌝ }
+    ensures { λ r. ⌜ r ≡ wide (finishedAt (now (y .entry)) coefp (now (p .entry)) mu) n ⌝ }
 {
     let mut g = [0.0; 64];
     for i in 0..n {

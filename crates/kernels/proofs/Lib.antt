@@ -1,1 +1,2 @@
 pub mod PowfCases
+pub mod Agree

@@ -3,4 +3,4 @@
 unfoldable pub use Rattle.root.specs.Steps.{sqrtOf}
 unfoldable pub use Rattle.logarithm.specs.Steps.{logOf}
 unfoldable pub use Rattle.exponential.specs.Steps.{expOf}
-unfoldable pub use Rattle.kernels.specs.Powf.{powfOf}
+unfoldable pub use Rattle.kernels.specs.Powf.{powerAt, powfOf}

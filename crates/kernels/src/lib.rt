@@ -1,6 +1,6 @@
 // The four kernels behind one door: nothing above this crate knows which crate computes a root, a logarithm or an exponential.
 ghost use mathlib.Core.Path.{_≡_};
-ghost use Rattle.kernels.specs.Door.{sqrtOf, logOf, expOf, powfOf};
+ghost use Rattle.kernels.specs.Door.{sqrtOf, logOf, expOf, powerAt, powfOf};
 
 // The square root.
 pub fn sqrt(x: f64) -> f64
@@ -23,9 +23,17 @@ pub fn exp(x: f64) -> f64
     exponential::exp(x)
 }
 
-// The power x^y. A NaN is asked for before y is 1 or 2, which answer it as 01 does: "a NaN among these has the bits above", which x itself or x·x may not have.
+// The power x^y.
 pub fn powf(x: f64, y: f64) -> f64
     ensures { λ r. ⌜ r ≡ powfOf x y ⌝ }
+{
+    power(x, y, log(x))
+}
+
+// powf with log(x) as logx, for a caller that has taken it already. A NaN is asked for before y is 1 or 2, which answer it as 01 does:
+// "a NaN among these has the bits above", which x itself or x·x may not have.
+pub fn power(x: f64, y: f64, logx: f64) -> f64
+    ensures { λ r. ⌜ r ≡ powerAt x y logx ⌝ }
 {
     if y == 0.0 {
         return 1.0;
@@ -42,5 +50,5 @@ pub fn powf(x: f64, y: f64) -> f64
     if x < 0.0 {
         return double::nan();
     }
-    exp(y * log(x))
+    exp(y * logx)
 }

@@ -1,4 +1,5 @@
--- The answer for m·2^(k-1126) is within 2^-44·max(1, |L|) of L, L taken with m / 2^52 and the exponent k - 1074; its sign is that of the exponent. Assumes nothing.
+-- The answer for m·2^(k-1126) is within 2^-44·max(1, |L|) of L, L taken with m / 2^52 and the exponent k - 1074; its sign is that of the exponent.
+-- Assumes nothing.
 use mathlib.Core.Path.{_≡_, refl, sym, ap, subst}
 use mathlib.Core.Bool.{true, false, not}
 use Prim.Native.Nat.{ℕ, zero, suc, _+_, _*_, _/_, _^_, _-_, _≤_, _<_, max}
@@ -28,7 +29,8 @@ pub record SizeClose (x : Float) (s a o : ℕ) : Type 0 where
   pub not-below : 2 ^ 44 * (a * 2 ^ 1074) ≤ 2 ^ 44 * (units * o) + max o a * 2 ^ 1074
 
 size-close-of :
-    (s a o h : ℕ) (x : Float) → 2 * (s * o) ≤ 2 * 2 ^ 53 * a + 2 * a + 5 * o → 2 * 2 ^ 53 * a ≤ 2 * (s * o) + (2 * a + 5 * o) → Units x h → (0 < s → 0 < h)
+    (s a o h : ℕ) (x : Float) → 2 * (s * o) ≤ 2 * 2 ^ 53 * a + 2 * a + 5 * o → 2 * 2 ^ 53 * a ≤ 2 * (s * o) + (2 * a + 5 * o) → Units x h
+    → (0 < s → 0 < h)
     → h * 2 ^ 53 * 2 ^ 53 * 2 ^ 53 ≤ s * 2 ^ 1074 * (2 ^ 53 + 1) * (2 ^ 53 + 1)
     → s * 2 ^ 1074 * 2 ^ 53 * 2 ^ 53 ≤ h * 2 ^ 53 * 2 ^ 53 * 2 ^ 53 + s * 2 ^ 1074 * (2 * 2 ^ 53 + 1) → SizeClose x s a o
 size-close-of s a o h x k₁ k₃ v p k₂ k₄ = record {
@@ -36,7 +38,8 @@ size-close-of s a o h x k₁ k₃ v p k₂ k₄ = record {
   value = v;
   positive = p;
   not-above = answer-not-above (2 ^ 44) (2 ^ 53) (2 ^ 1074) h s a o (max o a) (omega arith) refl (le-max-right o a) (le-max-left o a) k₁ k₂;
-  not-below = answer-not-below (2 ^ 44) (2 ^ 53) (2 ^ 1074) h s a o (max o a) (omega arith) refl (le-max-right o a) (le-max-left o a) k₁ k₃ k₄;
+  not-below =
+      answer-not-below (2 ^ 44) (2 ^ 53) (2 ^ 1074) h s a o (max o a) (omega arith) refl (le-max-right o a) (le-max-left o a) k₁ k₃ k₄;
 }
 
 size-close :
@@ -45,7 +48,8 @@ size-close :
 size-close zero a o hs k₁ k₃ = size-close-of 0 a o 0 (scaledOf 0) k₁ k₃ zero-scaled (λ h. h) (le-of-eq refl) (le-of-eq refl)
 size-close (suc s) a o hs k₁ k₃ =
     let r : NearFraction (suc s) (scaledOf (suc s)) = scaled-near (suc s) (omega arith) hs in
-    size-close-of (suc s) a o (r .units) (scaledOf (suc s)) k₁ k₃ (r .value) (λ h. some-units (suc s) (r .units) (omega arith) (r .not-below)) (r .not-above) (r .not-below)
+    size-close-of (suc s) a o (r .units) (scaledOf (suc s)) k₁ k₃ (r .value)
+    (λ h. some-units (suc s) (r .units) (omega arith) (r .not-below)) (r .not-above) (r .not-below)
 
 -- ---- S(1/3) is between ½ and 1
 
@@ -71,15 +75,19 @@ part-le-turns n m h lo hi = le-trans (part-le m lo hi) (mul-le-mul-right (sNum 1
 
 -- ---- from 1 up
 
-up-not-above : (s t p o n : ℕ) → 2 * s * o ≤ 2 ^ 54 * (t + p) + (n + 1) * o → n * o ≤ 2 * t → 2 * (s * o) ≤ 2 * 2 ^ 53 * (t + p) + 2 * (t + p) + 5 * o
+up-not-above :
+    (s t p o n : ℕ) → 2 * s * o ≤ 2 ^ 54 * (t + p) + (n + 1) * o → n * o ≤ 2 * t → 2 * (s * o) ≤ 2 * 2 ^ 53 * (t + p) + 2 * (t + p) + 5 * o
 up-not-above s t p o n h k = omega arith
 
-up-not-below : (s t p o n : ℕ) → 2 ^ 54 * (t + p) ≤ (2 * s + (n + 3)) * o → n * o ≤ 2 * t → 2 * 2 ^ 53 * (t + p) ≤ 2 * (s * o) + (2 * (t + p) + 5 * o)
+up-not-below :
+    (s t p o n : ℕ) → 2 ^ 54 * (t + p) ≤ (2 * s + (n + 3)) * o → n * o ≤ 2 * t → 2 * 2 ^ 53 * (t + p) ≤ 2 * (s * o) + (2 * (t + p) + 5 * o)
 up-not-below s t p o n h k = omega arith
 
-up-size : (n m : ℕ) → n ≤ 1023 → 2 ^ 52 ≤ m → m < 2 ^ 53 → SizeClose (scaledOf (n * ln2 + q m)) (n * ln2 + q m) (turns n m + part m) (over m)
+up-size :
+    (n m : ℕ) → n ≤ 1023 → 2 ^ 52 ≤ m → m < 2 ^ 53 → SizeClose (scaledOf (n * ln2 + q m)) (n * ln2 + q m) (turns n m + part m) (over m)
 up-size n m hn lo hi =
-    size-close (n * ln2 + q m) (turns n m + part m) (over m) (small (n * ln2) (mantissaOf m) (mul-le-mul-right ln2 hn) (mantissa-fits m lo hi))
+    size-close (n * ln2 + q m) (turns n m + part m) (over m)
+    (small (n * ln2) (mantissaOf m) (mul-le-mul-right ln2 hn) (mantissa-fits m lo hi))
     (up-not-above (n * ln2 + q m) (turns n m) (part m) (over m) n (up-below n m lo hi) (turns-large n m))
     (up-not-below (n * ln2 + q m) (turns n m) (part m) (over m) n (up-above n m lo hi) (turns-large n m))
   where
@@ -105,13 +113,16 @@ sum-not-below s t p o n a q hq es hp k b c =
     omega arith
 
 down-size :
-    (n m : ℕ) → 1 ≤ n → n ≤ 1074 → 2 ^ 52 ≤ m → m < 2 ^ 53 → SizeClose (scaledOf (n * ln2 - q m)) (n * ln2 - q m) (turns n m - part m) (over m)
+    (n m : ℕ) → 1 ≤ n → n ≤ 1074 → 2 ^ 52 ≤ m → m < 2 ^ 53
+    → SizeClose (scaledOf (n * ln2 - q m)) (n * ln2 - q m) (turns n m - part m) (over m)
 down-size n m n1 hn lo hi =
     let hq : q m ≤ n * ln2 = le-of-lt (turns-outweigh n m n1 lo hi) in
     let pt : part m ≤ turns n m = part-le-turns n m n1 lo hi in
     size-close (n * ln2 - q m) (turns n m - part m) (over m) (small (n * ln2) (q m) (mul-le-mul-right ln2 hn))
-    (sum-not-above _ (turns n m) (part m) (over m) n (n * ln2) (q m) hq refl pt (down-below n m lo hi) (turns-large n m) (part-small m lo hi))
-    (sum-not-below _ (turns n m) (part m) (over m) n (n * ln2) (q m) hq refl pt (down-above n m lo hi) (turns-large n m) (part-small m lo hi))
+    (sum-not-above _ (turns n m) (part m) (over m) n (n * ln2) (q m) hq refl pt (down-below n m lo hi) (turns-large n m)
+    (part-small m lo hi))
+    (sum-not-below _ (turns n m) (part m) (over m) n (n * ln2) (q m) hq refl pt (down-above n m lo hi) (turns-large n m)
+    (part-small m lo hi))
   where
     small : (a b : ℕ) → a ≤ 1074 * ln2 → a - b < 2 ^ 64
     small a b h = omega arith
@@ -127,12 +138,14 @@ value-of-neg (fin s m e) h v = (ap not (v .0), v .1)
 above-shape :
     (y w h o p l a x : ℕ) → p ≡ l + a → y * (h * o) ≤ y * (a * w) + x * w → y * (a * w) ≤ y * (h * o) + x * w
     → Within (y * (h * o + l * w)) (y * (0 * o + p * w)) (x * w)
-above-shape y w h o p l a x e hi lo = record { not-above = omega (arith, ap (λ (t : ℕ). y * w * t) e); not-below = omega (arith, ap (λ (t : ℕ). y * w * t) e) }
+above-shape y w h o p l a x e hi lo =
+    record { not-above = omega (arith, ap (λ (t : ℕ). y * w * t) e); not-below = omega (arith, ap (λ (t : ℕ). y * w * t) e) }
 
 below-shape :
     (y w h o p l a x : ℕ) → l ≡ p + a → y * (h * o) ≤ y * (a * w) + x * w → y * (a * w) ≤ y * (h * o) + x * w
     → Within (y * (0 * o + l * w)) (y * (h * o + p * w)) (x * w)
-below-shape y w h o p l a x e hi lo = record { not-above = omega (arith, ap (λ (t : ℕ). y * w * t) e); not-below = omega (arith, ap (λ (t : ℕ). y * w * t) e) }
+below-shape y w h o p l a x e hi lo =
+    record { not-above = omega (arith, ap (λ (t : ℕ). y * w * t) e); not-below = omega (arith, ap (λ (t : ℕ). y * w * t) e) }
 
 module _ (l : Signed) (x : Float) (s a : ℕ) (c : SizeClose x s a (l .over)) where
   close-above : l .plus ≡ l .less + a → Close x l
@@ -142,7 +155,8 @@ module _ (l : Signed) (x : Float) (s a : ℕ) (c : SizeClose x s a (l .over)) wh
     value = c .value;
     distance =
         subst
-        (λ (t : ℕ). Within (2 ^ 44 * (c .units * l .over + l .less * 2 ^ 1074)) (2 ^ 44 * (0 * l .over + l .plus * 2 ^ 1074)) (max (l .over) t * 2 ^ 1074))
+        (λ (t : ℕ). Within (2 ^ 44 * (c .units * l .over + l .less * 2 ^ 1074)) (2 ^ 44 * (0 * l .over + l .plus * 2 ^ 1074))
+        (max (l .over) t * 2 ^ 1074))
         (apart (l .plus) (l .less) e)
         (above-shape (2 ^ 44) (2 ^ 1074) (c .units) (l .over) (l .plus) (l .less) a (max (l .over) a) e (c .not-above) (c .not-below));
   }
@@ -157,7 +171,8 @@ module _ (l : Signed) (x : Float) (s a : ℕ) (c : SizeClose x s a (l .over)) wh
     value = value-of-neg x (c .units) (c .value);
     distance =
         subst
-        (λ (t : ℕ). Within (2 ^ 44 * (0 * l .over + l .less * 2 ^ 1074)) (2 ^ 44 * (c .units * l .over + l .plus * 2 ^ 1074)) (max (l .over) t * 2 ^ 1074))
+        (λ (t : ℕ). Within (2 ^ 44 * (0 * l .over + l .less * 2 ^ 1074)) (2 ^ 44 * (c .units * l .over + l .plus * 2 ^ 1074))
+        (max (l .over) t * 2 ^ 1074))
         (apart (l .plus) (l .less) e)
         (below-shape (2 ^ 44) (2 ^ 1074) (c .units) (l .over) (l .plus) (l .less) a (max (l .over) a) e (c .not-above) (c .not-below));
   }
@@ -176,7 +191,8 @@ module _ (n m : ℕ) (lo : 2 ^ 52 ≤ m) (hi : m < 2 ^ 53) where
   pub down-close : 1 ≤ n → n ≤ 1074 → Close (neg (scaledOf (n * ln2 - q m))) (lAt 0 n m (2 ^ 52))
   unfolding lAt
   down-close n1 hn =
-      close-below (lAt 0 n m (2 ^ 52)) _ _ (turns n m - part m) (down-size n m n1 hn lo hi) (split (turns n m) (part m) (part-le-turns n m n1 lo hi))
+      close-below (lAt 0 n m (2 ^ 52)) _ _ (turns n m - part m) (down-size n m n1 hn lo hi)
+      (split (turns n m) (part m) (part-le-turns n m n1 lo hi))
     where
       split : (t p : ℕ) → p ≤ t → t ≡ 0 * (sNum 1 3 * sDen (m + 2 ^ 52)) + p + (t - p)
       split t p h = omega arith

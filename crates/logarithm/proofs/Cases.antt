@@ -45,7 +45,8 @@ field-top (suc f) t h = rw (le-ltb (suc f) 2047 h)
 -- a positive finite double's
 pub field-positive : (f t : ℕ) → f < 2047 → 0 < mag f t → byFieldOf f t ≡ positiveOf (normalOf f t .m) (normalOf f t .k)
 unfolding byFieldOf mag
-field-positive zero t h p = ap (λ (b : Bool). cond b (inf true) (positiveOf (normalOf 0 t .m) (normalOf 0 t .k))) (ne-eqb t 0 (λ (e : t ≡ 0). omega arith))
+field-positive zero t h p =
+    ap (λ (b : Bool). cond b (inf true) (positiveOf (normalOf 0 t .m) (normalOf 0 t .k))) (ne-eqb t 0 (λ (e : t ≡ 0). omega arith))
 field-positive (suc j) t h p =
     ap (λ (b : Bool). cond b (positiveOf (normalOf (suc j) t .m) (normalOf (suc j) t .k)) (inf false)) (lt-ltb (suc j) 2047 h)
 
@@ -60,7 +61,8 @@ unfolding logOf
 log-signed x r n s k = rw (n, s) k
 
 pub log-unsigned :
-    (x r : Float) → isNan x ≡ false → signOf (toBits binary64 x) ≡ false → r ≡ byFieldOf (fieldOf (toBits binary64 x)) (digitsOf (toBits binary64 x))
+    (x r : Float) → isNan x ≡ false → signOf (toBits binary64 x) ≡ false → r
+    ≡ byFieldOf (fieldOf (toBits binary64 x)) (digitsOf (toBits binary64 x))
     → r ≡ logOf x
 unfolding logOf
 log-unsigned x r n s k = rw (n, s) k

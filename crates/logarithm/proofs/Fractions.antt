@@ -115,10 +115,12 @@ module _ (n : ℕ) (pn : 0 < n) (hn : n < 2 ^ 64) where
 
   pub scaled-near : NearFraction n (scaledOf n)
   scaled-near =
-      let b = both-roundings n g h (2 ^ 1074) (2 ^ 53) (pow-pos 1074) (first .not-above) (first .not-below) (second .not-above) (second .not-below) in
+      let b = both-roundings n g h (2 ^ 1074) (2 ^ 53) (pow-pos 1074) (first .not-above) (first .not-below) (second .not-above)
+      (second .not-below) in
       record {
         units = h;
-        value = subst (λ (x : Float). Units x h) (sym product) (round-val binary64 (g * 1) (2 ^ 1074 * 2 ^ 53) (lt-of-le-of-lt h-le g-fits));
+        value =
+            subst (λ (x : Float). Units x h) (sym product) (round-val binary64 (g * 1) (2 ^ 1074 * 2 ^ 53) (lt-of-le-of-lt h-le g-fits));
         not-above = b .0;
         not-below = b .1;
       }

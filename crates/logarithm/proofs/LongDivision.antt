@@ -25,7 +25,8 @@ module _ (n : ℕ) (pn : zero < n) where
       let e₂ : x * 1024 * 1024 / n ≡ x / n * 1048576 + x % n * 1024 / n * 1024 + x % n * 1024 % n * 1024 / n = two-digits x in
       let e₃ : x % n ≡ a % n * 1024 % n * 1024 % n = two-rests a in
       let e₄ : x % n * 1024 / n ≡ a % n * 1024 % n * 1024 % n * 1024 / n = ap (λ (y : ℕ). y * 1024 / n) e₃ in
-      let e₅ : x % n * 1024 % n * 1024 / n ≡ a % n * 1024 % n * 1024 % n * 1024 % n * 1024 / n = ap (λ (y : ℕ). y * 1024 % n * 1024 / n) e₃ in
+      let e₅ : x % n * 1024 % n * 1024 / n ≡ a % n * 1024 % n * 1024 % n * 1024 % n * 1024 / n =
+      ap (λ (y : ℕ). y * 1024 % n * 1024 / n) e₃ in
       let e₆ : x * 1024 * 1024 / n ≡ d * 2 ^ 60 / n = ap (λ (y : ℕ). y / n) (omega arith) in
       omega arith
 

@@ -1,4 +1,5 @@
--- The logarithm of a mantissa m / 2^52 as `mantissa` computes it, against S((m-1)/(m+1)): at most 3 units of 2^-64 above it, and 299 below. The addition law takes m
+-- The logarithm of a mantissa m / 2^52 as `mantissa` computes it, against S((m-1)/(m+1)): at most 3 units of 2^-64 above it, and 299 below. The
+-- addition law takes m
 -- apart into c and m/c; each part is off by its own bound. S is counted in units of 2^-120, rounded down. Assumes nothing.
 use mathlib.Core.Path.{_≡_, refl, sym, ap, ap₂, _∙_, subst}
 use Prim.Native.Nat.{ℕ, zero, _+_, _*_, _^_, _/_, _-_, _%_, _≤_, _<_}
@@ -9,10 +10,10 @@ use lib.ListN.{getD}
 use Rattle.series.specs.Series.{sDen}
 use Rattle.series.proofs.Terms.{sDen-pos}
 use Rattle.series.proofs.Addition.{floorS, floorS-of-scaled, S-of-product-at-most, S-of-product-at-least}
-use Rattle.logarithm.specs.Table.{table}
+use Rattle.logarithm_table.specs.Table.{table}
 use Rattle.logarithm.specs.Steps.{ratioOf, shortSeriesOf, mantissaOf}
 use Rattle.logarithm.proofs.LongDivision.{quotient-small}
-use Rattle.logarithm.proofs.TableRule.{entry-not-above, entry-one-below, entry-small}
+use Rattle.logarithm_table.proofs.TableRule.{entry-not-above, entry-one-below, entry-small}
 use Rattle.logarithm.proofs.ShortSeries.{short-series-below, short-series-above, short-series-le}
 
 -- 2^-120 is coarse enough for the addition law
@@ -34,7 +35,8 @@ module _ (i d : ℕ) (hi : i < 256) (hd : d < 2 ^ 44) where
   -- the entry's part
   entry-at : floorS (2 ^ 120) (i * 2 ^ 44) (2 ^ 52 + 2 ^ 52 + i * 2 ^ 44) ≡ floorS (2 ^ 120) i (512 + i)
   entry-at =
-      ap (λ (x : ℕ). floorS (2 ^ 120) (i * 2 ^ 44) x) (omega arith) ∙ floorS-of-scaled (2 ^ 120) coarse (2 ^ 44) i (512 + i) (omega arith) (omega arith)
+      ap (λ (x : ℕ). floorS (2 ^ 120) (i * 2 ^ 44) x) (omega arith)
+      ∙ floorS-of-scaled (2 ^ 120) coarse (2 ^ 44) i (512 + i) (omega arith) (omega arith)
 
   entry-below : getD table i 0 * 2 ^ 64 ≤ floorS (2 ^ 120) i (512 + i)
   unfolding floorS
@@ -43,7 +45,8 @@ module _ (i d : ℕ) (hi : i < 256) (hd : d < 2 ^ 44) where
   entry-above : floorS (2 ^ 120) i (512 + i) ≤ (getD table i 0 + 1) * 2 ^ 64
   unfolding floorS
   entry-above =
-      finer-above (2 ^ 56) (2 ^ 64) (getD table i 0 + 1) _ (sDen (512 + i)) (sDen-pos (512 + i) (omega arith)) (omega (arith, entry-one-below i hi))
+      finer-above (2 ^ 56) (2 ^ 64) (getD table i 0 + 1) _ (sDen (512 + i)) (sDen-pos (512 + i) (omega arith))
+      (omega (arith, entry-one-below i hi))
 
   -- the ratio's part
   abbrev t : ℕ
@@ -57,11 +60,13 @@ module _ (i d : ℕ) (hi : i < 256) (hd : d < 2 ^ 44) where
 
   ratio-below : shortSeriesOf t * 2 ^ 56 ≤ floorS (2 ^ 120) d (c + c + d)
   unfolding floorS
-  ratio-below = finer-below (2 ^ 64) (2 ^ 56) (shortSeriesOf t) _ _ (sDen-pos (c + c + d) some) (short-series-below d (c + c + d) some small)
+  ratio-below =
+      finer-below (2 ^ 64) (2 ^ 56) (shortSeriesOf t) _ _ (sDen-pos (c + c + d) some) (short-series-below d (c + c + d) some small)
 
   ratio-above : floorS (2 ^ 120) d (c + c + d) ≤ (shortSeriesOf t + 40) * 2 ^ 56
   unfolding floorS
-  ratio-above = finer-above (2 ^ 64) (2 ^ 56) (shortSeriesOf t + 40) _ _ (sDen-pos (c + c + d) some) (short-series-above d (c + c + d) some small)
+  ratio-above =
+      finer-above (2 ^ 64) (2 ^ 56) (shortSeriesOf t + 40) _ _ (sDen-pos (c + c + d) some) (short-series-above d (c + c + d) some small)
 
   -- the addition law in 2^56 steps is off by at most 3 units of 2^-64
   stride-small : 2 ^ 120 * d / ((2 ^ 52 + i * 2 ^ 44) * 2 ^ 56) ≤ 2 ^ 56
@@ -70,7 +75,8 @@ module _ (i d : ℕ) (hi : i < 256) (hd : d < 2 ^ 44) where
       div-le-of-le-mul ((2 ^ 52 + i * 2 ^ 44) * 2 ^ 56) (le-trans (mul-le-mul-left (2 ^ 120) (le-of-lt hd)) (mul-le-mul-right (2 ^ 56) h))
 
   sum-above :
-      floorS (2 ^ 120) (i * 2 ^ 44 + d) (2 ^ 52 + 2 ^ 52 + i * 2 ^ 44 + d) ≤ floorS (2 ^ 120) i (512 + i) + floorS (2 ^ 120) d (c + c + d) + 3 * 2 ^ 56
+      floorS (2 ^ 120) (i * 2 ^ 44 + d) (2 ^ 52 + 2 ^ 52 + i * 2 ^ 44 + d)
+      ≤ floorS (2 ^ 120) i (512 + i) + floorS (2 ^ 120) d (c + c + d) + 3 * 2 ^ 56
   sum-above =
       rw
       (← entry-at)
@@ -81,7 +87,8 @@ module _ (i d : ℕ) (hi : i < 256) (hd : d < 2 ^ 44) where
       ))
 
   sum-below :
-      floorS (2 ^ 120) i (512 + i) + floorS (2 ^ 120) d (c + c + d) ≤ floorS (2 ^ 120) (i * 2 ^ 44 + d) (2 ^ 52 + 2 ^ 52 + i * 2 ^ 44 + d) + 3 * 2 ^ 56
+      floorS (2 ^ 120) i (512 + i) + floorS (2 ^ 120) d (c + c + d)
+      ≤ floorS (2 ^ 120) (i * 2 ^ 44 + d) (2 ^ 52 + 2 ^ 52 + i * 2 ^ 44 + d) + 3 * 2 ^ 56
   sum-below =
       rw
       (← entry-at)
@@ -91,7 +98,8 @@ module _ (i d : ℕ) (hi : i < 256) (hd : d < 2 ^ 44) where
         stride-small,
       ))
 
-  parts-above : floorS (2 ^ 120) (i * 2 ^ 44 + d) (2 ^ 52 + 2 ^ 52 + i * 2 ^ 44 + d) ≤ (getD table i 0 * 256 + shortSeriesOf t + 299) * 2 ^ 56
+  parts-above :
+      floorS (2 ^ 120) (i * 2 ^ 44 + d) (2 ^ 52 + 2 ^ 52 + i * 2 ^ 44 + d) ≤ (getD table i 0 * 256 + shortSeriesOf t + 299) * 2 ^ 56
   parts-above = omega (arith, sum-above, entry-above, ratio-above)
 
   parts-below :
@@ -142,7 +150,8 @@ pub parts :
     → s ≡ shortSeriesOf (q * 16) → Parts m q e s
 unfolding mantissaOf ratioOf
 parts m q e s lo hi eq ee es =
-    let hq : q < 2 ^ 51 = subst (λ (x : ℕ). x < 2 ^ 51) (sym eq) (quotient-small (m + m / 2 ^ 44 * 2 ^ 44) (omega arith) (m % 2 ^ 44) (omega arith)) in
+    let hq : q < 2 ^ 51 = subst (λ (x : ℕ). x < 2 ^ 51) (sym eq)
+    (quotient-small (m + m / 2 ^ 44 * 2 ^ 44) (omega arith) (m % 2 ^ 44) (omega arith)) in
     let he : e ≤ 2 ^ 56 - 2 ^ 53 = le-trans (le-of-eq ee) (entry-small (m / 2 ^ 44 - 256) (omega arith)) in
     let hs : s ≤ 2 ^ 58 = le-trans (le-of-eq es) (le-trans (short-series-le (q * 16) (omega arith)) (omega arith)) in
     record {

@@ -14,7 +14,7 @@ use Rattle.double.specs.Fields.{normalOf}
 use Rattle.double.proofs.Fields.{measured}
 use Rattle.series.specs.Series.{Written, rise, fall}
 use Rattle.series.proofs.Written.{written}
-use Rattle.logarithm.specs.Table.{table}
+use Rattle.logarithm_table.specs.Table.{table}
 use Rattle.logarithm.specs.Steps.{upper, ratioOf, shortSeriesOf, mantissaOf, scaledOf, positiveOf, byFieldOf, logOf}
 use Rattle.logarithm.specs.Bound.{Promise}
 use Rattle.logarithm.proofs.Cases.{log-signed}
@@ -43,10 +43,12 @@ unfolding logOf byFieldOf isNan toBits
 of-infinity = refl
 
 of-one : logOf #1 ≡ #0
-unfolding logOf byFieldOf positiveOf normalOf scaledOf mantissaOf shortSeriesOf ratioOf upper table isNan toBits ofBits ofFields mul ofInt round size units odd trailingZeros
+unfolding logOf byFieldOf positiveOf normalOf scaledOf mantissaOf shortSeriesOf ratioOf upper table isNan toBits ofBits ofFields mul ofInt
+    round size units odd trailingZeros
 of-one = refl
 
-k-and-m : (n : ℕ) (e : ℤ) → let a = suc n * up e in let b = down e in Written a b (rise a b) (fall a b) (a * 2 ^ fall a b) (b * 2 ^ rise a b)
+k-and-m :
+    (n : ℕ) (e : ℤ) → let a = suc n * up e in let b = down e in Written a b (rise a b) (fall a b) (a * 2 ^ fall a b) (b * 2 ^ rise a b)
 k-and-m n e = written (suc n * up e) (down e) (mul-pos {m = suc n} (omega arith) (up-pos e)) (down-pos e)
 
 pub promise : Promise

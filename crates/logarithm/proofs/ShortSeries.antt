@@ -1,7 +1,9 @@
--- The three terms that `short_series` sums, against the forty of S, for a ratio p/q up to 1/512: never above, and at most 40 units of 2^-64 below. Assumes nothing.
+-- The three terms that `short_series` sums, against the forty of S, for a ratio p/q up to 1/512: never above, and at most 40 units of 2^-64 below.
+-- Assumes nothing.
 use mathlib.Core.Path.{_≡_, refl, sym, ap, ap₂, _∙_}
 use Prim.Native.Nat.{ℕ, zero, suc, _+_, _*_, _^_, _/_, _≤_, _<_}
-use native.Mathlib.Nat.{mul-add, add-le-add, pow-suc, le-of-eq, le-trans, mul-assoc, mul-le-mul, mul-le-mul-left, mul-le-mul-right, le-of-mul-le-mul-left, le-of-mul-le-mul-right, pow-le-pow-left, div-mul-le-self, lt-div-mul-add}
+use native.Mathlib.Nat.{mul-add, add-le-add, pow-suc, le-of-eq, le-trans, mul-assoc, mul-le-mul, mul-le-mul-left, mul-le-mul-right}
+use native.Mathlib.Nat.{le-of-mul-le-mul-left, le-of-mul-le-mul-right, pow-le-pow-left, div-mul-le-self, lt-div-mul-add}
 use native.Mathlib.Omega.{arith}
 use lib.Pow.{pow-add}
 use Rattle.arith.proofs.Powers.{pow-one, pow-three, pow-five, pow-seven, pow-of-product}
@@ -78,18 +80,34 @@ sum-below :
     (k t u v s p q : ℕ) → 15 * s ≤ 30 * t + 10 * u + 6 * v → t * q ≤ k * p → u * (q * (q * q)) ≤ k * (p * (p * p))
     → v * (q * (q * q) * (q * q)) ≤ k * (p * (p * p) * (p * p)) → s * (allOdds * (q * (q * q) * (q * q))) ≤ 2 * k * odds weight 3 p q
 sum-below k t u v s p q hs ht hu hv =
-    let a : 15 * s * (q * (q * q) * (q * q)) ≤ k * (30 * (p * (q * q * (q * q))) + 10 * (p * (p * p) * (q * q)) + 6 * (p * (p * p) * (p * p))) =
-    omega (arith, mul-le-mul-right (q * (q * q) * (q * q)) hs, mul-le-mul-right (30 * (q * q * (q * q))) ht, mul-le-mul-right (10 * (q * q)) hu) in
-    let e : 15 * odds weight 3 p q ≡ allOdds * (15 * (p * (q * q * (q * q))) + 5 * (p * (p * p) * (q * q)) + 3 * (p * (p * p) * (p * p))) = three-terms p q in
+    let a : 15 * s * (q * (q * q) * (q * q))
+    ≤ k * (30 * (p * (q * q * (q * q))) + 10 * (p * (p * p) * (q * q)) + 6 * (p * (p * p) * (p * p))) =
+    omega (
+      arith,
+      mul-le-mul-right (q * (q * q) * (q * q)) hs,
+      mul-le-mul-right (30 * (q * q * (q * q))) ht,
+      mul-le-mul-right (10 * (q * q))
+          hu,
+    ) in
+    let e : 15 * odds weight 3 p q ≡ allOdds * (15 * (p * (q * q * (q * q))) + 5 * (p * (p * p) * (q * q)) + 3 * (p * (p * p) * (p * p))) =
+    three-terms p q in
     omega (arith, mul-le-mul-left allOdds a, ap (λ (x : ℕ). 2 * k * x) e)
 
 sum-above :
     (k t u v s p q : ℕ) → 30 * t + 10 * u + 6 * v ≤ 15 * s → k * p ≤ t * q → k * (p * (p * p)) ≤ u * (q * (q * q))
     → k * (p * (p * p) * (p * p)) ≤ v * (q * (q * q) * (q * q)) → 2 * k * odds weight 3 p q ≤ s * (allOdds * (q * (q * q) * (q * q)))
 sum-above k t u v s p q hs ht hu hv =
-    let a : k * (30 * (p * (q * q * (q * q))) + 10 * (p * (p * p) * (q * q)) + 6 * (p * (p * p) * (p * p))) ≤ 15 * s * (q * (q * q) * (q * q)) =
-    omega (arith, mul-le-mul-right (q * (q * q) * (q * q)) hs, mul-le-mul-right (30 * (q * q * (q * q))) ht, mul-le-mul-right (10 * (q * q)) hu) in
-    let e : 15 * odds weight 3 p q ≡ allOdds * (15 * (p * (q * q * (q * q))) + 5 * (p * (p * p) * (q * q)) + 3 * (p * (p * p) * (p * p))) = three-terms p q in
+    let a : k * (30 * (p * (q * q * (q * q))) + 10 * (p * (p * p) * (q * q)) + 6 * (p * (p * p) * (p * p)))
+    ≤ 15 * s * (q * (q * q) * (q * q)) =
+    omega (
+      arith,
+      mul-le-mul-right (q * (q * q) * (q * q)) hs,
+      mul-le-mul-right (30 * (q * q * (q * q))) ht,
+      mul-le-mul-right (10 * (q * q))
+          hu,
+    ) in
+    let e : 15 * odds weight 3 p q ≡ allOdds * (15 * (p * (q * q * (q * q))) + 5 * (p * (p * p) * (q * q)) + 3 * (p * (p * p) * (p * p))) =
+    three-terms p q in
     omega (arith, mul-le-mul-left allOdds a, ap (λ (x : ℕ). 2 * k * x) e)
 
 -- ---- the rest of the forty terms: at most four units
@@ -97,7 +115,9 @@ sum-above k t u v s p q hs ht hu hv =
 eighty : (q : ℕ) → q ^ 80 ≡ q ^ 74 * (q * (q * q) * (q * q) * q)
 eighty q = pow-add q 74 6 ∙ ap (λ (x : ℕ). q ^ 74 * x) (pow-suc q 5 ∙ ap (λ (x : ℕ). x * q) (pow-five q))
 
-all-terms-below : (k s p q : ℕ) → s * (allOdds * (q * (q * q) * (q * q))) ≤ 2 * k * odds weight 3 p q → s * (allOdds * q ^ 80) ≤ k * (2 * odds weight 40 p q) * q
+all-terms-below :
+    (k s p q : ℕ) → s * (allOdds * (q * (q * q) * (q * q))) ≤ 2 * k * odds weight 3 p q
+    → s * (allOdds * q ^ 80) ≤ k * (2 * odds weight 40 p q) * q
 all-terms-below k s p q h =
     let f : odds weight 3 p q * q ^ 74 ≤ odds weight 40 p q = first-terms-below weight 37 3 p q in
     rw (eighty q) (shape (odds weight 3 p q) (odds weight 40 p q) (q ^ 74) (q * (q * q) * (q * q)) h f)
@@ -121,11 +141,13 @@ parts-above k s l q a b z r x y h f g =
     le-trans
     (whole-part k l q b y _ f)
     (le-trans {m = s * (l * (z * (r * q))) * q + 4 * (l * (z * (r * q))) * q}
-    (le-trans (le-of-eq (mul-add (2 * k) (a * (q * q) * z) (l * x * z))) (add-le-add (three-part k s l q a z r h) (rest-part k l q z r x g)))
+    (le-trans (le-of-eq (mul-add (2 * k) (a * (q * q) * z) (l * x * z)))
+    (add-le-add (three-part k s l q a z r h) (rest-part k l q z r x g)))
     (omega arith))
 
 all-terms-above :
-    (k s p q : ℕ) → zero < q → 2 * (p * p) ≤ q * q → 2 * k * p ^ 7 ≤ 4 * q ^ 7 → 2 * k * odds weight 3 p q ≤ s * (allOdds * (q * (q * q) * (q * q)))
+    (k s p q : ℕ) → zero < q → 2 * (p * p) ≤ q * q → 2 * k * p ^ 7 ≤ 4 * q ^ 7
+    → 2 * k * odds weight 3 p q ≤ s * (allOdds * (q * (q * q) * (q * q)))
     → k * (2 * odds weight 40 p q) * q ≤ (s + 4) * (allOdds * q ^ 80)
 all-terms-above k s p q pq hp h7 h =
     let f : odds weight 40 p q * (q * q) + allOdds * p ^ 81 ≤ odds weight 3 p q * (q * q) * q ^ 74 + allOdds * p ^ 7 * q ^ 74 =
@@ -217,7 +239,8 @@ module _ (p q : ℕ) (pq : zero < q) (small : 512 * p ≤ q) where
       (le-trans
       (all-terms-above (2 ^ 64) _ p q pq (omega (arith, mul-le-mul small small)) sevenths
       (sum-above (2 ^ 64) (t + 16) (t³ + 2) (t⁵ + 2) _ p q (whole-divisions-above t t³ t⁵) t-above t³-above t⁵-above))
-      (le-of-eq (ap (λ (x : ℕ). (shortSeriesOf t + 36 + 4) * x) (sym (sDen-by-weights q)) ∙ sym (mul-assoc (shortSeriesOf t + 36 + 4) (sDen q) q) ∙ ap (λ (x : ℕ). x * sDen q * q) (omega arith))))
+      (le-of-eq (ap (λ (x : ℕ). (shortSeriesOf t + 36 + 4) * x) (sym (sDen-by-weights q))
+      ∙ sym (mul-assoc (shortSeriesOf t + 36 + 4) (sDen q) q) ∙ ap (λ (x : ℕ). x * sDen q * q) (omega arith))))
       pq)
 
 -- ---- what `short_series` comes to, for its overflows

@@ -11,7 +11,8 @@ errors-below :
     → (2 * z * A + 2 * A + 5 * O) * (w * y * ((z + 1) * (z + 1))) ≤ 2 * (w * y * A) * (z * z * z) + 34 * (w * y * X * (z * z))
 errors-below w y z A O X hz ha ho = le-trans (first (w * y)) (second (w * y))
   where
-    first : (c : ℕ) → (2 * z * A + 2 * A + 5 * O) * (c * ((z + 1) * (z + 1))) ≤ 2 * (c * A) * (z * z * z) + c * X * (11 * (z * z) + 16 * z + 7)
+    first :
+        (c : ℕ) → (2 * z * A + 2 * A + 5 * O) * (c * ((z + 1) * (z + 1))) ≤ 2 * (c * A) * (z * z * z) + c * X * (11 * (z * z) + 16 * z + 7)
     first c = omega (arith, mul-le-mul-left (c * (6 * (z * z) + 6 * z + 2)) ha, mul-le-mul-left (c * (5 * (z * z) + 10 * z + 5)) ho)
 
     second : (c : ℕ) → 2 * (c * A) * (z * z * z) + c * X * (11 * (z * z) + 16 * z + 7) ≤ 2 * (c * A) * (z * z * z) + 34 * (c * X * (z * z))
@@ -22,7 +23,8 @@ room : (w y z X : ℕ) → z ≡ 512 * y → 34 * (w * y * X * (z * z)) ≤ 2 * 
 room w y z X h = omega (arith, ap (λ (t : ℕ). w * X * (z * z) * t) h)
 
 pub answer-not-above :
-    (y z w h s A O X : ℕ) → 1 ≤ z → z ≡ 512 * y → A ≤ X → O ≤ X → 2 * (s * O) ≤ 2 * z * A + 2 * A + 5 * O → h * z * z * z ≤ s * w * (z + 1) * (z + 1)
+    (y z w h s A O X : ℕ) → 1 ≤ z → z ≡ 512 * y → A ≤ X → O ≤ X → 2 * (s * O) ≤ 2 * z * A + 2 * A + 5 * O
+    → h * z * z * z ≤ s * w * (z + 1) * (z + 1)
     → y * (h * O) ≤ y * (A * w) + X * w
 answer-not-above y z w h s A O X hz ez ha ho k₁ k₂ =
     le-of-mul-le-mul-right {k = 2 * (z * z * z)}
@@ -45,7 +47,8 @@ answer-not-above y z w h s A O X hz ez ha ho k₁ k₂ =
     c = omega (arith, room w y z X ez)
 
 pub answer-not-below :
-    (y z w h s A O X : ℕ) → 1 ≤ z → z ≡ 512 * y → A ≤ X → O ≤ X → 2 * (s * O) ≤ 2 * z * A + 2 * A + 5 * O → 2 * z * A ≤ 2 * (s * O) + (2 * A + 5 * O)
+    (y z w h s A O X : ℕ) → 1 ≤ z → z ≡ 512 * y → A ≤ X → O ≤ X → 2 * (s * O) ≤ 2 * z * A + 2 * A + 5 * O
+    → 2 * z * A ≤ 2 * (s * O) + (2 * A + 5 * O)
     → s * w * z * z ≤ h * z * z * z + s * w * (2 * z + 1) → y * (A * w) ≤ y * (h * O) + X * w
 answer-not-below y z w h s A O X hz ez ha ho k₁ k₃ k₄ =
     le-of-mul-le-mul-right {k = 2 * (z * z * z)}
@@ -53,7 +56,9 @@ answer-not-below y z w h s A O X hz ez ha ho k₁ k₃ k₄ =
     (mul-pos {m = 2} (omega arith) (mul-pos (mul-pos hz hz) hz))
   where
     a : y * (A * w) * (2 * (z * z * z)) ≤ 2 * (s * O) * (w * y * (z * z)) + (2 * A + 5 * O) * (w * y * (z * z))
-    a = le-trans (le-of-eq l) (le-trans (mul-le-mul-right (w * y * (z * z)) k₃) (le-of-eq (add-mul (2 * (s * O)) (2 * A + 5 * O) (w * y * (z * z)))))
+    a =
+        le-trans (le-of-eq l) (le-trans (mul-le-mul-right (w * y * (z * z)) k₃)
+        (le-of-eq (add-mul (2 * (s * O)) (2 * A + 5 * O) (w * y * (z * z)))))
       where
         l : y * (A * w) * (2 * (z * z * z)) ≡ 2 * z * A * (w * y * (z * z))
         l = omega arith

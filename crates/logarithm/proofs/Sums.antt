@@ -1,8 +1,10 @@
--- The sum of the turns of S(1/3) and the mantissa's part, in units of 2^-53, against the exact L: within (n+3)/2 units, n turns. And below 1 the turns outweigh the
+-- The sum of the turns of S(1/3) and the mantissa's part, in units of 2^-53, against the exact L: within (n+3)/2 units, n turns. And below 1 the
+-- turns outweigh the
 -- mantissa's part, by a unit at least. Assumes nothing.
 use mathlib.Core.Path.{sym}
 use Prim.Native.Nat.{ℕ, zero, _+_, _*_, _^_, _/_, _-_, _≤_, _<_}
-use native.Mathlib.Nat.{le-refl, le-trans, le-of-eq, lt-of-lt-of-le, one-mul, mul-assoc, mul-le-mul-left, mul-le-mul-right, le-of-mul-le-mul-left}
+use native.Mathlib.Nat.{le-refl, le-trans, le-of-eq, lt-of-lt-of-le, one-mul, mul-assoc, mul-le-mul-left, mul-le-mul-right}
+use native.Mathlib.Nat.{le-of-mul-le-mul-left}
 use native.Mathlib.Omega.{arith}
 use lib.Dec.{leb→le}
 use lib.Ieee.Nearest.{div-mono}
@@ -75,13 +77,15 @@ module _ (n m : ℕ) (lo : 2 ^ 52 ≤ m) (hi : m < 2 ^ 53) where
 
   m-part-above : 2 ^ 120 * part m ≤ (q m * 2 ^ 67 + 3 * 2 ^ 66) * over m
   m-part-above =
-      part-above (2 ^ 120) (floorS (2 ^ 120) (m - 2 ^ 52) (m + 2 ^ 52) + 1) _ _ _ _ (floorS-above (2 ^ 120) (m - 2 ^ 52) (m + 2 ^ 52) (omega arith))
+      part-above (2 ^ 120) (floorS (2 ^ 120) (m - 2 ^ 52) (m + 2 ^ 52) + 1) _ _ _ _
+      (floorS-above (2 ^ 120) (m - 2 ^ 52) (m + 2 ^ 52) (omega arith))
       (omega (arith, mantissa-above m lo hi))
 
   m-part-below : q m * 2 ^ 67 * over m ≤ 2 ^ 120 * part m + 2 ^ 66 * over m
   m-part-below =
       less (q m * 2 ^ 67) (floorS (2 ^ 120) (m - 2 ^ 52) (m + 2 ^ 52)) (2 ^ 66) _ _ (omega (arith, mantissa-below m lo hi))
-      (part-below (2 ^ 120) (floorS (2 ^ 120) (m - 2 ^ 52) (m + 2 ^ 52)) _ _ _ _ (floorS-below (2 ^ 120) (m - 2 ^ 52) (m + 2 ^ 52)) (le-refl _))
+      (part-below (2 ^ 120) (floorS (2 ^ 120) (m - 2 ^ 52) (m + 2 ^ 52)) _ _ _ _ (floorS-below (2 ^ 120) (m - 2 ^ 52) (m + 2 ^ 52))
+      (le-refl _))
 
 -- ---- the four bounds of the sum, in units of 2^-54: 2^66 taken off both sides
 

@@ -54,4 +54,5 @@ pub record Promise : Type 0 where
       → Close (logOf (fin false (suc n) e)) (lAt r f c d)
   -- not in 01: the sign of log x is that of x - 1, and no answer is -0
   pub below-one : (n : ℕ) (e : ℤ) → T (fits binary64 (fin false (suc n) e)) → suc n * up e < down e → Negative (logOf (fin false (suc n) e))
-  pub from-one : (n : ℕ) (e : ℤ) → T (fits binary64 (fin false (suc n) e)) → down e ≤ suc n * up e → NotNegative (logOf (fin false (suc n) e))
+  pub from-one :
+      (n : ℕ) (e : ℤ) → T (fits binary64 (fin false (suc n) e)) → down e ≤ suc n * up e → NotNegative (logOf (fin false (suc n) e))

@@ -4,11 +4,11 @@
 //   log x = (k - 1074)·S(1/3) + log (c / 2^52) + log (m / c).
 // The last is S(t) at t = (m - c)/(m + c), which is below 1/512, so that three of the forty terms do. The entry and t are rounded down, in units of
 // 2^-56 and 2^-60; their sum is off by less than 300 units of 2^-64, and the whole by at most |k - 1074| + 3 units of 2^-54, of which 2^-44 is 1024.
-mod table;
 
 ghost use mathlib.Core.Path.{_≡_};
 ghost use Prim.Native.Nat.{_*_, _^_, _/_, _<_, _≤_};
 ghost use Rattle.logarithm.specs.Steps.{shortSeriesOf, mantissaOf, scaledOf, positiveOf, logOf};
+use logarithm_table::entry;
 
 // floor(d·2^60 / n), in five steps of which each fits a u64.
 fn long_division(d: u64, n: u64) -> u64
@@ -23,13 +23,15 @@ fn long_division(d: u64, n: u64) -> u64
     a / n * 1099511627776 + b / n * 1073741824 + c / n * 1048576 + e / n * 1024 + f / n
 }
 
-// floor(d·2^60 / n), by an estimate that is checked: of d·2^60 raised by n, q·n leaves a rest below n where q is one more than the quotient, and one from n up to 2·n where
+// floor(d·2^60 / n), by an estimate that is checked: of d·2^60 raised by n, q·n leaves a rest below n where q is one more than the quotient, and one
+// from n up to 2·n where
 // it is the quotient. No other estimate was seen; it would be left to the long division.
 fn quotient(d: u64, n: u64) -> u64
     requires { ⌜ (d < 2 ^ 44) × (0 < n) × (512 * d < n) × (n < 2 ^ 54) ⌝ }
     ensures { λ r. ⌜ r ≡ d * 2 ^ 60 / n ⌝ }
 {
-    // An estimate, of which nothing is proved: x is d, and y is n / 2^60 but for n's last bit; beside 2^52 there is no place for a fraction of x / y, and it is rounded.
+    // An estimate, of which nothing is proved: x is d, and y is n / 2^60 but for n's last bit; beside 2^52 there is no place for a fraction of x / y,
+    // and it is rounded.
     let x = f64::from_bits(0x4330_0000_0000_0000 + d) - 4503599627370496.0;
     let y = f64::from_bits(0x3f70_0000_0000_0000 + n / 2);
     let q = double::to_bits(x / y + 4503599627370496.0) % 0x10_0000_0000_0000;
@@ -64,7 +66,7 @@ fn mantissa(m: u64) -> u64
     let h = m / 0x1000_0000_0000;
     let t = quotient(m % 0x1000_0000_0000, m + h * 0x1000_0000_0000) * 16;
     let i = (h % 256) as usize;
-    table::entry(i) * 256 + short_series(t)
+    entry(i) * 256 + short_series(t)
 }
 
 // n / 2^53; the literal is 2^-53.
@@ -90,7 +92,8 @@ fn positive(m: u64, k: u64) -> f64
     }
 }
 
-// 01, log: of NaN it is NaN, of zero or below minus infinity, of +infinity itself. The sign is asked for first: -0 and the negative numbers have the highest bit.
+// 01, log: of NaN it is NaN, of zero or below minus infinity, of +infinity itself. The sign is asked for first: -0 and the negative numbers have the
+// highest bit.
 pub fn log(x: f64) -> f64
     ensures { λ r. ⌜ r ≡ logOf x ⌝ }
 {

@@ -16,7 +16,9 @@ module _ (f0 f1 : Float → Float) (x0 : Float) where
   Goes n = (k : ℕ) → k < n → stopsAt f0 f1 (after f0 f1 x0 k) ≡ false
 
   -- the round at x stops there, with n before it
-  stopped : (n : ℕ) (x : Float) → n < 100 → x ≡ after f0 f1 x0 n → Goes n → stopsAt f0 f1 x ≡ true → Counted f0 f1 x0 (record { x = x; rounds = n + 1 })
+  stopped :
+      (n : ℕ) (x : Float) → n < 100 → x ≡ after f0 f1 x0 n → Goes n → stopsAt f0 f1 x ≡ true
+      → Counted f0 f1 x0 (record { x = x; rounds = n + 1 })
   stopped n x h e g t =
       record {
         steps = n;
@@ -39,7 +41,8 @@ module _ (f0 f1 : Float → Float) (x0 : Float) where
       record { steps = n; went-on = g; point = e; ended = inr (omega arith, omega arith); least = omega arith; most = omega arith }
   counted-from (suc left) n x h e g =
       by-test (stopsAt f0 f1 x) _ _ (stopped n x (omega arith) e g)
-      (λ t. counted-from left (n + 1) (x ⊕ dxOf f0 f1 x) (omega arith) (iter-next _ _ _ e) (below-more _ _ g (ap (stopsAt f0 f1) (sym e) ∙ t)))
+      (λ t. counted-from left (n + 1) (x ⊕ dxOf f0 f1 x) (omega arith) (iter-next _ _ _ e)
+      (below-more _ _ g (ap (stopsAt f0 f1) (sym e) ∙ t)))
 
   pub counted : Counted f0 f1 x0 (newtonOf f0 f1 x0)
   unfolding newtonOf

@@ -1,2 +1,4 @@
+pub mod Ratios
 pub mod RoundsLeft
 pub mod Counts
+pub mod Agree

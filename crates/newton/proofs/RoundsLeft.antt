@@ -16,7 +16,8 @@ module _ (f0 f1 : Float → Float) (x : Float) (n i : ℕ) where
   unfolding rounds
   one-goes h = simp h
 
-module _ (f0 f1 : Float → Float) (x dfdx fx : Float) (b : Bool) (slope : dfdx ≡ f1 x) (value : fx ≡ f0 x) (test : b ≡ stopsOf x (neg fx ⊘ dfdx) dfdx) (i : ℕ) (h : i < 100) where
+module _ (f0 f1 : Float → Float) (x dfdx fx : Float) (b : Bool) (slope : dfdx ≡ f1 x) (value : fx ≡ f0 x)
+    (test : b ≡ stopsOf x (neg fx ⊘ dfdx) dfdx) (i : ℕ) (h : i < 100) where
   one-less : 100 - i ≡ suc (100 - (i + 1))
   one-less = omega arith
 

@@ -34,9 +34,13 @@ powF1 s3 α x =
     ⊕ (#1 ⊖ α) ⊗ #2 ⊗ (#1 ⊖ α) ⊘ ((#1 ⊖ α) ⊗ x ⊕ (#2 ⊖ α) ⊘ s3)
     ⊖ (x ⊕ #1 ⊘ s3) ⊗ #2 ⊘ (t1 ⊕ t2)
 
+-- 002 _newton_raphson_genpowcone, f0 and f1: (1+α)/α of an exponent
+unfoldable pub ratioOf : Float → Float
+ratioOf a = (#1 ⊕ a) ⊘ a
+
 -- 002 _newton_raphson_genpowcone, f0: the fold over the exponents and the logarithms l of the point's heads p, r the norm of the point's tail
 abbrev pub genF0Turn : Float → List Float → List Float → Float → ℕ → Float → Float
-genF0Turn r α l x i f = f ⊕ #2 ⊗ at α i ⊗ (logOf (x ⊗ r ⊕ (#1 ⊕ at α i) ⊘ at α i) ⊖ at l i)
+genF0Turn r α l x i f = f ⊕ #2 ⊗ at α i ⊗ (logOf (x ⊗ r ⊕ ratioOf (at α i)) ⊖ at l i)
 
 unfoldable pub genF0At : Float → List Float → List Float → Float → Float
 genF0At r α l x = iter (genF0Turn r α l x) (neg (logOf (#2 ⊗ x ⊘ r ⊕ x ⊗ x))) (min (length α) (length l))
@@ -46,7 +50,7 @@ genF0 r α p x = genF0At r α (map logOf p) x
 
 -- 002 _newton_raphson_genpowcone, f1
 abbrev pub genF1Turn : Float → List Float → Float → ℕ → Float → Float
-genF1Turn r α x i f = f ⊕ #2 ⊗ at α i ⊗ r ⊘ (r ⊗ x ⊕ (#1 ⊕ at α i) ⊘ at α i)
+genF1Turn r α x i f = f ⊕ #2 ⊗ at α i ⊗ r ⊘ (r ⊗ x ⊕ ratioOf (at α i))
 
 unfoldable pub genF1 : Float → List Float → Float → Float
 genF1 r α x = iter (genF1Turn r α x) (neg (#2 ⊗ x ⊕ #2 ⊘ r) ⊘ (x ⊗ x ⊕ #2 ⊗ x ⊘ r)) (length α)

@@ -1,5 +1,4 @@
 -- The barriers of the power cone, as 001 computes them. Definitions only.
-use Prim.Native.Nat.{ℕ}
 use mathlib.Core.List.{List}
 use lib.Ieee.{Float, neg}
 use Rattle.double.specs.Operators.{_⊕_, _⊖_, _⊗_, _⊘_, at}

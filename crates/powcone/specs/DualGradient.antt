@@ -1,5 +1,4 @@
 -- The gradient and the Hessian of the power cone's dual barrier, as 001 computes them. Definitions only.
-use Prim.Native.Nat.{ℕ}
 use mathlib.Core.List.{List, [], _∷_}
 use lib.Ieee.{Float, neg}
 use Rattle.double.specs.Operators.{_⊕_, _⊖_, _⊗_, _⊘_, at}

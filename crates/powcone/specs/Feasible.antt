@@ -1,5 +1,4 @@
 -- When a point lies in the power cone or in its dual, as 001 tests it. Definitions only.
-use Prim.Native.Nat.{ℕ}
 use mathlib.Core.Bool.{Bool, _&&_}
 use mathlib.Core.List.{List}
 use lib.Ieee.{Float}

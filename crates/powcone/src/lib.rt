@@ -9,7 +9,9 @@ ghost use Rattle.powcone.specs.Feasible.{residueAt, primalResidue, dualR
 ghost use Rattle.powcone.specs.Barriers.{dualPhi, barrierDualOf, barrierPrimalAt, barrierPrimalOf, computeBarrierOf};
 ghost use Rattle.powcone.specs.PrimalGradient.{unitInitializationOf, newtonRaphsonPowconeOf, signedOf, gradientAt, gradientPrimalOf};
 ghost use Rattle.powcone.specs.DualGradient.{updateDualGradHOf};
+use algebra::vector::head;
 use algebra::vector::moved3;
+use double::EPSILON;
 use double::abs;
 use kernels::exp;
 use kernels::log;
@@ -18,8 +20,6 @@ use kernels::sqrt;
 use newton::Equation;
 use newton::Found;
 use newton::newton_raphson_onesided;
-
-const EPSILON: f64 = 2.220446049250313e-16;
 
 // What a cone test compares, with the two numbers that it is the difference of: res = power - square.
 pub struct Residue {
@@ -274,10 +274,12 @@ fn newton_raphson_powcone(s3: f64, phi: f64, alpha: f64) -> Found
 
     // the equation of this kind reads no list
     let unread = [alpha];
+    let none = head(&unread, 0);
     newton_raphson_onesided(
         x0,
         Equation::Power(s3, log(phi), alpha, t0),
-        &unread,
-        &unread,
+        none,
+        none,
+        none,
     )
 }

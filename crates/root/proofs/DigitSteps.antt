@@ -33,7 +33,8 @@ module _ {m i root rem rest : ℕ} (t : Turn m i root rem rest) (more : i < 53) 
   two = ap (λ (k : ℕ). 2 ^ k) (add-one i) ∙ pow-suc 2 i
 
   -- the digit 1
-  pub set : root * 4 + 1 ≤ rem * 4 + rest / 2 ^ 62 → Turn m (i + 1) (root * 2 + 1) (rem * 4 + rest / 2 ^ 62 - (root * 4 + 1)) (rest * 4 % 2 ^ 64)
+  pub set :
+      root * 4 + 1 ≤ rem * 4 + rest / 2 ^ 62 → Turn m (i + 1) (root * 2 + 1) (rem * 4 + rest / 2 ^ 62 - (root * 4 + 1)) (rest * 4 % 2 ^ 64)
   set h =
       record { held = omega (arith, four); small = omega arith; short = omega (arith, two); left = omega arith; count = omega arith }
 
@@ -50,5 +51,6 @@ held-lt : (m : ℕ) → m < 2 ^ 54 → m * 2 ^ 52 < 4 ^ 53
 held-lt m h = omega arith
 
 -- so root is the whole root, and rem the rest that decides the rounding
-pub ended : (m root rem rest : ℕ) → m < 2 ^ 54 → Turn (m * 1024) 53 root rem rest → nearRoot (m * 2 ^ 52) ≡ cond (ltb root rem) (root + 1) root
+pub ended :
+    (m root rem rest : ℕ) → m < 2 ^ 54 → Turn (m * 1024) 53 root rem rest → nearRoot (m * 2 ^ 52) ≡ cond (ltb root rem) (root + 1) root
 ended m root rem rest h t = by-rest (m * 2 ^ 52) root rem (passed m root rem rest (t .held) (t .left)) (t .small) (held-lt m h)

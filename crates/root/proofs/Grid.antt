@@ -24,7 +24,9 @@ of-mag zero t h = record { q = t; j = 0; short = omega arith; is = sym (mul-one 
 of-mag (suc j) t h = record { q = 2 ^ 52 + t; j = j; short = omega arith; is = refl }
 
 pub places : (y : Float) (w : ℕ) → T (fits binary64 y) → Units y w → Places w
-places y w F u = subst Places (sym (read y false w F u .size)) (of-mag (fieldOf (toBits binary64 y)) (digitsOf (toBits binary64 y)) (digits-lt (toBits binary64 y)))
+places y w F u =
+    subst Places (sym (read y false w F u .size))
+    (of-mag (fieldOf (toBits binary64 y)) (digitsOf (toBits binary64 y)) (digits-lt (toBits binary64 y)))
 
 pub on-grid : (w g : ℕ) → Places w → 2 ^ (52 + g) ≤ w → (z : ℕ) × (w ≡ z * 2 ^ g)
 on-grid w g d h = go (decLe g (d .j))
@@ -38,11 +40,13 @@ on-grid w g d h = go (decLe g (d .j))
     go : Dec (g ≤ d .j) → (z : ℕ) × (w ≡ z * 2 ^ g)
     go (yes k) = (
       d .q * 2 ^ (d .j - g),
-      d .is ∙ ap (λ (a : ℕ). d .q * a) (ap (λ (a : ℕ). 2 ^ a) (sym (join g (d .j) k)) ∙ pow-add 2 (d .j - g) g) ∙ sym (mul-assoc (d .q) (2 ^ (d .j - g)) (2 ^ g)),
+      d .is ∙ ap (λ (a : ℕ). d .q * a) (ap (λ (a : ℕ). 2 ^ a) (sym (join g (d .j) k)) ∙ pow-add 2 (d .j - g) g)
+          ∙ sym (mul-assoc (d .q) (2 ^ (d .j - g)) (2 ^ g)),
     )
     go (no k) =
         absurd (lt-irrefl w
-        (lt-of-lt-of-le (subst (λ (a : ℕ). a < 2 ^ (53 + d .j)) (sym (d .is)) (shl-lt 53 (d .j) (d .short))) (le-trans (pow-mono (fewer (d .j) g (lt-of-not-le k))) h)))
+        (lt-of-lt-of-le (subst (λ (a : ℕ). a < 2 ^ (53 + d .j)) (sym (d .is)) (shl-lt 53 (d .j) (d .short)))
+        (le-trans (pow-mono (fewer (d .j) g (lt-of-not-le k))) h)))
 
 -- of two different multiples of c the larger is c above the smaller at least
 pub next : (z q c : ℕ) → z * c < q * c → z * c + c ≤ q * c

@@ -1,5 +1,6 @@
 -- `sqrtOf` is IEEE 754's square root: at a positive finite double the nearest double, and no other is as near. Assumes nothing.
--- Below the root's binade the doubles lie closer together; there either q is the least of its binade and not above the root, or they are more than a last place away.
+-- Below the root's binade the doubles lie closer together; there either q is the least of its binade and not above the root, or they are more than a
+-- last place away.
 use mathlib.Core.Path.{_≡_, sym, ap, subst, _∙_}
 use mathlib.Core.Logic.{_⊎_, inl, inr}
 use mathlib.Core.Bool.{false}
@@ -54,9 +55,12 @@ module _ (n m k : ℕ) (i : Normalised n m k) where
   scaled : n * 2 ^ 1074 ≡ N * (c * c)
   scaled =
       let halves : k % 2 + (h + h) ≡ k = omega arith in
-      let units : n * 2 ^ 1074 ≡ n * 2 ^ 52 * 2 ^ 1022 = ap (λ (a : ℕ). n * a) (pow-add 2 52 1022) ∙ sym (mul-assoc n (2 ^ 52) (2 ^ 1022)) in
-      let evens : m * 2 ^ k ≡ M * 2 ^ (h + h) = ap (λ (a : ℕ). m * 2 ^ a) (sym halves) ∙ ap (λ (a : ℕ). m * a) (pow-add 2 (k % 2) (h + h)) ∙ sym (mul-assoc m (2 ^ (k % 2)) (2 ^ (h + h))) in
-      let square : c * c ≡ 2 ^ (h + h) * 2 ^ 970 = sym (pow-add 2 (h + 485) (h + 485)) ∙ ap (λ (a : ℕ). 2 ^ a) (sum h) ∙ pow-add 2 (h + h) 970 in
+      let units : n * 2 ^ 1074 ≡ n * 2 ^ 52 * 2 ^ 1022 = ap (λ (a : ℕ). n * a) (pow-add 2 52 1022)
+      ∙ sym (mul-assoc n (2 ^ 52) (2 ^ 1022)) in
+      let evens : m * 2 ^ k ≡ M * 2 ^ (h + h) = ap (λ (a : ℕ). m * 2 ^ a) (sym halves) ∙ ap (λ (a : ℕ). m * a) (pow-add 2 (k % 2) (h + h))
+      ∙ sym (mul-assoc m (2 ^ (k % 2)) (2 ^ (h + h))) in
+      let square : c * c ≡ 2 ^ (h + h) * 2 ^ 970 = sym (pow-add 2 (h + 485) (h + 485)) ∙ ap (λ (a : ℕ). 2 ^ a) (sum h)
+      ∙ pow-add 2 (h + h) 970 in
       units
       ∙ ap (λ (a : ℕ). a * 2 ^ 1022) (i .is ∙ evens)
       ∙ ap (λ (a : ℕ). M * 2 ^ (h + h) * a) (pow-add 2 52 970)
@@ -86,7 +90,9 @@ module _ (n m k : ℕ) (i : Normalised n m k) where
       C = pow-pos (h + 485)
 
       at-place : (z : ℕ) × (w ≡ z * c) → (w + q * c) * (w + q * c) < 4 * (N * (c * c))
-      at-place p = middle-below q N c w C (rounds .nearest) q-pos (subst (λ (a : ℕ). a + c ≤ q * c) (sym (p .1)) (next (p .0) q c (subst (λ (a : ℕ). a < q * c) (p .1) l)))
+      at-place p =
+          middle-below q N c w C (rounds .nearest) q-pos
+          (subst (λ (a : ℕ). a + c ≤ q * c) (sym (p .1)) (next (p .0) q c (subst (λ (a : ℕ). a < q * c) (p .1) l)))
 
       one-more : (a b c w : ℕ) → a < b → (a + 1) * c ≤ b * c → w < a * c → w + c ≤ b * c
       one-more a b c w e g k = omega arith
@@ -96,7 +102,8 @@ module _ (n m k : ℕ) (i : Normalised n m k) where
 
       under-binade : w < 2 ^ 52 * c → (2 ^ 52 ≡ q) ⊎ (2 ^ 52 < q) → (w + q * c) * (w + q * c) < 4 * (N * (c * c))
       under-binade g (inl e) = middle-under-root q N c w C (rounds .nearest) q-pos (subst (λ (a : ℕ). a * a ≤ N) e least-square) l
-      under-binade g (inr e) = middle-below q N c w C (rounds .nearest) q-pos (one-more (2 ^ 52) q c w e (mul-le-mul-right c (up (2 ^ 52) q e)) g)
+      under-binade g (inr e) =
+          middle-below q N c w C (rounds .nearest) q-pos (one-more (2 ^ 52) q c w e (mul-le-mul-right c (up (2 ^ 52) q e)) g)
 
       go : Dec (2 ^ (52 + (h + 485)) ≤ w) → (w + q * c) * (w + q * c) < 4 * (N * (c * c))
       go (yes g) = at-place (on-grid w (h + 485) (places y w F u) g)
@@ -104,13 +111,17 @@ module _ (n m k : ℕ) (i : Normalised n m k) where
 
   under : (y : Float) (w : ℕ) → T (fits binary64 y) → Units y w → q * c < w → 4 * (n * 2 ^ 1074) < (q * c + w) * (q * c + w)
   under y w F u l =
-      let reaches : 2 ^ (52 + (h + 485)) ≤ w = subst (λ (a : ℕ). a ≤ w) (sym binade) (le-trans (mul-le-mul-right c (rounds .from)) (le-of-lt l)) in
+      let reaches : 2 ^ (52 + (h + 485)) ≤ w = subst (λ (a : ℕ). a ≤ w) (sym binade)
+      (le-trans (mul-le-mul-right c (rounds .from)) (le-of-lt l)) in
       let p = on-grid w (h + 485) (places y w F u) reaches in
       subst (λ (a : ℕ). 4 * a < (q * c + w) * (q * c + w)) (sym scaled)
-      (middle-above q N c w (pow-pos (h + 485)) (rounds .nearest) q-pos (subst (λ (a : ℕ). q * c + c ≤ a) (sym (p .1)) (next q (p .0) c (subst (λ (a : ℕ). q * c < a) (p .1) l))))
+      (middle-above q N c w (pow-pos (h + 485)) (rounds .nearest) q-pos
+      (subst (λ (a : ℕ). q * c + c ≤ a) (sym (p .1)) (next q (p .0) c (subst (λ (a : ℕ). q * c < a) (p .1) l))))
 
 -- at a positive finite double the steps lead to `rootOf`
-sqrt-of-positive : (x : Float) (n : ℕ) → T (fits binary64 x) → Units x n → 0 < n → sqrtOf x ≡ rootOf (normalOf (fieldOf (toBits binary64 x)) (digitsOf (toBits binary64 x)))
+sqrt-of-positive :
+    (x : Float) (n : ℕ) → T (fits binary64 x) → Units x n → 0 < n
+    → sqrtOf x ≡ rootOf (normalOf (fieldOf (toBits binary64 x)) (digitsOf (toBits binary64 x)))
 sqrt-of-positive x n F u p =
     let b = toBits binary64 x in
     let r = read x false n F u in
@@ -137,7 +148,8 @@ sqrt-is-nearest x n F u p =
 -- of two, neither is above the other: their middle would lie on both sides of the root
 not-above : (x r s : Float) → T (fits binary64 r) → T (fits binary64 s) → (i : IsSqrt x r) → (j : IsSqrt x s) → i .n ≡ j .n → i .v ≤ j .v
 not-above x r s F G i j e = le-of-not-lt (λ (g : j .v < i .v). lt-irrefl ((j .v + i .v) * (j .v + i .v))
-    (lt-trans (i .over s (j .v) G (j .r-is) g) (subst (λ (a : ℕ). 4 * (a * 2 ^ 1074) < (j .v + i .v) * (j .v + i .v)) (sym e) (j .under r (i .v) F (i .r-is) g))))
+    (lt-trans (i .over s (j .v) G (j .r-is) g) (subst (λ (a : ℕ). 4 * (a * 2 ^ 1074) < (j .v + i .v) * (j .v + i .v)) (sym e)
+    (j .under r (i .v) F (i .r-is) g))))
   where
     le-of-not-lt : {a b : ℕ} → (b < a → ⊥) → a ≤ b
     le-of-not-lt h = omega arith
@@ -145,7 +157,8 @@ not-above x r s F G i j e = le-of-not-lt (λ (g : j .v < i .v). lt-irrefl ((j .v
 one-nearest : (x r s : Float) → T (fits binary64 r) → T (fits binary64 s) → IsSqrt x r → IsSqrt x s → r ≡ s
 one-nearest x r s F G i j =
     let e = same-units x false (i .n) (j .n) (i .x-is) (j .x-is) in
-    same-size r s false (j .v) F G (subst (λ (a : ℕ). Units r a) (le-antisymm (not-above x r s F G i j e) (not-above x s r G F j i (sym e))) (i .r-is)) (j .r-is)
+    same-size r s false (j .v) F G (subst (λ (a : ℕ). Units r a) (le-antisymm (not-above x r s F G i j e) (not-above x s r G F j i (sym e)))
+    (i .r-is)) (j .r-is)
 
 rootOf-fits : (d : Normal) → T (fits binary64 (rootOf d))
 unfolding rootOf
@@ -153,4 +166,5 @@ rootOf-fits d = ofBits-fits binary64 ((d .k / 2 + 485) * 2 ^ 52 + nearRoot (radi
 
 pub only-nearest : (x r : Float) (n : ℕ) → T (fits binary64 x) → T (fits binary64 r) → Units x n → 0 < n → IsSqrt x r → r ≡ sqrtOf x
 only-nearest x r n F G u p i =
-    one-nearest x r (sqrtOf x) G (subst (λ (y : Float). T (fits binary64 y)) (sym (sqrt-of-positive x n F u p)) (rootOf-fits _)) i (sqrt-is-nearest x n F u p)
+    one-nearest x r (sqrtOf x) G (subst (λ (y : Float). T (fits binary64 y)) (sym (sqrt-of-positive x n F u p)) (rootOf-fits _)) i
+    (sqrt-is-nearest x n F u p)

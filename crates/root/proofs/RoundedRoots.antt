@@ -1,4 +1,5 @@
--- `roundRoot` makes the nearest whole number of the whole part of a root, and there is no tie. Which number it is can be told with no root taken. Assumes nothing.
+-- `roundRoot` makes the nearest whole number of the whole part of a root, and there is no tie. Which number it is can be told with no root taken.
+-- Assumes nothing.
 use mathlib.Core.Path.{_≡_, refl, sym, ap, _∙_}
 use mathlib.Core.Bool.{Bool, true, false, cond, not}
 use Prim.Native.Nat.{ℕ, zero, suc, _+_, _-_, _*_, _^_, _≤_, _<_}
@@ -34,7 +35,8 @@ pub by-rest : (n root rem : ℕ) → root * root + rem ≡ n → rem ≤ 2 * roo
 unfolding nearRoot roundRoot
 by-rest n root rem e b l =
     let r : n - root * root ≡ rem = omega arith in
-    ap (roundRoot n) (unique n (wholeRoot 53 n) root (whole-is 53 n l) (omega arith, omega arith)) ∙ ap (λ (k : ℕ). cond (ltb root k) (root + 1) root) r
+    ap (roundRoot n) (unique n (wholeRoot 53 n) root (whole-is 53 n l) (omega arith, omega arith))
+    ∙ ap (λ (k : ℕ). cond (ltb root k) (root + 1) root) r
 
 -- r (r - 1) is r² - r
 pub product-below : (r : ℕ) → r * (r - 1) + r ≡ r * r

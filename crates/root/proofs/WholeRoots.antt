@@ -23,7 +23,9 @@ unique n p q a b = le-antisymm (below n p q (a .0) (b .1)) (below n q p (b .0) (
 digit : (n r : ℕ) → IsRoot (n / 4) r → IsRoot n (cond (leb ((2 * r + 1) * (2 * r + 1)) n) (2 * r + 1) (2 * r))
 digit n r a = go (leb ((2 * r + 1) * (2 * r + 1)) n) (leb→le ((2 * r + 1) * (2 * r + 1)) n) (nleb→lt ((2 * r + 1) * (2 * r + 1)) n)
   where
-    go : (b : Bool) → (T b → (2 * r + 1) * (2 * r + 1) ≤ n) → (T (not b) → n < (2 * r + 1) * (2 * r + 1)) → IsRoot n (cond b (2 * r + 1) (2 * r))
+    go :
+        (b : Bool) → (T b → (2 * r + 1) * (2 * r + 1) ≤ n) → (T (not b) → n < (2 * r + 1) * (2 * r + 1))
+        → IsRoot n (cond b (2 * r + 1) (2 * r))
     go true y z = let h = y tt in (h, omega arith)
     go false y z = (omega arith, z tt)
 
@@ -31,4 +33,5 @@ pub whole-is : (k n : ℕ) → n < 4 ^ k → IsRoot n (wholeRoot k n)
 unfolding wholeRoot
 whole-is zero n h = (omega arith, h)
 whole-is (suc k) n h =
-    digit n (wholeRoot k (n / 4)) (whole-is k (n / 4) (div-lt-iff-lt-mul {k = 4} {x = n} {y = 4 ^ k} (omega arith) .1 (subst (λ (z : ℕ). n < z) (pow-suc 4 k) h)))
+    digit n (wholeRoot k (n / 4)) (whole-is k (n / 4) (div-lt-iff-lt-mul {k = 4} {x = n} {y = 4 ^ k} (omega arith) .1
+    (subst (λ (z : ℕ). n < z) (pow-suc 4 k) h)))

@@ -1,7 +1,8 @@
 -- A value that its format holds is a whole number of units, and `<` on two such values is `<` on their units. Assumes nothing.
 use mathlib.Core.Path.{_≡_, refl, sym, ap, _∙_, subst}
 use Prim.Native.Nat.{ℕ, zero, suc, _+_, _-_, _*_, _/_, _%_, _^_, _≤_, _<_}
-use native.Mathlib.Nat.{lt-of-not-le, not-le-of-lt, mul-comm, mul-assoc, mul-right-comm, mul-one, div-one, mul-div-cancel, mul-le-mul-right, mul-lt-mul-of-pos-right, mul-pos}
+use native.Mathlib.Nat.{lt-of-not-le, not-le-of-lt, mul-comm, mul-assoc, mul-right-comm, mul-one, div-one, mul-div-cancel, mul-le-mul-right}
+use native.Mathlib.Nat.{mul-lt-mul-of-pos-right, mul-pos}
 use native.Mathlib.Omega.{arith}
 use mathlib.Core.Bool.{Bool, true, false, _&&_, true≢false}
 use lib.IntN.{ℤ, pos, negsuc}
@@ -33,7 +34,8 @@ whole : (l n : ℕ) (e : ℤ) → down e ≤ 2 ^ l → n * 2 ^ l ≡ n * 2 ^ l /
 whole l n (pos k) h = sym (mul-one (n * 2 ^ l / 1) ∙ div-one (n * 2 ^ l))
 whole l n (negsuc k) h =
     let j = l - suc k in
-    let e : n * 2 ^ l ≡ n * 2 ^ j * 2 ^ suc k = ap (λ (z : ℕ). n * 2 ^ z) (sym (back (suc k) l (exponents-le (suc k) l h))) ∙ ap (λ (z : ℕ). n * z) (pow-add 2 j (suc k)) ∙ sym (mul-assoc n (2 ^ j) (2 ^ suc k)) in
+    let e : n * 2 ^ l ≡ n * 2 ^ j * 2 ^ suc k = ap (λ (z : ℕ). n * 2 ^ z) (sym (back (suc k) l (exponents-le (suc k) l h)))
+    ∙ ap (λ (z : ℕ). n * z) (pow-add 2 j (suc k)) ∙ sym (mul-assoc n (2 ^ j) (2 ^ suc k)) in
     e ∙ ap (λ (z : ℕ). z * 2 ^ suc k) (sym (ap (λ (z : ℕ). z / 2 ^ suc k) e ∙ mul-div-cancel (n * 2 ^ j) (pow-pos (suc k))))
 
 fits-down : (f : Format) (m : ℕ) (e : ℤ) → T (fits f (fin false (suc m) e)) → down e ≤ 2 ^ low f
@@ -69,14 +71,20 @@ units-under f (fin false (suc m) e) t p =
     let n = suc m * up e in
     let a : n * 2 ^ low f < 2 ^ suc (emax f) * down e * 2 ^ low f = mul-lt-mul-of-pos-right (fits-top f m e t) (pow-pos (low f)) in
     let b : n * 2 ^ low f ≡ unitsOf f (fin false (suc m) e) * down e = whole (low f) n e (fits-down f m e t) in
-    let c : 2 ^ suc (emax f) * down e * 2 ^ low f ≡ overflow f * down e = mul-right-comm (2 ^ suc (emax f)) (down e) (2 ^ low f) ∙ ap (λ (z : ℕ). z * down e) (mul-comm (2 ^ suc (emax f)) (2 ^ low f) ∙ sym (pow-add 2 (low f) (suc (emax f)))) in
-    lt-of-mul-lt (unitsOf f (fin false (suc m) e)) (overflow f) (down e) (subst (λ (z : ℕ). unitsOf f (fin false (suc m) e) * down e < z) c (subst (λ (z : ℕ). z < 2 ^ suc (emax f) * down e * 2 ^ low f) b a))
+    let c : 2 ^ suc (emax f) * down e * 2 ^ low f ≡ overflow f * down e = mul-right-comm (2 ^ suc (emax f)) (down e) (2 ^ low f)
+    ∙ ap (λ (z : ℕ). z * down e) (mul-comm (2 ^ suc (emax f)) (2 ^ low f) ∙ sym (pow-add 2 (low f) (suc (emax f)))) in
+    lt-of-mul-lt (unitsOf f (fin false (suc m) e)) (overflow f) (down e)
+    (subst (λ (z : ℕ). unitsOf f (fin false (suc m) e) * down e < z) c (subst (λ (z : ℕ). z < 2 ^ suc (emax f) * down e * 2 ^ low f) b a))
 
 -- ---- `<` on two such values is `<` on their units
 
 -- two fractions u / e and v / d, of a and b units where P units are 1, over their common denominator
 common : (u v a b P d e : ℕ) → u * P ≡ a * e → v * P ≡ b * d → (u * d * P ≡ a * (e * d)) × (v * e * P ≡ b * (e * d))
-common u v a b P d e p q = (mul-right-comm u d P ∙ ap (λ (z : ℕ). z * d) p ∙ mul-assoc a e d, mul-right-comm v e P ∙ ap (λ (z : ℕ). z * e) q ∙ mul-right-comm b d e ∙ mul-assoc b e d)
+common u v a b P d e p q = (
+  mul-right-comm u d P ∙ ap (λ (z : ℕ). z * d) p ∙ mul-assoc a e d,
+  mul-right-comm v e P ∙ ap (λ (z : ℕ). z * e) q ∙ mul-right-comm b d e
+      ∙ mul-assoc b e d,
+)
 
 fractions-lt : (u v a b P d e : ℕ) → 0 < d → 0 < e → u * P ≡ a * e → v * P ≡ b * d → a < b → u * d < v * e
 fractions-lt u v a b P d e D E p q h =
@@ -97,7 +105,8 @@ lt-of-units f (fin false m e) nan a b p q h = absurd q
 lt-of-units f (fin false m e) (inf t) a b p q h = absurd q
 lt-of-units f (fin false m e) (fin true n d) a b p q h = absurd (true≢false (q .0))
 lt-of-units f (fin false m e) (fin false n d) a b p q h =
-    lt→ltb (m * up e * down d) (n * up d * down e) (fractions-lt (m * up e) (n * up d) a b (2 ^ low f) (down d) (down e) (down-pos d) (down-pos e) (p .1) (q .1) h)
+    lt→ltb (m * up e * down d) (n * up d * down e)
+    (fractions-lt (m * up e) (n * up d) a b (2 ^ low f) (down d) (down e) (down-pos d) (down-pos e) (p .1) (q .1) h)
 
 pub units-of-lt : (f : Format) (x y : Float) (a b : ℕ) → IsUnits f x a → IsUnits f y b → T (lt x y) → a < b
 unfolding lt
@@ -108,4 +117,5 @@ units-of-lt f (fin false m e) nan a b p q h = absurd q
 units-of-lt f (fin false m e) (inf t) a b p q h = absurd q
 units-of-lt f (fin false m e) (fin true n d) a b p q h = absurd (true≢false (q .0))
 units-of-lt f (fin false m e) (fin false n d) a b p q h =
-    units-lt (m * up e) (n * up d) a b (2 ^ low f) (down d) (down e) (pow-pos (low f)) (p .1) (q .1) (ltb→lt (m * up e * down d) (n * up d * down e) h)
+    units-lt (m * up e) (n * up d) a b (2 ^ low f) (down d) (down e) (pow-pos (low f)) (p .1) (q .1)
+    (ltb→lt (m * up e * down d) (n * up d * down e) h)

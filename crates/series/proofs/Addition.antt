@@ -1,8 +1,10 @@
 -- The addition law: S((xy-1)/(xy+1)) is S((x-1)/(x+1)) + S((y-1)/(y+1)), but for steps that may be made as small as one likes.
--- Both sides are walked from y = 1 in m equal steps. A step of either lies between d/(y+d) and d/y, so the steps differ by what telescopes. In whole numbers of 1/u. Assumes nothing.
+-- Both sides are walked from y = 1 in m equal steps. A step of either lies between d/(y+d) and d/y, so the steps differ by what telescopes. In whole
+-- numbers of 1/u. Assumes nothing.
 use mathlib.Core.Path.{_≡_, refl, sym, ap, ap₂, _∙_}
 use Prim.Native.Nat.{ℕ, zero, suc, _+_, _*_, _^_, _/_, _≤_, _<_}
-use native.Mathlib.Nat.{le-refl, le-trans, le-of-eq, le-step, mul-assoc, mul-le-mul-left, mul-le-mul-right, mul-pos, one-le-pow, pow-le-pow-left, mul-div-mul-right, zero-div, le-add-left, lt-div-mul-add, div-mul-le-self}
+use native.Mathlib.Nat.{le-refl, le-trans, le-of-eq, le-step, mul-assoc, mul-le-mul-left, mul-le-mul-right, mul-pos, one-le-pow}
+use native.Mathlib.Nat.{pow-le-pow-left, mul-div-mul-right, zero-div, le-add-left, lt-div-mul-add, div-mul-le-self}
 use native.Mathlib.Omega.{arith}
 use Rattle.arith.proofs.Powers.{pow-of-product}
 use Rattle.arith.proofs.Quotients.{quotient-at-most, quotient-at-least}
@@ -43,7 +45,8 @@ down-shape y l v v′ s s′ d t h = omega (arith, mul-le-mul-left l h)
 
 tail-shape : (u l d t s s′ y : ℕ) → u * t ≤ s → d ≤ y → u * (l * (d * (l * (t * s′)))) ≤ l * s * (l * s′) * y
 tail-shape u l d t s s′ y h k =
-    le-trans {m = l * l * s′ * (s * d)} (omega (arith, mul-le-mul-left (l * l * s′ * d) h)) (omega (arith, mul-le-mul-left (l * l * s′ * s) k))
+    le-trans {m = l * l * s′ * (s * d)} (omega (arith, mul-le-mul-left (l * l * s′ * d) h))
+    (omega (arith, mul-le-mul-left (l * l * s′ * s) k))
 
 -- the units are coarse enough to swallow t^80 for t up to 1/3
 module _ (u : ℕ) (coarse : u ≤ 3 ^ 80) where
@@ -70,15 +73,18 @@ module _ (u : ℕ) (coarse : u ≤ 3 ^ 80) where
     step-up =
         quotient-at-most u _ _ _ _ d (b + p) (den-pos (b + b + p) (omega arith)) (den-pos (b + b + p + d) (omega arith)) (omega arith)
         (up-shape (b + p) allOdds _ _ _ _ d
-        (grows-at-most weight allOdds 40 weights b d p (p + d) (b + b + p) (b + b + p + d) (b + p) (b + p + d) (omega arith) (omega arith) (omega arith) (omega arith)))
+        (grows-at-most weight allOdds 40 weights b d p (p + d) (b + b + p) (b + b + p + d) (b + p) (b + p + d) (omega arith) (omega arith)
+        (omega arith) (omega arith)))
 
     step-down : p ≤ b → fl p (b + b + p) + u * d / (b + p + d) ≤ fl (p + d) (b + b + p + d) + 1
     unfolding fl
     step-down h =
-        quotient-at-least u _ _ _ _ d (b + p + d) _ (den-pos (b + b + p) (omega arith)) (den-pos (b + b + p + d) (omega arith)) (omega arith)
+        quotient-at-least u _ _ _ _ d (b + p + d) _ (den-pos (b + b + p) (omega arith)) (den-pos (b + b + p + d) (omega arith))
+        (omega arith)
         (tail-shape u allOdds d _ _ _ (b + p + d) (tail p (b + b + p) (omega arith)) (le-add-left d (b + p)))
         (down-shape (b + p + d) allOdds _ _ _ _ d _
-        (grows-at-least weight allOdds 40 weights b d p (p + d) (b + b + p) (b + b + p + d) (b + p) (b + p + d) (omega arith) (omega arith) (omega arith) (omega arith)))
+        (grows-at-least weight allOdds 40 weights b d p (p + d) (b + b + p) (b + b + p + d) (b + p) (b + p + d) (omega arith) (omega arith)
+        (omega arith) (omega arith)))
 
   fl-of-scaled : (k p q : ℕ) → zero < k → fl (p * k) (q * k) ≡ fl p q
   unfolding fl
@@ -118,7 +124,8 @@ module _ (u : ℕ) (coarse : u ≤ 3 ^ 80) where
       hf j k = up-at b (p + j * d) d _ _ _ _ pb (omega arith) (omega arith) (omega arith) (omega arith)
 
       hg : (j : ℕ) → j < m → walk c r d j + stride (b + p) d (suc j) ≤ walk c r d (suc j) + 1
-      hg j k = down-at c (r + j * d) d _ _ _ _ pc (omega (arith, mul-le-mul-right d k)) (omega arith) (omega arith) (omega arith) (omega arith)
+      hg j k =
+          down-at c (r + j * d) d _ _ _ _ pc (omega (arith, mul-le-mul-right d k)) (omega arith) (omega arith) (omega arith) (omega arith)
 
       e₁ : walk b p d 0 ≡ fl p (b + b + p)
       e₁ = ap₂ fl (omega arith) (omega arith)
@@ -132,20 +139,24 @@ module _ (u : ℕ) (coarse : u ≤ 3 ^ 80) where
   fl-at-zero : (q : ℕ) → fl 0 q ≡ 0
   unfolding fl
   fl-at-zero q =
-      ap (λ (x : ℕ). u * (2 * (x * q)) / (allOdds * q ^ 80)) (odds-at-zero weight 40 q) ∙ ap (λ (x : ℕ). x / (allOdds * q ^ 80)) (omega arith)
+      ap (λ (x : ℕ). u * (2 * (x * q)) / (allOdds * q ^ 80)) (odds-at-zero weight 40 q)
+      ∙ ap (λ (x : ℕ). x / (allOdds * q ^ 80)) (omega arith)
       ∙ zero-div (allOdds * q ^ 80)
 
   -- x = (o+a)/o and y = (o+a+d)/(o+a), so that xy = (o+a+d)/o is at most 2: the two sides are within d/((o+a) m) + 2m/u
   module _ (o a d m : ℕ) (po : zero < o) (pm : zero < m) (le : a + d ≤ o) where
     whole-at : fl (a * m + m * d) (o * m + o * m + a * m + m * d) ≡ floorS u (a + d) (o + o + a + d)
-    whole-at = ap₂ fl (omega arith) (omega arith) ∙ fl-of-scaled m (a + d) (o + o + a + d) pm ∙ sym (floorS-by-weights (a + d) (o + o + a + d) (omega arith))
+    whole-at =
+        ap₂ fl (omega arith) (omega arith) ∙ fl-of-scaled m (a + d) (o + o + a + d) pm
+        ∙ sym (floorS-by-weights (a + d) (o + o + a + d) (omega arith))
 
     first-at : fl (a * m) (o * m + o * m + a * m) ≡ floorS u a (o + o + a)
     first-at = ap₂ fl refl (omega arith) ∙ fl-of-scaled m a (o + o + a) pm ∙ sym (floorS-by-weights a (o + o + a) (omega arith))
 
     second-at : fl (0 + m * d) ((o + a) * m + (o + a) * m + 0 + m * d) ≡ floorS u d (o + a + (o + a) + d)
     second-at =
-        ap₂ fl (omega arith) (omega arith) ∙ fl-of-scaled m d (o + a + (o + a) + d) pm ∙ sym (floorS-by-weights d (o + a + (o + a) + d) (omega arith))
+        ap₂ fl (omega arith) (omega arith) ∙ fl-of-scaled m d (o + a + (o + a) + d) pm
+        ∙ sym (floorS-by-weights d (o + a + (o + a) + d) (omega arith))
 
     nought : fl 0 ((o + a) * m + (o + a) * m + 0) ≡ 0
     nought = fl-at-zero ((o + a) * m + (o + a) * m + 0)
@@ -161,7 +172,8 @@ module _ (u : ℕ) (coarse : u ≤ 3 ^ 80) where
     S-of-product-at-most =
         omega (
           arith,
-          two-bases (o * m) (a * m) ((o + a) * m) 0 d m (mul-pos po pm) (mul-pos (omega arith) pm) point (omega (arith, mul-le-mul-left m le)),
+          two-bases (o * m) (a * m) ((o + a) * m) 0 d m (mul-pos po pm) (mul-pos (omega arith) pm) point
+              (omega (arith, mul-le-mul-left m le)),
           whole-at,
           first-at,
           second-at,
@@ -174,7 +186,8 @@ module _ (u : ℕ) (coarse : u ≤ 3 ^ 80) where
     S-of-product-at-least =
         omega (
           arith,
-          two-bases ((o + a) * m) 0 (o * m) (a * m) d m (mul-pos (omega arith) pm) (mul-pos po pm) (sym point) (omega (arith, mul-le-mul-left m le)),
+          two-bases ((o + a) * m) 0 (o * m) (a * m) d m (mul-pos (omega arith) pm) (mul-pos po pm) (sym point)
+              (omega (arith, mul-le-mul-left m le)),
           whole-at,
           first-at,
           second-at,

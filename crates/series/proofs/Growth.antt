@@ -42,10 +42,14 @@ module _ (w : ℕ → ℕ) (l n : ℕ) (hw : (j : ℕ) → j < n → suc (j + j)
     before-at-common : odds w n (p * q′) (q * q′) * (q * q′) ≡ odds w n p q * q * q′ ^ (n + n)
     before-at-common = omega (arith, ap (λ (x : ℕ). x * q) (odds-homogeneous w n q′ p q))
 
-    evens-above : (g x : ℕ) → g * (q * q′ * (q * q′)) + x ≡ (q * q′) ^ (n + n) + g * (p′ * q * (p′ * q)) → g * (q * q) * (4 * b * y′) ≤ (q * q′) ^ (n + n)
+    evens-above :
+        (g x : ℕ) → g * (q * q′ * (q * q′)) + x ≡ (q * q′) ^ (n + n) + g * (p′ * q * (p′ * q))
+        → g * (q * q) * (4 * b * y′) ≤ (q * q′) ^ (n + n)
     evens-above g x h = omega (arith, ap (λ (z : ℕ). g * (q * q) * z) square′)
 
-    evens-below : (g x : ℕ) → g * (q * q′ * (q * q′)) + x ≡ (q * q′) ^ (n + n) + g * (p * q′ * (p * q′)) → g * (q′ * q′) * (4 * b * y) + x ≡ (q * q′) ^ (n + n)
+    evens-below :
+        (g x : ℕ) → g * (q * q′ * (q * q′)) + x ≡ (q * q′) ^ (n + n) + g * (p * q′ * (p * q′))
+        → g * (q′ * q′) * (4 * b * y) + x ≡ (q * q′) ^ (n + n)
     evens-below g x h = omega (arith, ap (λ (z : ℕ). g * (q′ * q′) * z) square)
 
     pub grows-at-most :

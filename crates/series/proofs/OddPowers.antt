@@ -24,7 +24,8 @@ pub odds-as-written :
 unfolding odds sum
 odds-as-written w p q k zero t h = omega arith
 odds-as-written w p q k (suc n) t h =
-    let ih : sum t n ≡ odds w n p q * q ^ (suc k + suc k) = odds-as-written w p q (suc k) n t (λ j i l e. h j i (le-step l) (e ∙ omega arith)) in
+    let ih : sum t n ≡ odds w n p q * q ^ (suc k + suc k) = odds-as-written w p q (suc k) n t
+    (λ j i l e. h j i (le-step l) (e ∙ omega arith)) in
     let last : t n ≡ w n * p ^ suc (n + n) * q ^ (k + k) = h n k (le-refl (suc n)) (omega arith) in
     omega (arith, ih, last, ap (λ (x : ℕ). odds w n p q * x) (pow-double-suc q k))
 
@@ -45,7 +46,13 @@ module _ (w : ℕ → ℕ) (l : ℕ) where
   odds-grow-at-most (suc n) h p e q =
       let ih : odds w n (p + e) q ≤ odds w n p q + l * (e * evens n (p + e) q) = odds-grow-at-most n (λ j k. h j (le-step k)) p e q in
       let hn : suc (n + n) * w n ≡ l = h n (le-refl (suc n)) in
-      omega (arith, mul-le-mul-right (q * q) ih, mul-le-mul-left (w n) (pow-grows-at-most p e (n + n)), ap (λ (x : ℕ). x * (e * (p + e) ^ (n + n))) hn)
+      omega (
+        arith,
+        mul-le-mul-right (q * q) ih,
+        mul-le-mul-left (w n) (pow-grows-at-most p e (n + n)),
+        ap
+            (λ (x : ℕ). x * (e * (p + e) ^ (n + n))) hn,
+      )
 
   pub odds-grow-at-least :
       (n : ℕ) → ((j : ℕ) → j < n → suc (j + j) * w j ≡ l) → (p e q : ℕ) → odds w n p q + l * (e * evens n p q) ≤ odds w n (p + e) q
@@ -54,7 +61,13 @@ module _ (w : ℕ → ℕ) (l : ℕ) where
   odds-grow-at-least (suc n) h p e q =
       let ih : odds w n p q + l * (e * evens n p q) ≤ odds w n (p + e) q = odds-grow-at-least n (λ j k. h j (le-step k)) p e q in
       let hn : suc (n + n) * w n ≡ l = h n (le-refl (suc n)) in
-      omega (arith, mul-le-mul-right (q * q) ih, mul-le-mul-left (w n) (pow-grows-at-least p e (n + n)), ap (λ (x : ℕ). x * (e * p ^ (n + n))) hn)
+      omega (
+        arith,
+        mul-le-mul-right (q * q) ih,
+        mul-le-mul-left (w n) (pow-grows-at-least p e (n + n)),
+        ap
+            (λ (x : ℕ). x * (e * p ^ (n + n))) hn,
+      )
 
 -- p and q times k
 pub odds-homogeneous : (w : ℕ → ℕ) (n k p q : ℕ) → odds w n (p * k) (q * k) * k ≡ odds w n p q * k ^ (n + n)
@@ -84,7 +97,8 @@ tail-folds w l x p q hw hp = omega (arith, mul-le-mul-left (x * (q * q)) hw, mul
 -- and the rest is at most twice the next term, where (p/q)² is at most a half
 pub first-terms-above :
     (w : ℕ → ℕ) (l k m p q : ℕ) → ((j : ℕ) → m ≤ j → j < k + m → 2 * w j ≤ l) → 2 * (p * p) ≤ q * q
-    → odds w (k + m) p q * (q * q) + l * p ^ suc (k + m + (k + m)) ≤ odds w m p q * (q * q) * q ^ (k + k) + l * p ^ suc (m + m) * q ^ (k + k)
+    → odds w (k + m) p q * (q * q) + l * p ^ suc (k + m + (k + m))
+    ≤ odds w m p q * (q * q) * q ^ (k + k) + l * p ^ suc (m + m) * q ^ (k + k)
 unfolding odds
 first-terms-above w l zero m p q hw hp =
     subst
@@ -92,10 +106,12 @@ first-terms-above w l zero m p q hw hp =
     (sym (zero-add m))
     (rw (pow-zero q) (omega arith))
 first-terms-above w l (suc k) m p q hw hp =
-    let ih : odds w (k + m) p q * (q * q) + l * p ^ suc (k + m + (k + m)) ≤ odds w m p q * (q * q) * q ^ (k + k) + l * p ^ suc (m + m) * q ^ (k + k) =
+    let ih : odds w (k + m) p q * (q * q) + l * p ^ suc (k + m + (k + m))
+    ≤ odds w m p q * (q * q) * q ^ (k + k) + l * p ^ suc (m + m) * q ^ (k + k) =
     first-terms-above w l k m p q (λ j a b. hw j a (omega arith)) hp in
     subst
-    (λ (x : ℕ). odds w x p q * (q * q) + l * p ^ suc (x + x) ≤ odds w m p q * (q * q) * q ^ (suc k + suc k) + l * p ^ suc (m + m) * q ^ (suc k + suc k))
+    (λ (x : ℕ). odds w x p q * (q * q) + l * p ^ suc (x + x)
+    ≤ odds w m p q * (q * q) * q ^ (suc k + suc k) + l * p ^ suc (m + m) * q ^ (suc k + suc k))
     (sym (suc-add k m))
     (rw
     (pow-double-suc q k, pow-suc p (suc (k + m) + suc (k + m)), pow-double-suc p (k + m))

@@ -1,7 +1,8 @@
 -- S grows, and no faster than y: exact, on any fractions. Fractions are compared crosswise. Assumes nothing.
 use mathlib.Core.Path.{_≡_, sym, ap, ap₂, _∙_, subst}
 use Prim.Native.Nat.{ℕ, _+_, _*_, _^_, _-_, _≤_, _<_}
-use native.Mathlib.Nat.{le-trans, le-of-eq, le-antisymm, le-add-right, mul-comm, mul-add, add-mul, mul-pos, mul-le-mul-left, le-of-mul-le-mul-right, le-dest}
+use native.Mathlib.Nat.{le-trans, le-of-eq, le-antisymm, le-add-right, mul-comm, mul-add, add-mul, mul-pos, mul-le-mul-left}
+use native.Mathlib.Nat.{le-of-mul-le-mul-right, le-dest}
 use native.Mathlib.Omega.{arith}
 use Rattle.series.specs.Series.{sNum, sDen}
 use Rattle.series.proofs.OddPowers.{odds, odds-grow-at-least, odds-homogeneous}
@@ -17,17 +18,24 @@ odds-monotone p r q h =
 
 -- at a common denominator q s
 crossed :
-    (a b c d e f q s l D E : ℕ) → a * s ≡ c * e → b * q ≡ d * f → D * q ≡ l * f → E * s ≡ l * e → a ≤ b → 2 * c * E * (q * s) ≤ 2 * d * D * (q * s)
+    (a b c d e f q s l D E : ℕ) → a * s ≡ c * e → b * q ≡ d * f → D * q ≡ l * f → E * s ≡ l * e → a ≤ b
+    → 2 * c * E * (q * s) ≤ 2 * d * D * (q * s)
 crossed a b c d e f q s l D E x y hD hE h =
     le-trans {m = 2 * l * q * s * a} (le-of-eq (omega (arith, ap (λ (t : ℕ). 2 * l * q * t) x, ap (λ (t : ℕ). 2 * c * q * t) hE)))
-    (le-trans (mul-le-mul-left (2 * l * q * s) h) (le-of-eq (omega (arith, ap (λ (t : ℕ). 2 * l * s * t) y, ap (λ (t : ℕ). 2 * d * s * t) hD))))
+    (le-trans (mul-le-mul-left (2 * l * q * s) h) (le-of-eq (omega (
+      arith,
+      ap (λ (t : ℕ). 2 * l * s * t) y,
+      ap (λ (t : ℕ). 2 * d * s * t)
+          hD,
+    ))))
 
 -- p/q ≤ r/s gives S(p/q) ≤ S(r/s)
 pub S-grows : (p q r s : ℕ) → 0 < q → 0 < s → p * s ≤ r * q → sNum p q * sDen s ≤ sNum r s * sDen q
 S-grows p q r s pq ps h =
     rw (sNum-by-weights p q, sNum-by-weights r s)
     (le-of-mul-le-mul-right {k = q * s}
-    (crossed (odds weight 40 (p * s) (q * s)) (odds weight 40 (r * q) (s * q)) (odds weight 40 p q) (odds weight 40 r s) (s ^ 80) (q ^ 80) q s allOdds (sDen q) (sDen s)
+    (crossed (odds weight 40 (p * s) (q * s)) (odds weight 40 (r * q) (s * q)) (odds weight 40 p q) (odds weight 40 r s) (s ^ 80) (q ^ 80) q
+    s allOdds (sDen q) (sDen s)
     (odds-homogeneous weight 40 s p q)
     (odds-homogeneous weight 40 q r s)
     (sDen-by-weights q)
@@ -53,7 +61,8 @@ multiplied y l v v′ q q′ s s′ D D′ d e e′ h =
     (le-trans (mul-le-mul-left l h)
     (le-of-eq
     (mul-add l (2 * y * (v * q * s′)) (d * (l * (s * s′)))
-    ∙ ap₂ _+_ (one-sum y l v q′ q s′ D′ e′ ∙ ap (λ (x : ℕ). y * (2 * v * D′) * x) (mul-comm q′ q)) (both-denominators l d q q′ s s′ D D′ e e′)
+    ∙ ap₂ _+_ (one-sum y l v q′ q s′ D′ e′ ∙ ap (λ (x : ℕ). y * (2 * v * D′) * x) (mul-comm q′ q))
+    (both-denominators l d q q′ s s′ D D′ e e′)
     ∙ sym (add-mul (y * (2 * v * D′)) (d * (D * D′)) (q * q′)))))
 
 -- The Lipschitz law: S at (y+d-b)/(y+d+b) is at most S at (y-b)/(y+b) and d/y, where y = b + p
@@ -64,8 +73,10 @@ pub S-lipschitz :
 S-lipschitz b p d h =
     rw (sNum-by-weights p (b + b + p), sNum-by-weights (p + d) (b + b + p + d))
     (le-of-mul-le-mul-right {k = (b + b + p) * (b + b + p + d)}
-    (multiplied (b + p) allOdds _ _ (b + b + p) (b + b + p + d) ((b + b + p) ^ 80) ((b + b + p + d) ^ 80) _ _ d (sDen-by-weights (b + b + p)) (sDen-by-weights (b + b + p + d))
-    (grows-at-most weight allOdds 40 weights b d p (p + d) (b + b + p) (b + b + p + d) (b + p) (b + p + d) (omega arith) (omega arith) (omega arith) (omega arith)))
+    (multiplied (b + p) allOdds _ _ (b + b + p) (b + b + p + d) ((b + b + p) ^ 80) ((b + b + p + d) ^ 80) _ _ d
+    (sDen-by-weights (b + b + p)) (sDen-by-weights (b + b + p + d))
+    (grows-at-most weight allOdds 40 weights b d p (p + d) (b + b + p) (b + b + p + d) (b + p) (b + p + d) (omega arith) (omega arith)
+    (omega arith) (omega arith)))
     (mul-pos (omega arith) (omega arith)))
 
 -- S((m-1)/(m+1)) is at most S(1/3) for m = c/d up to 2

@@ -1,10 +1,11 @@
--- L depends on the fraction alone: neither on how it is written nor on how its k and m are; and doubling it adds S(1/3). Assumes nothing.
+-- L depends on the fraction alone: neither on how it is written nor on how its k and m are. Assumes nothing.
 use mathlib.Core.Path.{_≡_, refl, sym, ap, ap₂, _∙_}
 use Prim.Native.Nat.{ℕ, suc, _+_, _-_, _*_, _^_, _≤_, _<_}
-use native.Mathlib.Nat.{le-of-mul-le-mul-right, lt-of-not-le, not-le-of-lt, mul-pos, mul-le-mul-left, mul-lt-mul-of-pos-right, eq-of-mul-eq-mul-right, pow-suc, lt-of-mul-lt-mul-right}
+use native.Mathlib.Nat.{le-of-mul-le-mul-right, lt-of-not-le, not-le-of-lt, mul-pos, mul-le-mul-left, mul-lt-mul-of-pos-right}
+use native.Mathlib.Nat.{eq-of-mul-eq-mul-right, pow-suc, lt-of-mul-lt-mul-right}
 use native.Mathlib.Omega.{arith}
 use lib.Pow.{pow-add, pow-pos, pow-mono}
-use Rattle.series.specs.Series.{sNum, sDen, Written, Same, lAt, lOf, rise, fall, plusFraction}
+use Rattle.series.specs.Series.{sNum, sDen, Written, Same, lAt, lOf}
 use Rattle.series.proofs.Order.{S-of-same}
 use Rattle.series.proofs.Written.{written}
 
@@ -19,7 +20,13 @@ less-than A B C D pb e h = lt-of-mul-lt-mul-right D (omega (arith, mul-lt-mul-of
 powers-meet :
     (a b a′ b′ p q p′ q′ : ℕ) → 0 < a′ * p′ → a * b′ ≡ a′ * b → b′ * q′ ≤ a′ * p′ → a * p < 2 * (b * q) → p * q′ < 2 * (p′ * q)
 powers-meet a b a′ b′ p q p′ q′ pa e lo hi =
-    lt-of-mul-lt-mul-right (a * b′) (omega (arith, mul-le-mul-left (a * p) lo, mul-lt-mul-of-pos-right hi pa, ap (λ (t : ℕ). 2 * (p′ * q) * t) e))
+    lt-of-mul-lt-mul-right (a * b′) (omega (
+      arith,
+      mul-le-mul-left (a * p) lo,
+      mul-lt-mul-of-pos-right hi pa,
+      ap
+          (λ (t : ℕ). 2 * (p′ * q) * t) e,
+    ))
 
 exponent-le : (i j k l : ℕ) → 2 ^ i * 2 ^ j < 2 * (2 ^ k * 2 ^ l) → i + j ≤ k + l
 exponent-le i j k l h = omega (arith, lt-of-not-le (λ (g : suc (k + l) ≤ i + j). not-le-of-lt below (pow-mono g)))
@@ -94,7 +101,8 @@ module _
 
   same-mantissa : c * d′ ≡ c′ * d
   same-mantissa =
-      mantissas-meet (a * 2 ^ f) (b * 2 ^ u) (a′ * 2 ^ f′) (b′ * 2 ^ u′) c d c′ d′ (mul-pos (mul-pos pa′ (pow-pos f′)) (mul-pos pb (pow-pos u)))
+      mantissas-meet (a * 2 ^ f) (b * 2 ^ u) (a′ * 2 ^ f′) (b′ * 2 ^ u′) c d c′ d′
+      (mul-pos (mul-pos pa′ (pow-pos f′)) (mul-pos pb (pow-pos u)))
       (w .value)
       (w′ .value)
       (regrouped a (2 ^ f) b′ (2 ^ u′) ∙ ap₂ _*_ same powers ∙ sym (regrouped a′ (2 ^ f′) b (2 ^ u)))
@@ -127,32 +135,3 @@ L-by-any {a} {b} pa pb w = L-of-same (written a b pa pb) w pa pb pa pb refl
 pub L-of-equal : (a b a′ b′ : ℕ) → 0 < a → 0 < b → 0 < a′ → 0 < b′ → a * b′ ≡ a′ * b → Same (lOf a b) (lOf a′ b′)
 unfolding lOf
 L-of-equal a b a′ b′ pa pb pa′ pb′ e = L-of-same (written a b pa pb) (written a′ b′ pa′ pb′) pa pb pa′ pb′ e
-
--- L(2x) = L(x) + S(1/3)
-pub L-of-double : (a b : ℕ) → 0 < a → 0 < b → Same (lOf (2 * a) b) (plusFraction (lOf a b) (sNum 1 3) (sDen 3))
-unfolding lOf lAt
-L-of-double a b pa pb = record {
-  crosswise = one-turn-more _ _ _ (rise a b) (fall a b) (sNum 1 3) (sDen 3) _ _ (by-double .crosswise);
-}
-  where
-    half : Written a b (rise a b) (fall a b) (a * 2 ^ fall a b) (b * 2 ^ rise a b)
-    half = written a b pa pb
-
-    doubled : (x p y z q : ℕ) → x * p * y ≡ z * (b * q) → 2 * x * p * y ≡ z * (b * (q * 2))
-    doubled x p y z q e = omega arith
-
-    twice : Written (2 * a) b (suc (rise a b)) (fall a b) (a * 2 ^ fall a b) (b * 2 ^ rise a b)
-    twice = record {
-      from-one = half .from-one;
-      below-two = half .below-two;
-      value =
-          doubled a (2 ^ fall a b) _ _ (2 ^ rise a b) (half .value) ∙ ap (λ (t : ℕ). a * 2 ^ fall a b * (b * t)) (sym (pow-suc 2 (rise a b)));
-    }
-
-    by-double : Same (lOf (2 * a) b) (lAt (suc (rise a b)) (fall a b) (a * 2 ^ fall a b) (b * 2 ^ rise a b))
-    by-double = L-by-any (omega arith) pb twice
-
-    one-turn-more :
-        (p l o r f t T N D : ℕ) → p * (T * D) + f * (t * D) * o ≡ (suc r * (t * D) + N * T) * o + l * (T * D)
-        → p * (T * D * T) + f * (t * D) * T * o ≡ ((r * (t * D) + N * T) * T + t * (T * D)) * o + l * (T * D * T)
-    one-turn-more p l o r f t T N D e = omega (arith, ap (λ (x : ℕ). T * x) e)

@@ -1,7 +1,8 @@
 -- What is said of a signed fraction, crosswise, holds of every one that is the same number. Assumes nothing.
 use mathlib.Core.Path.{_≡_, sym, ap, ap₂, _∙_}
 use Prim.Native.Nat.{ℕ, _+_, _-_, _*_, _^_, _≤_, _<_, max}
-use native.Mathlib.Nat.{le-trans, le-of-eq, mul-comm, mul-add, mul-sub, mul-pos, mul-le-mul-right, le-of-mul-le-mul-right, le-max-left, le-max-right, max-le, le-div-iff-mul-le}
+use native.Mathlib.Nat.{le-trans, le-of-eq, mul-comm, mul-add, mul-sub, mul-pos, mul-le-mul-right, le-of-mul-le-mul-right, le-max-left}
+use native.Mathlib.Nat.{le-max-right, max-le, le-div-iff-mul-le}
 use native.Mathlib.Omega.{arith}
 use lib.Pow.{pow-pos}
 use Rattle.series.specs.Series.{Signed, Same, lAt, lOf, rise, fall, magnitude}
@@ -21,12 +22,14 @@ over-pos-of a b h = over-pos (rise a b) (fall a b) (a * 2 ^ fall a b) (b * 2 ^ r
 at-most :
     (a b k p l o p′ l′ o′ E E′ : ℕ) → 0 < o → p * o′ + l′ * o ≡ p′ * o + l * o′ → E * o′ ≤ E′ * o → a * o + k * l ≤ b * o + k * p + E
     → a * o′ + k * l′ ≤ b * o′ + k * p′ + E′
-at-most a b k p l o p′ l′ o′ E E′ po e m h = le-of-mul-le-mul-right {k = o} (omega (arith, mul-le-mul-right o′ h, ap (λ (t : ℕ). k * t) e)) po
+at-most a b k p l o p′ l′ o′ E E′ po e m h =
+    le-of-mul-le-mul-right {k = o} (omega (arith, mul-le-mul-right o′ h, ap (λ (t : ℕ). k * t) e)) po
 
 at-least :
     (a b k p l o p′ l′ o′ E E′ : ℕ) → 0 < o → p * o′ + l′ * o ≡ p′ * o + l * o′ → E * o′ ≤ E′ * o → b * o + k * p ≤ a * o + k * l + E
     → b * o′ + k * p′ ≤ a * o′ + k * l′ + E′
-at-least a b k p l o p′ l′ o′ E E′ po e m h = le-of-mul-le-mul-right {k = o} (omega (arith, mul-le-mul-right o′ h, ap (λ (t : ℕ). k * t) e)) po
+at-least a b k p l o p′ l′ o′ E E′ po e m h =
+    le-of-mul-le-mul-right {k = o} (omega (arith, mul-le-mul-right o′ h, ap (λ (t : ℕ). k * t) e)) po
 
 apart-meets : (a b a′ b′ : ℕ) → a + b′ ≡ a′ + b → a - b + (b - a) ≡ a′ - b′ + (b′ - a′)
 apart-meets a b a′ b′ e = omega arith
@@ -55,8 +58,10 @@ module _ {x y : Signed} (e : Same x y) where
 
   -- (a - b)/k is at most x + E/(k over), and at least x - E/(k over)
   module _ (px : 0 < x .over) (a b k E E′ : ℕ) (m : E * y .over ≤ E′ * x .over) where
-    pub at-most-moves : a * x .over + k * x .less ≤ b * x .over + k * x .plus + E → a * y .over + k * y .less ≤ b * y .over + k * y .plus + E′
+    pub at-most-moves :
+        a * x .over + k * x .less ≤ b * x .over + k * x .plus + E → a * y .over + k * y .less ≤ b * y .over + k * y .plus + E′
     at-most-moves h = at-most a b k _ _ _ _ _ _ E E′ px (e .crosswise) m h
 
-    pub at-least-moves : b * x .over + k * x .plus ≤ a * x .over + k * x .less + E → b * y .over + k * y .plus ≤ a * y .over + k * y .less + E′
+    pub at-least-moves :
+        b * x .over + k * x .plus ≤ a * x .over + k * x .less + E → b * y .over + k * y .plus ≤ a * y .over + k * y .less + E′
     at-least-moves h = at-least a b k _ _ _ _ _ _ E E′ px (e .crosswise) m h

@@ -2,3 +2,4 @@
 pub mod Products
 pub mod Differences
 pub mod PartialProducts
+pub mod Agree

@@ -28,7 +28,8 @@ room a b ha hb = record {
 -- the carries: high, two middle and low partial products p, q, r, s
 carried :
     (p q r s mid cross : ℕ) → mid ≡ q + s / base → cross ≡ r + mid % base
-    → (p + mid / base + cross / base) * 18446744073709551616 + ((r + q % base + s / base) % base * base + s % base) ≡ p * 18446744073709551616 + (q + r) * base + s
+    → (p + mid / base + cross / base) * 18446744073709551616 + ((r + q % base + s / base) % base * base + s % base)
+    ≡ p * 18446744073709551616 + (q + r) * base + s
 carried p q r s mid cross e₁ e₂ = omega arith
 
 multiplied : (a b x y k : ℕ) → (a * k + x) * (b * k + y) ≡ a * b * (k * k) + (a * y + x * b) * k + x * y
@@ -43,7 +44,8 @@ joined a b p q r s ep eq er es =
 
 -- what `product` computes
 pub four-products :
-    (a b : ℕ) → let low = a % base * (b % base) in let mid = a / base * (b % base) + low / base in let cross = a % base * (b / base) + mid % base in
+    (a b : ℕ) → let low = a % base * (b % base) in let mid = a / base * (b % base) + low / base in
+    let cross = a % base * (b / base) + mid % base in
     (a / base * (b / base) + mid / base + cross / base) * 18446744073709551616
     + ((a % base * (b / base) + a / base * (b % base) % base + low / base) % base * base + low % base)
     ≡ a * b

@@ -8,7 +8,7 @@
 //  https://web.stanford.edu/group/SOL/dissertations/ThesisAkleAdobe-augmented.pdf
 
 ghost use mathlib.Core.Path.{_≡_};
-ghost use Rattle.wright.specs.Omega.{taylorStart, logStart, startOf, refineOf, refinedOf, omegaOf};
+ghost use Rattle.wright.specs.Omega.{taylorStart, logStart, startOf, refineOf, refinedOf, omegaOf, omegaAt};
 use kernels::log;
 
 const PI: f64 = 3.141592653589793;
@@ -110,7 +110,7 @@ fn refined(z: f64, w: f64) -> f64
     a.w
 }
 
-pub fn wright_omega(z: f64) -> Omega
+fn wright_omega(z: f64) -> Omega
     ensures { λ x. ⌜ x ≡ omegaOf z ⌝ }
 {
     if z < 0.0 {
@@ -123,4 +123,11 @@ pub fn wright_omega(z: f64) -> Omega
         panics: false,
         w: refined(z, start(z)),
     }
+}
+
+// The omega of 000 barrier_primal and gradient_primal at the point s.
+pub fn omega_at(s: [f64; 3]) -> Omega
+    ensures { λ x. ⌜ x ≡ omegaAt s ⌝ }
+{
+    wright_omega(1.0 - s[0] / s[1] - log(s[1] / s[2]))
 }

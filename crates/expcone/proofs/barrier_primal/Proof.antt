@@ -1,41 +1,35 @@
 -- `barrier_primal` meets its contract: omega's flag picks the definition's branch. Assumes nothing.
-use mathlib.Core.Path.{_≡_, refl, ap, _∙_}
+use mathlib.Core.Path.{refl, ap, _∙_}
 use lib.Ieee.{Float}
 use Rattle.arith.proofs.Branches.{taken, left}
 use Rattle.double.specs.Operators.{at}
-use Rattle.wright.specs.Omega.{omegaOf, omegaArg, omegaAt}
 use mathlib.Core.List.{List}
 use Rattle.expcone.specs.Barriers.{barrierPrimalOf, barrierPrimalAt}
 use borrow.Author.Needs.{needs}
 use Rattle.expcone.proofs.barrier_primal.Statement.{statement}
 use Rattle.expcone.proofs.barrier_primal.Tie as tie
 
-abbrev point : tie.After-wright-omega → List Float
-point w = w .before .before .args .t1
-
--- what was called is omega at the point
-omega-told : (w : tie.After-wright-omega) → w .wright-omega .result ≡ omegaAt (point w)
-unfolding omegaAt omegaArg
-omega-told w = w .wright-omega .ensures ∙ ap (λ (l : Float). omegaOf (omegaArg (at (point w) 0) (at (point w) 1) l)) (w .before .log .ensures)
+abbrev point : tie.After-omega-at → List Float
+point w = w .before .args .t1
 
 returns : tie.Need-returns
 unfolding barrierPrimalOf barrierPrimalAt
 returns c =
     let w = c .before in
-    taken _ (c .if1 .taken) refl ∙ ap (barrierPrimalAt (at (point w) 1) (at (point w) 2)) (omega-told w)
+    taken _ (c .if1 .taken) refl ∙ ap (barrierPrimalAt (at (point w) 1) (at (point w) 2)) (w .omega-at .ensures)
 
 returns-2 : tie.Need-returns-2
 unfolding barrierPrimalOf barrierPrimalAt
 returns-2 c =
     let w = c .before .before .before .before in
-    left _ (c .before .before .before .if1 .left) (rw (c .log4 .ensures, c .before .log3 .ensures, c .before .before .log2 .ensures))
-    ∙ ap (barrierPrimalAt (at (point w) 1) (at (point w) 2)) (omega-told w)
+    left _ (c .before .before .before .if1 .left) (rw (c .log3 .ensures, c .before .log2 .ensures, c .before .before .log .ensures))
+    ∙ ap (barrierPrimalAt (at (point w) 1) (at (point w) 2)) (w .omega-at .ensures)
 
 pub barrier-primal-spec : {M : Type 1} → statement M
 barrier-primal-spec =
     tie.close
     (tie.spec
-    (λ c. search needs) (λ c. search needs) (λ c. search needs) (λ c κs. search needs) (λ c κs. search needs)
+    (λ c. search needs) (λ c. search needs) (λ c κs. search needs)
     returns
     (λ c κs. search needs) (λ c κs. search needs) (λ c κs. search needs)
     returns-2)

@@ -1,6 +1,6 @@
 -- `unit_initialization` meets its contract: it is the definition's text. Assumes nothing.
 use mathlib.Core.Path.{refl}
-use Rattle.expcone.specs.Feasible.{unitInitializationOf}
+use Rattle.expcone.specs.PrimalGradient.{unitInitializationOf}
 use Rattle.expcone.proofs.unit_initialization.Statement.{statement}
 use Rattle.expcone.proofs.unit_initialization.Tie as tie
 

@@ -18,6 +18,13 @@ use Rattle.exponential.proofs.exp.Tie as tie
 held : (c : tie.Start) → T (fits binary64 (c .args .x))
 held c = subst T (sym (c .good .0 .1)) tt
 
+-- the pattern of x, before the tests of a number; where x was, before those of the top class
+abbrev pattern : tie.Else3 → tie.After-to-bits
+pattern c = c .before .before .before .before
+
+abbrev begun : tie.Else1 → tie.Start
+begun c = c .before .before .before
+
 -- ---- the class, as a fact on the pattern of x
 
 field-is : (c : tie.After-to-bits) → c .to-bits .result / 2 ^ 52 % 2048 ≡ fieldOf (toBits binary64 (c .before .args .x))
@@ -26,7 +33,7 @@ field-is c = ap fieldOf (c .to-bits .ensures)
 class-of-zero : (c : tie.At-match-keys1) → fieldOf (toBits binary64 (c .before .before .args .x)) ≡ 0
 class-of-zero c = sym (field-is (c .before)) ∙ c .match .keys1
 
-class-of-top : (c : tie.Else1) → fieldOf (toBits binary64 (c .before .before .before .args .x)) ≡ 2047
+class-of-top : (c : tie.Else1) → fieldOf (toBits binary64 (begun c .args .x)) ≡ 2047
 class-of-top c = sym (field-is (c .before .before)) ∙ go _ (field-below (c .before .before .to-bits .result)) (c .if1 .left)
   where
     field-below : (b : ℕ) → b / 2 ^ 52 % 2048 < 2048
@@ -38,26 +45,27 @@ class-of-top c = sym (field-is (c .before .before)) ∙ go _ (field-below (c .be
 -- between the ends
 module _ (c : tie.Else3) where
   abbrev x : Float
-  x = c .before .before .before .before .before .args .x
+  x = pattern c .before .args .x
 
   abbrev b : ℕ
-  b = c .before .before .before .before .to-bits .result
+  b = pattern c .to-bits .result
 
   class : b / 2 ^ 52 % 2048 < 2047
   class = c .before .before .if1 .taken
 
   is : Between x
   is = record {
-    holds = held (c .before .before .before .before .before);
-    number = number-of-class x (subst (λ (f : ℕ). f < 2047) (field-is (c .before .before .before .before)) class);
+    holds = held (pattern c .before);
+    number = number-of-class x (subst (λ (f : ℕ). f < 2047) (field-is (pattern c)) class);
     not-over = c .before .if2 .left;
     not-under = c .if3 .left;
   }
 
   normal : NormalFields (signOf b) (fieldOf b) (digitsOf b)
   normal =
-      subst (λ (p : ℕ). NormalFields (signOf p) (fieldOf p) (digitsOf p)) (sym (c .before .before .before .before .to-bits .ensures))
-      (normal-of x is (subst (λ (f : ℕ). 1 ≤ f) (field-is (c .before .before .before .before)) (go _ (c .before .before .before .match .rest .1))))
+      subst (λ (p : ℕ). NormalFields (signOf p) (fieldOf p) (digitsOf p)) (sym (pattern c .to-bits .ensures))
+      (normal-of x is (subst (λ (f : ℕ). 1 ≤ f) (field-is (pattern c))
+      (go _ (c .before .before .before .match .rest .1))))
     where
       go : (f : ℕ) → (f ≡ 0 → ⊥) → 1 ≤ f
       go f n = omega arith
@@ -88,10 +96,10 @@ exp-at-requires : tie.Need-exp-at-requires
 exp-at-requires c κs = point-of _ _ (c .locate .ensures) (range (c .before))
 
 returns-3 : tie.Need-returns-3
-returns-3 c = top-positive _ (held (c .before .before .before .before)) (class-of-top (c .before)) (c .if4 .taken)
+returns-3 c = top-positive _ (held (begun (c .before))) (class-of-top (c .before)) (c .if4 .taken)
 
 returns-4 : tie.Need-returns-4
-returns-4 c = top-negative _ (held (c .before .before .before .before .before)) (class-of-top (c .before .before)) (c .if5 .taken)
+returns-4 c = top-negative _ (held (begun (c .before .before))) (class-of-top (c .before .before)) (c .if5 .taken)
 
 returns-5 : tie.Need-returns-5
 returns-5 c = class-0 _ (held (c .before .before)) (class-of-zero c)
@@ -99,13 +107,14 @@ returns-5 c = class-0 _ (held (c .before .before)) (class-of-zero c)
 returns-6 : tie.Need-returns-6
 returns-6 c =
     c .exp-at .ensures ∙ exp-at-point _ _ (c .before .locate .ensures)
-    ∙ ap (λ (p : ℕ). expAt (raised (signOf p) (mag (fieldOf p) (digitsOf p)) (2 ^ 1074))) (c .before .before .before .before .before .before .to-bits .ensures)
+    ∙ ap (λ (p : ℕ). expAt (raised (signOf p) (mag (fieldOf p) (digitsOf p)) (2 ^ 1074)))
+    (pattern (c .before .before) .to-bits .ensures)
     ∙ between _ (is (c .before .before) .number) (is (c .before .before) .not-over) (is (c .before .before) .not-under)
 
 returns-7 : tie.Need-returns-7
 returns-7 c =
-    c .nan .ensures
-    ∙ top-else _ (held (c .before .before .before .before .before .before)) (class-of-top (c .before .before .before)) (c .before .before .if4 .left) (c .before .if5 .left)
+    let top = c .before .before .before in
+    c .nan .ensures ∙ top-else _ (held (begun top)) (class-of-top top) (c .before .before .if4 .left) (c .before .if5 .left)
 
 pub exp-spec : {M : Type 1} → statement M
 exp-spec =

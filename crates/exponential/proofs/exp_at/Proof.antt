@@ -18,7 +18,8 @@ at-known c =
 rest-known : (c : tie.After-rest) → c .rest .result ≤ thirdIn64 + 2048
 rest-known c =
     let p = c .before .before .args .p in
-    subst (λ (r : ℕ). r ≤ thirdIn64 + 2048) (sym (c .rest .ensures)) (rest-small (p .whole) (p .part) (c .before .place .result) (at-known (c .before)) (c .before .before .pre .1))
+    subst (λ (r : ℕ). r ≤ thirdIn64 + 2048) (sym (c .rest .ensures))
+    (rest-small (p .whole) (p .part) (c .before .place .result) (at-known (c .before)) (c .before .before .pre .1))
 
 rest-requires : tie.Need-rest-requires
 rest-requires c κs = (at-known c, c .before .pre .1)
@@ -36,7 +37,9 @@ composed-requires c κs =
     )
 
 -- the steps put together, with the place written as the definition has it
-steps : (y part k r v : ℕ) → part < 2048 → k ≡ placeOf y → r ≡ rest (y * 2048 + part) k → v ≡ horner r 39 → composed k v ≡ expAt (y * 2048 + part)
+steps :
+    (y part k r v : ℕ) → part < 2048 → k ≡ placeOf y → r ≡ rest (y * 2048 + part) k → v ≡ horner r 39
+    → composed k v ≡ expAt (y * 2048 + part)
 unfolding expAt
 steps y part k r v l ek er ev =
     let w : ℕ = y * 2048 + part in
@@ -47,7 +50,8 @@ returns : tie.Need-returns
 returns c =
     let p = c .before .before .before .before .args .p in
     c .composed .ensures
-    ∙ steps (p .whole) (p .part) _ _ _ (c .before .before .before .before .pre .1) (c .before .before .before .place .ensures) (c .before .before .rest .ensures) (c .before .sum .ensures)
+    ∙ steps (p .whole) (p .part) _ _ _ (c .before .before .before .before .pre .1) (c .before .before .before .place .ensures)
+    (c .before .before .rest .ensures) (c .before .sum .ensures)
 
 pub exp-at-spec : {M : Type 1} → statement M
 exp-at-spec = tie.close (tie.spec (λ c κs. search needs) rest-requires sum-requires composed-requires returns)

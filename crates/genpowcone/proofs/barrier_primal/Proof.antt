@@ -6,7 +6,7 @@ use Rattle.genpowcone.proofs.barrier_primal.Tie as tie
 
 returns : tie.Need-returns
 unfolding barrierPrimalOf
-returns c = rw (c .barrier-primal-at .ensures, c .before .before .gradient-primal .ensures)
+returns c = rw (c .barrier-primal-at .ensures, c .before .before .before .gradient-primal .ensures)
 
 pub barrier-primal-spec : {M : Type 1} → statement M
 barrier-primal-spec =

@@ -21,13 +21,21 @@ returns c =
     let dual = c .before in
     let minus = dual .before .before .before in
     let used = minus .before in
-    rw (c .nearest-u64-to-f64 .ensures, dual .barrier-dual .ensures, dual .before .head2 .ensures, minus .negated .ensures, negated-front (used .head .result .now) (used-fits used), used .head .ensures)
+    rw (
+      c .nearest-u64-to-f64 .ensures,
+      dual .barrier-dual .ensures,
+      dual .before .head2 .ensures,
+      minus .negated .ensures,
+      negated-front
+          (used .head .result .now) (used-fits used),
+      used .head .ensures,
+    )
 
 pub barrier-primal-at-spec : {M : Type 1} → statement M
 barrier-primal-at-spec =
     tie.close
     (tie.spec
-    (λ c. search needs) (λ c κs. search needs)
+    (λ c κs. search needs)
     negated-requires
     (λ c. search needs) (λ c κs. search needs) (λ c κs. search needs) (λ c. search needs) (λ c κs. search needs)
     returns)

@@ -5,14 +5,33 @@ use Rattle.genpowcone.specs.Barriers.{computeBarrierOf}
 use Rattle.genpowcone.proofs.compute_barrier.Statement.{statement}
 use Rattle.genpowcone.proofs.compute_barrier.Tie as tie
 
+-- the six lengths come first
+abbrev three-lengths : tie.After-moved → tie.After-shared-slice-known3
+three-lengths c = c .before .before .before .before
+
+abbrev begun : tie.After-moved → tie.Start
+begun c = three-lengths c .before .before .before
+
 returns : tie.Need-returns
 unfolding computeBarrierOf
 returns c =
     let dual = c .before in
     let primal = dual .before .before .before .before in
-    let start = c .before .before .before .before .before .before .before .before .before .before .before .before .before .before .before .before in
+    let moves = primal .before .before .before .before in
+    let start = begun moves in
     let a = start .args in
-    simp (c .barrier-dual .ensures, dual .head2 .ensures, dual .before .before .shorter2 .ensures, dual .before .before .before .moved2 .ensures, primal .barrier-primal .ensures, primal .before .head .ensures, primal .before .before .before .shorter .ensures, primal .before .before .before .before .moved .ensures, moved-front (a .s .now) (a .step) (a .ds .now) (start .pre .1), moved-front (a .z .now) (a .step) (a .dz .now) (start .pre .2))
+    simp (
+      c .barrier-dual .ensures,
+      dual .head2 .ensures,
+      dual .before .before .shorter2 .ensures,
+      dual .before .before .before .moved2 .ensures,
+      primal .barrier-primal .ensures,
+      primal .before .head .ensures,
+      primal .before .before .before .shorter .ensures,
+      moves .moved .ensures,
+      moved-front (a .s .now) (a .step) (a .ds .now) (start .pre .1),
+      moved-front (a .z .now) (a .step) (a .dz .now) (start .pre .2),
+    )
 
 pub compute-barrier-spec : {M : Type 1} → statement M
 compute-barrier-spec =

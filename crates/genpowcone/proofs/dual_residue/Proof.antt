@@ -6,7 +6,14 @@ use Rattle.genpowcone.proofs.dual_residue.Tie as tie
 
 returns : tie.Need-returns
 unfolding dualResidue
-returns c = rw (c .residue-at .ensures, c .before .sumsq .ensures, c .before .before .tail .ensures, c .before .before .before .exp .ensures, c .before .before .before .before .dual-log-sum .ensures)
+returns c =
+    rw (
+      c .residue-at .ensures,
+      c .before .sumsq .ensures,
+      c .before .before .tail .ensures,
+      c .before .before .before .exp .ensures,
+      c .before .before .before .before .dual-log-sum .ensures,
+    )
 
 pub dual-residue-spec : {M : Type 1} → statement M
 dual-residue-spec =

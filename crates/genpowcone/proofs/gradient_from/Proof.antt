@@ -7,7 +7,7 @@ use Rattle.genpowcone.proofs.gradient_from.Tie as tie
 
 returns : tie.Need-returns
 unfolding gradientAt
-returns c = rw (c .times-tail .ensures, c .before .gradient-head .ensures)
+returns c = rw (c .times-from .ensures, c .before .gradient-head .ensures)
 
 pub gradient-from-spec : {M : Type 1} → statement M
 gradient-from-spec = tie.close (tie.spec (λ c κs. omega arith) (λ c κs. search needs) returns)

@@ -1,32 +1,94 @@
--- `gradient_primal` is its definition, whether norm_r is above ε or not. Assumes nothing.
+-- `gradient_primal` is its definition, whether norm_r is above ε or not; the logarithms of the heads stand in the first places of an array. Assumes nothing.
+use Prim.Native.Nat.{_≤_}
+use mathlib.Core.Path.{_≡_, _∙_, ap}
+use mathlib.Core.Bool.{true}
+use mathlib.Core.List.{List, map}
 use native.Mathlib.Omega.{arith}
-use lib.ListN.{length-take}
+use lib.ListN.{length, take, drop, length-take}
+use lib.Ieee.{Float}
 use borrow.Author.Needs.{needs}
-use Rattle.genpowcone.specs.PrimalGradient.{flatGradient, gradientPrimalOf, psiOf}
+use Rattle.double.specs.Operators.{_⊘_, _≺_}
+use Rattle.double.specs.Numbers.{#1, #ε}
+use Rattle.kernels.specs.Door.{logOf}
+use Rattle.algebra.specs.Vectors.{sumsqOf, normOf}
+use Rattle.newton.specs.Equations.{genF0, genF0At, genF1}
+use Rattle.newton.specs.Rounds.{newtonOf}
+use Rattle.newton.specs.declared.Found.{Found}
+use Rattle.genpowcone_loops.specs.Folds.{primalPhi}
+use Rattle.genpowcone_loops.proofs.Arrays.{logs-front}
+use Rattle.genpowcone.specs.PrimalGradient.{flatGradient, gradientAt, gradientPrimalOf, newtonRaphsonGenpowconeOf, psiOf, x0Of}
 use Rattle.genpowcone.proofs.gradient_primal.Statement.{statement}
 use Rattle.genpowcone.proofs.gradient_primal.Tie as tie
 
-newton-raphson-genpowcone-requires : tie.Need-newton-raphson-genpowcone-requires
-newton-raphson-genpowcone-requires c κs = rw (c .before .before .before .before .head .ensures) (simp length-take (omega arith))
+-- Newton's answer, by what it was given
+newton-as
+    : (r : Float) (α p logs : List Float) (φ q : Float)
+    → logs ≡ map logOf p → φ ≡ primalPhi α p → q ≡ sumsqOf α
+    → newtonOf (genF0At r α logs) (genF1 r α) (x0Of r φ (#1 ⊘ q)) ≡ newtonRaphsonGenpowconeOf r p (primalPhi α p) α (psiOf α)
+unfolding newtonRaphsonGenpowconeOf genF0 psiOf
+newton-as r α p logs φ q l f s = rw (l, f, s)
+
+gradient-as
+    : (α s w p : List Float) (n : Float) (f : Found)
+    → p ≡ take (length α) s → n ≡ normOf (drop (length α) s) → (#ε ≺ n) ≡ true
+    → f ≡ newtonRaphsonGenpowconeOf n p (primalPhi α p) α (psiOf α)
+    → gradientAt α p w n f ≡ gradientPrimalOf α s w
+unfolding gradientPrimalOf
+gradient-as α s w p n f e g t h = simp (← e, ← g, t, h)
+
+-- no more heads than exponents
+heads-fit : (c : tie.After-head) → length (c .head .result .now) ≤ 64
+heads-fit c = rw (c .head .ensures) (simp length-take (omega arith))
+
+logarithms-requires : tie.Need-logarithms-requires
+logarithms-requires c κs = heads-fit c
+
+abbrev heads : tie.After-head2 → tie.After-head
+heads c = c .before .before .before
+
+logs-held : (c : tie.After-head2) → c .head2 .result .now ≡ map logOf (heads c .head .result .now)
+logs-held c =
+    let p = heads c .head .result .now in
+    c .head2 .ensures ∙ ap (take (length p)) (c .before .before .logarithms .ensures) ∙ logs-front p (heads-fit (heads c))
+
+primal-phi-requires : tie.Need-primal-phi-requires
+primal-phi-requires c κs = logs-held c
+
+abbrev phis : tie.After-norm → tie.After-primal-phi
+phis c = c .before .before
 
 returns : tie.Need-returns
-unfolding gradientPrimalOf psiOf
 returns c =
-    let norms = c .before .before .before .before in
-    simp (← norms .before .before .head .ensures, ← norms .before .tail .ensures, ← norms .norm .ensures, c .before .before .before .if1 .taken, c .gradient-from .ensures, c .before .newton-raphson-genpowcone .ensures, c .before .before .sumsq .ensures, norms .before .before .before .primal-phi .ensures)
+    let squares = c .before .before in
+    let tested = squares .before in
+    let norms = tested .before in
+    let logs = phis norms .before in
+    let found = newton-as _ _ _ _ _ _ (logs-held logs) (phis norms .primal-phi .ensures) (squares .sumsq .ensures) in
+    c .gradient-from .ensures
+    ∙ gradient-as _ _ _ _ _ _ (heads logs .head .ensures) (norms .norm .ensures ∙ ap normOf (norms .before .tail .ensures))
+    (tested .if1 .taken)
+    (c .before .newton-raphson-genpowcone .ensures ∙ found)
 
 returns-2 : tie.Need-returns-2
 unfolding gradientPrimalOf flatGradient
 returns-2 c =
     let norms = c .before .before in
-    simp (← norms .before .before .head .ensures, ← norms .before .tail .ensures, ← norms .norm .ensures, c .before .if1 .left, c .gradient-flat-head .ensures)
+    simp (
+      ← heads (phis norms .before) .head .ensures,
+      ← norms .before .tail .ensures,
+      ← norms .norm .ensures,
+      c .before .if1 .left,
+      c .gradient-flat-head .ensures,
+    )
 
 pub gradient-primal-spec : {M : Type 1} → statement M
 gradient-primal-spec =
     tie.close
     (tie.spec
-    (λ c κs. search needs) (λ c κs. search needs) (λ c κs. search needs) (λ c κs. search needs) (λ c κs. search needs)
-    newton-raphson-genpowcone-requires
-    (λ c κs. search needs) (λ c κs. omega arith)
+    (λ c κs. search needs)
+    logarithms-requires
+    (λ c. search needs) (λ c κs. search needs)
+    primal-phi-requires
+    (λ c κs. search needs) (λ c κs. search needs) (λ c κs. search needs) (λ c κs. omega arith) (λ c κs. search needs) (λ c κs. omega arith)
     returns
     returns-2)

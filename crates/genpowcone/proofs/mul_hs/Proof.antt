@@ -2,13 +2,16 @@
 use native.Mathlib.Omega.{arith}
 use lib.ListN.{length-drop, length-take}
 use borrow.Author.Needs.{needs}
-use Rattle.genpowcone.specs.Rank3.{mulHsOf}
+use Rattle.genpowcone.specs.Rank3.{mulHsAt}
 use Rattle.genpowcone.proofs.mul_hs.Statement.{statement}
 use Rattle.genpowcone.proofs.mul_hs.Tie as tie
 
 -- x is cut in two, then come the three dot products
+abbrev first-dot : tie.After-dot3 → tie.After-dot
+first-dot c = c .before .before .before .before
+
 abbrev cuts : tie.After-dot3 → tie.After-tail
-cuts c = c .before .before .before .before .before .before
+cuts c = first-dot c .before .before
 
 product-head-requires : tie.Need-product-head-requires
 product-head-requires c κs = rw (cuts c .before .head .ensures) (simp length-take (omega arith))
@@ -17,18 +20,27 @@ product-tail-requires : tie.Need-product-tail-requires
 product-tail-requires c κs = rw (cuts (c .before) .tail .ensures) (simp length-drop (omega arith, omega arith))
 
 returns : tie.Need-returns
-unfolding mulHsOf
+unfolding mulHsAt
 returns c =
-    let dots = c .before .before .before in
+    let tailed = c .before .before in
+    let dots = tailed .before .before in
     let halves = cuts dots in
-    simp (c .product-finished .ensures, c .before .product-tail .ensures, c .before .before .product-head .ensures, dots .dot3 .ensures, dots .before .before .dot2 .ensures, dots .before .before .before .before .dot .ensures, halves .tail .ensures, halves .before .head .ensures)
+    simp (
+      c .product-finished .ensures,
+      tailed .product-tail .ensures,
+      tailed .before .product-head .ensures,
+      dots .dot3 .ensures,
+      dots .before .before .dot2 .ensures,
+      first-dot dots .dot .ensures,
+      halves .tail .ensures,
+      halves .before .head .ensures,
+    )
 
 pub mul-hs-spec : {M : Type 1} → statement M
 mul-hs-spec =
     tie.close
     (tie.spec
-    (λ c κs. search needs) (λ c κs. search needs) (λ c. search needs) (λ c κs. search needs) (λ c. search needs) (λ c κs. search needs)
-    (λ c. search needs) (λ c κs. search needs)
+    (λ c κs. search needs) (λ c κs. search needs) (λ c κs. search needs) (λ c κs. search needs) (λ c κs. search needs)
     product-head-requires
     product-tail-requires
     (λ c κs. omega arith)

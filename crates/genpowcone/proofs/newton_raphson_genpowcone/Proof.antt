@@ -1,22 +1,38 @@
--- `newton_raphson_genpowcone` is its definition: the rounds at this kind's equation, from x0 as computed, with the logarithms of p in the first places of an array. Assumes nothing.
-use native.Mathlib.Omega.{arith}
+-- `newton_raphson_genpowcone` is its definition: the rounds at this kind's equation, from x0 as computed; the ratios stand in the first places of an
+-- array. Assumes nothing.
+use Prim.Native.Nat.{_≤_}
+use mathlib.Core.Path.{_≡_, refl}
+use mathlib.Core.List.{List, map}
+use lib.ListN.{length, take}
+use lib.Ieee.{Float, ofBits, add, div}
 use borrow.Author.Needs.{needs}
-use Rattle.newton.specs.Equations.{genF0, f0Of, f1Of}
-use Rattle.genpowcone_loops.proofs.Arrays.{logs-front}
-use Rattle.genpowcone.specs.PrimalGradient.{newtonRaphsonGenpowconeOf, x0Of}
+use Rattle.newton.specs.Equations.{ratioOf, f0Of, f1Of}
+use Rattle.genpowcone_loops.specs.Places.{wide, ratioAt}
+use Rattle.genpowcone_loops.proofs.Arrays.{map-front}
+use Rattle.genpowcone.specs.PrimalGradient.{x0Of}
 use Rattle.genpowcone.proofs.newton_raphson_genpowcone.Statement.{statement}
 use Rattle.genpowcone.proofs.newton_raphson_genpowcone.Tie as tie
 
+ratios-front : (xs : List Float) → length xs ≤ 64 → take (length xs) (wide (ratioAt xs) (length xs)) ≡ map ratioOf xs
+unfolding ratioOf ofBits add div
+ratios-front = map-front ratioOf refl
+
+abbrev begun : tie.After-ratios → tie.Start
+begun c = c .before .before .before .before
+
+newton-raphson-onesided-requires : tie.Need-newton-raphson-onesided-requires
+newton-raphson-onesided-requires c κs =
+    let made = c .before .before in
+    rw (c .head .ensures, made .ratios .ensures) (ratios-front (begun made .args .alpha .now) (begun made .pre))
+
 returns : tie.Need-returns
-unfolding newtonRaphsonGenpowconeOf x0Of genF0 f0Of f1Of
-returns c =
-    let taken = c .before in
-    let made = taken .before .before in
-    rw (c .newton-raphson-onesided .ensures, taken .head .ensures, made .logarithms .ensures, made .before .sqrt .ensures, logs-front (made .before .before .before .before .args .p .now) (omega arith))
+unfolding x0Of f0Of f1Of
+returns c = rw (c .newton-raphson-onesided .ensures, c .before .before .before .before .sqrt .ensures)
 
 pub newton-raphson-genpowcone-spec : {M : Type 1} → statement M
 newton-raphson-genpowcone-spec =
     tie.close
     (tie.spec
-    (λ c κs. search needs) (λ c κs. search needs) (λ c. search needs) (λ c κs. search needs) (λ c κs. search needs)
+    (λ c κs. search needs) (λ c κs. search needs) (λ c. search needs) (λ c κs. search needs)
+    newton-raphson-onesided-requires
     returns)

@@ -2,18 +2,19 @@
 use native.Mathlib.Omega.{arith}
 use lib.ListN.{length-take}
 use borrow.Author.Needs.{needs}
+use Rattle.genpowcone_loops.proofs.Arrays.{from-first}
 use Rattle.genpowcone.specs.Rank3.{pOf}
 use Rattle.genpowcone.proofs.p_of.Statement.{statement}
 use Rattle.genpowcone.proofs.p_of.Tie as tie
 
-times64-requires : tie.Need-times64-requires
-times64-requires c κs = rw (c .head .ensures) (simp length-take (omega arith))
+times-from-requires : tie.Need-times-from-requires
+times-from-requires c κs = rw (c .head .ensures) (simp length-take (omega arith))
 
 returns : tie.Need-returns
 unfolding pOf
-returns c = rw (c .times-tail .ensures, c .before .times64 .ensures, c .before .before .head .ensures)
+returns c = rw (c .times-from2 .ensures, c .before .times-from .ensures, from-first, c .before .before .head .ensures)
 
 pub p-of-spec : {M : Type 1} → statement M
 p-of-spec =
     tie.close
-    (tie.spec (λ c. search needs) (λ c κs. search needs) times64-requires (λ c κs. search needs) returns)
+    (tie.spec (λ c κs. search needs) times-from-requires (λ c κs. search needs) returns)

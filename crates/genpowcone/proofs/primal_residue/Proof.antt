@@ -6,7 +6,14 @@ use Rattle.genpowcone.proofs.primal_residue.Tie as tie
 
 returns : tie.Need-returns
 unfolding primalResidue
-returns c = rw (c .residue-at .ensures, c .before .sumsq .ensures, c .before .before .tail .ensures, c .before .before .before .exp .ensures, c .before .before .before .before .primal-log-sum .ensures)
+returns c =
+    rw (
+      c .residue-at .ensures,
+      c .before .sumsq .ensures,
+      c .before .before .tail .ensures,
+      c .before .before .before .exp .ensures,
+      c .before .before .before .before .primal-log-sum .ensures,
+    )
 
 pub primal-residue-spec : {M : Type 1} → statement M
 primal-residue-spec =

@@ -14,4 +14,4 @@ unfolding qOf
 returns c = rw (c .scale32 .ensures, c .before .head .ensures)
 
 pub q-of-spec : {M : Type 1} → statement M
-q-of-spec = tie.close (tie.spec (λ c. search needs) (λ c κs. search needs) scale32-requires returns)
+q-of-spec = tie.close (tie.spec (λ c κs. search needs) scale32-requires returns)

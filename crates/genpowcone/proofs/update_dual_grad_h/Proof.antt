@@ -8,13 +8,25 @@ returns : tie.Need-returns
 unfolding updateDualGradHOf gradHAt
 returns c =
     let sums = c .before .before in
-    simp (← sums .before .tail .ensures, ← sums .sumsq .ensures, ← sums .before .before .dual-phi .ensures, c .before .if1 .taken, c .rank3 .ensures)
+    simp (
+      ← sums .before .tail .ensures,
+      ← sums .sumsq .ensures,
+      ← sums .before .before .dual-phi .ensures,
+      c .before .if1 .taken,
+      c .rank3 .ensures,
+    )
 
 returns-2 : tie.Need-returns-2
 unfolding updateDualGradHOf gradHAt
 returns-2 c =
     let sums = c .before .before in
-    simp (← sums .before .tail .ensures, ← sums .sumsq .ensures, ← sums .before .before .dual-phi .ensures, c .before .if1 .left, c .no-wide .ensures)
+    simp (
+      ← sums .before .tail .ensures,
+      ← sums .sumsq .ensures,
+      ← sums .before .before .dual-phi .ensures,
+      c .before .if1 .left,
+      c .no-wide .ensures,
+    )
 
 pub update-dual-grad-h-spec : {M : Type 1} → statement M
 update-dual-grad-h-spec =

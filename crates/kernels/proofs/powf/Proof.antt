@@ -1,51 +1,12 @@
--- `powf` meets its contract: each return is one of the cases. Assumes nothing.
-use mathlib.Core.Path.{ap, _∙_}
-use lib.Ieee.{Float}
+-- `powf` is its definition: the power with the logarithm of x. Assumes nothing.
 use borrow.Author.Needs.{needs}
-use Rattle.double.specs.Operators.{_⊗_}
-use Rattle.kernels.specs.Door.{expOf}
-use Rattle.kernels.proofs.PowfCases.{of-zero, of-nan, of-one, of-two, of-negative, otherwise}
+use Rattle.kernels.specs.Door.{powfOf}
 use Rattle.kernels.proofs.powf.Statement.{statement}
 use Rattle.kernels.proofs.powf.Tie as tie
 
 returns : tie.Need-returns
-returns c = of-zero _ _ (c .if1 .taken)
-
-returns-2 : tie.Need-returns-2
-returns-2 c = c .nan .ensures ∙ of-nan _ _ (c .before .before .if1 .left) (c .before .if2 .taken)
-
-returns-3 : tie.Need-returns-3
-returns-3 c = of-one _ _ (c .before .before .if1 .left) (c .if3 .taken)
-
-returns-4 : tie.Need-returns-4
-returns-4 c = of-two _ _ (c .before .before .before .if1 .left) (c .before .if3 .left) (c .if4 .taken)
-
--- past the tests of y and of NaN
-abbrev numbers : tie.Else4 → tie.Else2
-numbers c = c .before .before
-
-returns-5 : tie.Need-returns-5
-returns-5 c =
-    let e = c .before .before in
-    c .nan2 .ensures ∙ of-negative _ _ (numbers e .before .if1 .left) (e .before .if3 .left) (e .if4 .left) (numbers e .if2 .left) (c .before .if5 .taken)
-
-returns-6 : tie.Need-returns-6
-returns-6 c =
-    let l = c .before .before in
-    let e = l .before in
-    c .exp .ensures ∙ ap (λ (z : Float). expOf (numbers e .before .before .args .y ⊗ z)) (c .before .log .ensures)
-    ∙ otherwise _ _ (numbers e .before .if1 .left) (e .before .if3 .left) (e .if4 .left) (numbers e .if2 .left) (l .if5 .left)
+unfolding powfOf
+returns c = rw (c .power .ensures, c .before .log .ensures)
 
 pub powf-spec : {M : Type 1} → statement M
-powf-spec =
-    tie.close
-    (tie.spec
-    returns
-    (λ c κs. search needs)
-    returns-2
-    returns-3
-    returns-4
-    (λ c κs. search needs)
-    returns-5
-    (λ c κs. search needs) (λ c κs. search needs)
-    returns-6)
+powf-spec = tie.close (tie.spec (λ c κs. search needs) (λ c κs. search needs) returns)

@@ -10,7 +10,8 @@ use Rattle.double.specs.Fields.{fieldOf, digitsOf}
 use Rattle.double.proofs.NotNan.{nan-of, no-nan-of, number-of}
 use Rattle.double.proofs.Normalised.{Normalised, of-low}
 use Rattle.logarithm.specs.Steps.{positiveOf, byFieldOf, logOf}
-use Rattle.logarithm.proofs.Cases.{minus-infinity, infinity, field-of-zero, field-low, field-mid, field-top, log-of-nan, log-signed, log-unsigned}
+use Rattle.logarithm.proofs.Cases.{minus-infinity, infinity, field-of-zero, field-low, field-mid, field-top, log-of-nan, log-signed}
+use Rattle.logarithm.proofs.Cases.{log-unsigned}
 use Rattle.logarithm.proofs.log.Statement.{statement}
 use Rattle.logarithm.proofs.log.Tie as tie
 
@@ -25,27 +26,36 @@ plain-field : (b : ℕ) → b < 2 ^ 63 → b / 2 ^ 52 ≡ fieldOf b
 plain-field b h = omega arith
 
 returns : tie.Need-returns
-returns c = log-of-nan (c .before .before .args .x) (c .nan .result) (nan-of (c .before .before .args .x) (c .before .if1 .taken)) (c .nan .ensures)
+returns c =
+    log-of-nan (c .before .before .args .x) (c .nan .result) (nan-of (c .before .before .args .x) (c .before .if1 .taken)) (c .nan .ensures)
 
 float-to-bits-b : tie.Need-float-to-bits-b
 float-to-bits-b c = number-of (number c) (c .if1 .left)
 
 returns-2 : tie.Need-returns-2
 returns-2 c =
-    log-signed (number (c .before)) _ (no-nan-of (number (c .before)) (c .before .if1 .left)) (le-leb (2 ^ 63) (pattern (c .before)) (c .if2 .taken)) minus-infinity
+    log-signed (number (c .before)) _ (no-nan-of (number (c .before)) (c .before .if1 .left))
+    (le-leb (2 ^ 63) (pattern (c .before)) (c .if2 .taken)) minus-infinity
 
 -- the rest has no sign
-unsigned : (c : tie.Else2) (r : Float) → r ≡ byFieldOf (fieldOf (pattern (c .before))) (digitsOf (pattern (c .before))) → r ≡ logOf (number (c .before))
+unsigned :
+    (c : tie.Else2) (r : Float) → r ≡ byFieldOf (fieldOf (pattern (c .before))) (digitsOf (pattern (c .before)))
+    → r ≡ logOf (number (c .before))
 unsigned c r k =
-    log-unsigned (number (c .before)) r (no-nan-of (number (c .before)) (c .before .if1 .left)) (lt-leb (2 ^ 63) (pattern (c .before)) (c .if2 .left)) k
+    log-unsigned (number (c .before)) r (no-nan-of (number (c .before)) (c .before .if1 .left))
+    (lt-leb (2 ^ 63) (pattern (c .before)) (c .if2 .left)) k
 
 returns-3 : tie.Need-returns-3
-returns-3 c = unsigned (c .before .before) _ (minus-infinity ∙ field-of-zero (fieldOf (pattern (c .before .before .before))) (digitsOf (pattern (c .before .before .before))) (omega arith) (c .if3 .taken))
+returns-3 c =
+    unsigned (c .before .before) _ (minus-infinity ∙ field-of-zero (fieldOf (pattern (c .before .before .before))) (digitsOf
+    (pattern (c .before .before .before))) (omega arith) (c .if3 .taken))
 
 positive-requires : tie.Need-positive-requires
 positive-requires c κs =
-    let n : Normalised (digitsOf (pattern (c .before .before .before .before))) (c .normal-of-low .result .m) (c .normal-of-low .result .k) =
-    of-low (digitsOf (pattern (c .before .before .before .before))) (c .normal-of-low .result) (omega arith) (omega arith) (c .normal-of-low .ensures) in
+    let n : Normalised (digitsOf (pattern (c .before .before .before .before))) (c .normal-of-low .result .m)
+    (c .normal-of-low .result .k) =
+    of-low (digitsOf (pattern (c .before .before .before .before))) (c .normal-of-low .result) (omega arith) (omega arith)
+    (c .normal-of-low .ensures) in
     (n .from, n .to, n .most)
 
 returns-4 : tie.Need-returns-4

@@ -4,21 +4,31 @@ use Prim.Native.Nat.{ℕ, _+_, _*_, _/_, _%_}
 use native.Mathlib.Omega.{arith}
 use lib.ListN.{getD}
 use borrow.Author.Needs.{needs}
-use Rattle.logarithm.specs.Table.{table}
+use Rattle.logarithm_table.specs.Table.{table}
 use Rattle.logarithm.proofs.LongDivision.{quotient-small}
-use Rattle.logarithm.proofs.TableRule.{entry-small}
+use Rattle.logarithm_table.proofs.TableRule.{entry-small}
 use Rattle.logarithm.proofs.Mantissas.{Parts, parts}
 use Rattle.logarithm.proofs.mantissa.Statement.{statement}
 use Rattle.logarithm.proofs.mantissa.Tie as tie
 
 mul-t : tie.Need-mul-t
-mul-t c = omega (arith, quotient-small (c .before .args .m + c .before .args .m / 17592186044416 * 17592186044416) (omega arith) (c .before .args .m % 17592186044416) (omega arith))
+mul-t c =
+    omega (
+      arith,
+      quotient-small (c .before .args .m + c .before .args .m / 17592186044416 * 17592186044416) (omega arith)
+          (c .before .args .m % 17592186044416) (omega arith),
+    )
 
 mul-result : tie.Need-mul-result
 mul-result c = omega (arith, entry-small (c .before .before .args .m / 17592186044416 % 256) (omega arith))
 
 short-series-requires : tie.Need-short-series-requires
-short-series-requires c κs = omega (arith, quotient-small (c .before .before .args .m + c .before .before .args .m / 17592186044416 * 17592186044416) (omega arith) (c .before .before .args .m % 17592186044416) (omega arith))
+short-series-requires c κs =
+    omega (
+      arith,
+      quotient-small (c .before .before .args .m + c .before .before .args .m / 17592186044416 * 17592186044416) (omega arith)
+          (c .before .before .args .m % 17592186044416) (omega arith),
+    )
 
 -- the three parts
 computed :

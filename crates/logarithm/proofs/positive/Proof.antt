@@ -1,4 +1,5 @@
--- `positive` meets its contract: below 1 the turns outweigh the mantissa's part, so the difference is a whole number; each branch is the specification's. Assumes nothing.
+-- `positive` meets its contract: below 1 the turns outweigh the mantissa's part, so the difference is a whole number; each branch is the
+-- specification's. Assumes nothing.
 use mathlib.Core.Path.{ap, sym, subst, _∙_}
 use Prim.Native.Nat.{ℕ, _+_, _-_, _*_, _/_, _^_, _≤_}
 use native.Mathlib.Nat.{le-of-lt}
@@ -14,7 +15,8 @@ use Rattle.logarithm.proofs.positive.Tie as tie
 sub-scaled-2 : tie.Need-sub-scaled-2
 sub-scaled-2 c =
     subst (λ (x : ℕ). x / 2 ^ 11 ≤ (1074 - c .before .before .args .k) * ln2) (sym (c .before .mantissa .ensures))
-    (le-of-lt (turns-outweigh (1074 - c .before .before .args .k) (c .before .before .args .m) (omega arith) (c .before .before .pre .0) (c .before .before .pre .1)))
+    (le-of-lt (turns-outweigh (1074 - c .before .before .args .k) (c .before .before .args .m) (omega arith) (c .before .before .pre .0)
+    (c .before .before .pre .1)))
 
 returns : tie.Need-returns
 returns c =

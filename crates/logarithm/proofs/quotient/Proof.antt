@@ -1,4 +1,5 @@
--- `quotient` meets its contract: d·2^60 + n has a rest below 2·n over q·n, and then the rest tells whether q is the quotient or one more, wherever q came from. Every other q
+-- `quotient` meets its contract: d·2^60 + n has a rest below 2·n over q·n, and then the rest tells whether q is the quotient or one more, wherever q
+-- came from. Every other q
 -- is left to `long_division`. Assumes nothing.
 use mathlib.Core.Path.{_≡_, sym, ap, _∙_}
 use Prim.Native.Nat.{ℕ, zero, suc, _+_, _-_, _*_, _/_, _%_, _^_, _<_, _≤_}
@@ -18,7 +19,9 @@ abbrev raised : ℕ → ℕ → Halves
 raised d n = record { hi = d / 16; lo = d % 16 * 2 ^ 60 + n }
 
 -- the check: r is what d·2^60 + n has over q·n
-checked : (d n q r : ℕ) (p : Halves) → n < 2 ^ 54 → p ≡ productOf q n → r ≡ leftOf (wholeOf (raised d n)) (wholeOf p) → r < 2 * n → q * n + r ≡ d * 2 ^ 60 + n
+checked :
+    (d n q r : ℕ) (p : Halves) → n < 2 ^ 54 → p ≡ productOf q n → r ≡ leftOf (wholeOf (raised d n)) (wholeOf p) → r < 2 * n
+    → q * n + r ≡ d * 2 ^ 60 + n
 unfolding wholeOf
 checked d n q r p small ep er below =
     let made : wholeOf p ≡ q * n = ap wholeOf ep ∙ halves-make-product q n in

@@ -5,25 +5,41 @@ use lib.ListN.{length}
 use Rattle.arith.specs.Turns.{iter}
 use Rattle.arith.proofs.Turns.{iter-none, iter-next, iter-end}
 use Rattle.newton.specs.Equations.{genF0At, genF0Turn}
+use Rattle.newton.proofs.Ratios.{as-long, ratio-at}
 use borrow.Author.Needs.{needs}
 use native.Mathlib.Omega.{arith}
 use Rattle.newton.proofs.genpowcone_f0.Statement.{statement}
 use Rattle.newton.proofs.genpowcone_f0.Tie as tie
 
 abbrev Inv-loop : tie.InvT-loop
-Inv-loop normr alpha logs x finit n f₀ i₀ f i = (n ≡ min (length alpha) (length logs)) × (i ≤ n) × (f ≡ iter (genF0Turn normr alpha logs x) finit i)
+Inv-loop normr alpha ratios logs x finit n f₀ i₀ f i =
+    (n ≡ min (length alpha) (length logs)) × (i ≤ n) × (f ≡ iter (genF0Turn normr alpha logs x) finit i)
 
 abbrev μ-loop : tie.MeasureT-loop
-μ-loop normr alpha logs x finit n f₀ i₀ f i = n - i
+μ-loop normr alpha ratios logs x finit n f₀ i₀ f i = n - i
 
 loop-holds : tie.Need-loop-holds Inv-loop μ-loop
 loop-holds c = (c .shorter .ensures, omega arith, iter-none _ _)
 
+-- before the loop come three lengths, the first logarithm and the shorter length
+abbrev begun : tie.At-loop Inv-loop μ-loop → tie.Start Inv-loop μ-loop
+begun c =
+    let logarithm = c .before .before in
+    logarithm .before .before .before .before
+
+-- as many ratios as exponents
+read-ratio : tie.Need-shared-slice-read-log Inv-loop μ-loop
+read-ratio c =
+    let start = begun (c .before .before .before) in
+    omega (arith, as-long (start .args .alpha .now) _ (start .pre))
+
 loop-again : tie.Need-loop-again Inv-loop μ-loop
 loop-again c =
     let t = c .before in
-    let l = t .before .before .before .loop in
-    (l .inv .0, omega arith, rw (t .log2 .ensures) (iter-next _ _ _ (l .inv .2)))
+    let l = t .before .before .before .before in
+    let start = begun l in
+    let ratio = ratio-at (start .args .alpha .now) _ (start .pre) (l .loop .i) in
+    (l .loop .inv .0, omega arith, rw (t .log2 .ensures, ratio) (iter-next _ _ _ (l .loop .inv .2)))
 
 returns : tie.Need-returns Inv-loop μ-loop
 unfolding genF0At
@@ -39,7 +55,9 @@ genpowcone-f0-spec =
     μ-loop
     (λ c κs. search needs) (λ c κs. search needs)
     loop-holds
-    (λ c. omega arith) (λ c. omega arith) (λ c κs. search needs) (λ c. omega arith) (λ c. omega arith) (λ c. omega arith)
+    (λ c. omega arith) (λ c. omega arith) (λ c. omega arith)
+    read-ratio
+    (λ c κs. search needs) (λ c. omega arith) (λ c. omega arith) (λ c. omega arith)
     (λ c. omega arith)
     loop-again
     returns)

@@ -5,21 +5,31 @@ use lib.ListN.{length}
 use Rattle.arith.specs.Turns.{iter}
 use Rattle.arith.proofs.Turns.{iter-none, iter-next, iter-end}
 use Rattle.newton.specs.Equations.{genF1, genF1Turn}
+use Rattle.newton.proofs.Ratios.{as-long, ratio-at}
 use native.Mathlib.Omega.{arith}
 use Rattle.newton.proofs.genpowcone_f1.Statement.{statement}
 use Rattle.newton.proofs.genpowcone_f1.Tie as tie
 
 abbrev Inv-loop : tie.InvT-loop
-Inv-loop normr alpha x finit f₀ i₀ i-end f i = (i ≤ length alpha) × (f ≡ iter (genF1Turn normr alpha x) finit i)
+Inv-loop normr alpha ratios x finit f₀ i₀ i-end f i = (i ≤ length alpha) × (f ≡ iter (genF1Turn normr alpha x) finit i)
 
 abbrev μ-loop : tie.MeasureT-loop
-μ-loop normr alpha x finit f₀ i₀ i-end f i = length alpha - i
+μ-loop normr alpha ratios x finit f₀ i₀ i-end f i = length alpha - i
 
 loop-holds : tie.Need-loop-holds Inv-loop μ-loop
 loop-holds c = (omega arith, iter-none _ _)
 
+-- as many ratios as exponents
+read-ratio : tie.Need-shared-slice-read-f-2 Inv-loop μ-loop
+read-ratio c =
+    let start = c .before .before .before .before in
+    omega (arith, as-long (start .args .alpha .now) _ (start .pre))
+
 loop-again : tie.Need-loop-again Inv-loop μ-loop
-loop-again c = (omega arith, iter-next _ _ _ (c .before .before .loop .inv .1))
+loop-again c =
+    let turn = c .before .before .before in
+    let start = turn .before in
+    (omega arith, rw (ratio-at (start .args .alpha .now) _ (start .pre) (turn .loop .i)) (iter-next _ _ _ (turn .loop .inv .1)))
 
 returns : tie.Need-returns Inv-loop μ-loop
 unfolding genF1
@@ -32,6 +42,8 @@ genpowcone-f1-spec =
     Inv-loop
     μ-loop
     loop-holds
-    (λ c. omega arith) (λ c. omega arith) (λ c. omega arith) (λ c. omega arith)
+    (λ c. omega arith) (λ c. omega arith) (λ c. omega arith)
+    read-ratio
+    (λ c. omega arith) (λ c. omega arith)
     loop-again
     returns)

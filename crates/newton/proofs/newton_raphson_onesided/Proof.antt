@@ -1,4 +1,5 @@
--- `newton_raphson_onesided` meets its contract: with iter rounds done, what is left of the hundred from x is the answer. The measure is what is left of the hundred. Assumes nothing.
+-- `newton_raphson_onesided` meets its contract: with iter rounds done, what is left of the hundred from x is the answer. The measure is what is left
+-- of the hundred. Assumes nothing.
 use Prim.Native.Nat.{_≤_, _-_}
 use mathlib.Core.Path.{_≡_, refl, _∙_}
 use Rattle.newton.specs.Equations.{f0Of, f1Of}
@@ -10,10 +11,12 @@ use Rattle.newton.proofs.newton_raphson_onesided.Statement.{statement}
 use Rattle.newton.proofs.newton_raphson_onesided.Tie as tie
 
 abbrev Inv-loop : tie.InvT-loop
-Inv-loop x0 e alpha logs x₀ iter₀ x iter = (iter ≤ 100) × (rounds (f0Of e alpha logs) (f1Of e alpha) (100 - iter) iter x ≡ newtonOf (f0Of e alpha logs) (f1Of e alpha) x0)
+Inv-loop x0 e alpha ratios logs x₀ iter₀ x iter =
+    (iter ≤ 100)
+    × (rounds (f0Of e alpha logs) (f1Of e alpha) (100 - iter) iter x ≡ newtonOf (f0Of e alpha logs) (f1Of e alpha) x0)
 
 abbrev μ-loop : tie.MeasureT-loop
-μ-loop x0 e alpha logs x₀ iter₀ x iter = 100 - iter
+μ-loop x0 e alpha ratios logs x₀ iter₀ x iter = 100 - iter
 
 loop-holds : tie.Need-loop-holds Inv-loop μ-loop
 unfolding newtonOf

@@ -6,7 +6,14 @@ use Rattle.powcone.proofs.barrier_primal_at.Tie as tie
 
 returns : tie.Need-returns
 unfolding barrierPrimalAt
-returns c = rw (c .log3 .ensures, c .before .log2 .ensures, c .before .before .log .ensures, c .before .before .before .powf2 .ensures, c .before .before .before .before .powf .ensures)
+returns c =
+    rw (
+      c .log3 .ensures,
+      c .before .log2 .ensures,
+      c .before .before .log .ensures,
+      c .before .before .before .powf2 .ensures,
+      c .before .before .before .before .powf .ensures,
+    )
 
 pub barrier-primal-at-spec : {M : Type 1} → statement M
 barrier-primal-at-spec =

@@ -6,7 +6,13 @@ use Rattle.powcone.proofs.compute_barrier.Tie as tie
 
 returns : tie.Need-returns
 unfolding computeBarrierOf
-returns c = rw (c .barrier-primal .ensures, c .before .barrier-dual .ensures, c .before .before .moved32 .ensures, c .before .before .before .moved3 .ensures)
+returns c =
+    rw (
+      c .barrier-primal .ensures,
+      c .before .barrier-dual .ensures,
+      c .before .before .moved32 .ensures,
+      c .before .before .before .moved3 .ensures,
+    )
 
 pub compute-barrier-spec : {M : Type 1} → statement M
 compute-barrier-spec =

@@ -6,7 +6,15 @@ use Rattle.powcone.proofs.gradient_primal.Tie as tie
 
 returns : tie.Need-returns
 unfolding gradientPrimalOf primalPhi
-returns c = simp (c .gradient-from .ensures, c .before .newton-raphson-powcone .ensures, c .before .before .before .before .before .powf .ensures, c .before .before .before .before .powf2 .ensures, ← c .before .before .before .abs .ensures, c .before .before .if1 .taken)
+returns c =
+    simp (
+      c .gradient-from .ensures,
+      c .before .newton-raphson-powcone .ensures,
+      c .before .before .before .before .before .powf .ensures,
+      c .before .before .before .before .powf2 .ensures,
+      ← c .before .before .before .abs .ensures,
+      c .before .before .if1 .taken,
+    )
 
 returns-2 : tie.Need-returns-2
 unfolding gradientPrimalOf flatGradient

@@ -7,11 +7,23 @@ use Rattle.powcone.proofs.is_dual_feasible.Tie as tie
 
 returns : tie.Need-returns
 unfolding dualFeasible
-returns c = simp (c .before .before .before .before .if1 .taken, c .before .before .before .if2 .taken, ← c .before .before .dual-residue .ensures, c .if3 .taken)
+returns c =
+    simp (
+      c .before .before .before .before .if1 .taken,
+      c .before .before .before .if2 .taken,
+      ← c .before .before .dual-residue .ensures,
+      c .if3 .taken,
+    )
 
 returns-2 : tie.Need-returns-2
 unfolding dualFeasible
-returns-2 c = simp (c .before .before .before .before .if1 .taken, c .before .before .before .if2 .taken, ← c .before .before .dual-residue .ensures, c .if3 .left)
+returns-2 c =
+    simp (
+      c .before .before .before .before .if1 .taken,
+      c .before .before .before .if2 .taken,
+      ← c .before .before .dual-residue .ensures,
+      c .if3 .left,
+    )
 
 returns-3 : tie.Need-returns-3
 unfolding dualFeasible

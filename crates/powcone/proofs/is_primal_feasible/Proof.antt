@@ -7,11 +7,23 @@ use Rattle.powcone.proofs.is_primal_feasible.Tie as tie
 
 returns : tie.Need-returns
 unfolding primalFeasible
-returns c = simp (c .before .before .before .before .if1 .taken, c .before .before .before .if2 .taken, ← c .before .before .primal-residue .ensures, c .if3 .taken)
+returns c =
+    simp (
+      c .before .before .before .before .if1 .taken,
+      c .before .before .before .if2 .taken,
+      ← c .before .before .primal-residue .ensures,
+      c .if3 .taken,
+    )
 
 returns-2 : tie.Need-returns-2
 unfolding primalFeasible
-returns-2 c = simp (c .before .before .before .before .if1 .taken, c .before .before .before .if2 .taken, ← c .before .before .primal-residue .ensures, c .if3 .left)
+returns-2 c =
+    simp (
+      c .before .before .before .before .if1 .taken,
+      c .before .before .before .if2 .taken,
+      ← c .before .before .primal-residue .ensures,
+      c .if3 .left,
+    )
 
 returns-3 : tie.Need-returns-3
 unfolding primalFeasible

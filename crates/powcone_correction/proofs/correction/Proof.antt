@@ -9,7 +9,17 @@ unfolding correctionOf
 returns c =
     let products = c .before in
     let dots = products .before .before .before in
-    rw (c .correction-from .ensures, products .mul2 .ensures, products .before .dot33 .ensures, products .before .before .mul .ensures, dots .dot32 .ensures, dots .before .dot3 .ensures, dots .before .before .psi-block .ensures, dots .before .before .before .psi-grad .ensures, dots .before .before .before .before .dual-phi .ensures)
+    rw (
+      c .correction-from .ensures,
+      products .mul2 .ensures,
+      products .before .dot33 .ensures,
+      products .before .before .mul .ensures,
+      dots .dot32 .ensures,
+      dots .before .dot3 .ensures,
+      dots .before .before .psi-block .ensures,
+      dots .before .before .before .psi-grad .ensures,
+      dots .before .before .before .before .dual-phi .ensures,
+    )
 
 pub correction-spec : {M : Type 1} → statement M
 correction-spec =

@@ -6,7 +6,13 @@ use Rattle.powcone_correction.proofs.higher_correction.Tie as tie
 
 returns : tie.Need-returns
 unfolding higherCorrectionOf correctionBy
-returns c = simp (c .correction .ensures, c .before .cholesky-3x3-explicit-solve .ensures, ← c .before .before .before .before .cholesky-3x3-explicit-factor .ensures, c .before .before .before .if1 .taken)
+returns c =
+    simp (
+      c .correction .ensures,
+      c .before .cholesky-3x3-explicit-solve .ensures,
+      ← c .before .before .before .before .cholesky-3x3-explicit-factor .ensures,
+      c .before .before .before .if1 .taken,
+    )
 
 returns-2 : tie.Need-returns-2
 unfolding higherCorrectionOf correctionBy

@@ -1,4 +1,5 @@
--- `digit_by_digit` meets its contract. The loop's invariant is `Turn`: what the digits passed and the rest hold is the number times 4^i. The measure is the turns left.
+-- `digit_by_digit` meets its contract. The loop's invariant is `Turn`: what the digits passed and the rest hold is the number times 4^i. The measure
+-- is the turns left.
 -- Assumes nothing.
 use Prim.Native.Nat.{ℕ, _+_, _-_, _*_, _^_, _<_}
 use mathlib.Core.Path.{_≡_, sym, ap, subst, _∙_}
@@ -55,12 +56,16 @@ loop-again c =
 add-result : tie.Need-add-result Inv-loop μ-loop
 add-result c = omega (arith, short (c .before .before))
 
-is : (c : tie.After-loop Inv-loop μ-loop) → nearRoot (c .before .before .args .m * 2 ^ 52) ≡ cond (ltb (c .before .loop .root) (c .before .loop .rem)) (c .before .loop .root + 1) (c .before .loop .root)
+is :
+    (c : tie.After-loop Inv-loop μ-loop)
+    → nearRoot (c .before .before .args .m * 2 ^ 52)
+    ≡ cond (ltb (c .before .loop .root) (c .before .loop .rem)) (c .before .loop .root + 1) (c .before .loop .root)
 is c =
     let l = c .before .loop in
     let m = c .before .before .args .m in
     let e : l .i ≡ 53 = omega (arith, l .inv .count) in
-    ended m (l .root) (l .rem) (l .rest) (c .before .before .pre) (subst (λ (k : ℕ). Turn (m * 1024) k (l .root) (l .rem) (l .rest)) e (l .inv))
+    ended m (l .root) (l .rem) (l .rest) (c .before .before .pre)
+    (subst (λ (k : ℕ). Turn (m * 1024) k (l .root) (l .rem) (l .rest)) e (l .inv))
 
 returns : tie.Need-returns Inv-loop μ-loop
 returns c =

@@ -1,4 +1,5 @@
--- `near_root` meets its contract: a rest that passes a test is what the number under the root has over r (r - 1), and two tests are the two bounds of the nearest root.
+-- `near_root` meets its contract: a rest that passes a test is what the number under the root has over r (r - 1), and two tests are the two bounds of
+-- the nearest root.
 -- Nothing is used of the estimate: r is in range since it is a remainder and a constant. Where the check fails, the digits answer. Assumes nothing.
 use borrow.Author.Needs.{needs}
 use mathlib.Core.Path.{_≡_, ap, _∙_}
@@ -17,7 +18,8 @@ use Rattle.root.proofs.near_root.Tie as tie
 
 -- a rest below the largest u64 is what m * 2^52 has over the product
 rest-is :
-    (m r rest : ℕ) (p : Halves) → p ≡ productOf r (r - 1) → rest ≡ leftOf (wholeOf (record { hi = m / 2 ^ 12; lo = m % 2 ^ 12 * 2 ^ 52 })) (wholeOf p) → rest < 2 ^ 64 - 1
+    (m r rest : ℕ) (p : Halves) → p ≡ productOf r (r - 1) → rest
+    ≡ leftOf (wholeOf (record { hi = m / 2 ^ 12; lo = m % 2 ^ 12 * 2 ^ 52 })) (wholeOf p) → rest < 2 ^ 64 - 1
     → rest + r * (r - 1) ≡ m * 2 ^ 52
 unfolding wholeOf
 rest-is m r rest p ep er small =

@@ -37,7 +37,8 @@ add-result-2 : tie.Need-add-result-2
 add-result-2 c = omega (arith, rounds (c .before) .to)
 
 float-from-bits-result : tie.Need-float-from-bits-result
-float-from-bits-result c = number ((k (c .before .before) / 2 + 485) * 2 ^ 52 + c .before .near-root .result) (omega (arith, rounds (c .before) .to))
+float-from-bits-result c =
+    number ((k (c .before .before) / 2 + 485) * 2 ^ 52 + c .before .near-root .result) (omega (arith, rounds (c .before) .to))
 
 returns : tie.Need-returns
 unfolding rootOf

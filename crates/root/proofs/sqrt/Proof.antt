@@ -64,7 +64,8 @@ returns-5 : tie.Need-returns-5
 returns-5 c =
     let k = c .before .before .before in
     let e = k .before in
-    c .root-of .ensures ∙ ap rootOf (c .before .normal-of-low .ensures) ∙ sym (fields e ∙ of-subnormal (x (e .before)) (f e) (t e) (k .match .keys1) (c .before .before .if4 .left))
+    c .root-of .ensures ∙ ap rootOf (c .before .normal-of-low .ensures)
+    ∙ sym (fields e ∙ of-subnormal (x (e .before)) (f e) (t e) (k .match .keys1) (c .before .before .if4 .left))
 
 returns-6 : tie.Need-returns-6
 returns-6 c =
@@ -73,7 +74,8 @@ returns-6 c =
     let e = k .before in
     let h = v .if5 .taken in
     let some = k .match .rest .1 in
-    c .root-of2 .ensures ∙ ap rootOf (sym (of-mid (f e) (t e) some)) ∙ sym (fields e ∙ of-normal (x (e .before)) (f e) (t e) some (omega arith))
+    c .root-of2 .ensures ∙ ap rootOf (sym (of-mid (f e) (t e) some))
+    ∙ sym (fields e ∙ of-normal (x (e .before)) (f e) (t e) some (omega arith))
 
 returns-7 : tie.Need-returns-7
 returns-7 c =

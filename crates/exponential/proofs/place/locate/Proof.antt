@@ -7,7 +7,8 @@ use borrow.Author.Needs.{needs}
 use Rattle.double.specs.Fields.{mag}
 use Rattle.exponential.specs.Steps.{home, raised, pointOf}
 use Rattle.exponential.specs.declared.place.Point.{Point}
-use Rattle.exponential.proofs.Shifts.{low-positive, low-negative, high-positive, high-negative, field-of-normal, shift-fits, units-most}
+use Rattle.exponential.proofs.Shifts.{low-positive, low-negative, high-positive, high-negative, field-of-normal, shift-fits}
+use Rattle.exponential.proofs.Shifts.{units-most}
 use Rattle.exponential.proofs.place.locate.Statement.{statement}
 use Rattle.exponential.proofs.place.locate.Tie as tie
 
@@ -57,7 +58,9 @@ sub-t19 : tie.Need-sub-t19
 sub-t19 c = down-fits _ (units-small (c .before) 708 (most (c .before) true (c .if3 .taken)))
 
 returns-3 : tie.Need-returns-3
-returns-3 c = by-sign _ (c .if3 .taken) (high-negative _ _ _ (c .before .if1 .left) (down-fits _ (units-small (c .before) 708 (most (c .before) true (c .if3 .taken)))) (kept (c .before)))
+returns-3 c =
+    by-sign _ (c .if3 .taken) (high-negative _ _ _ (c .before .if1 .left)
+    (down-fits _ (units-small (c .before) 708 (most (c .before) true (c .if3 .taken)))) (kept (c .before)))
 
 add-t18 : tie.Need-add-t18
 add-t18 c = record { fits = up-fits _ (units-small (c .before) 709 (most (c .before) false (c .if3 .left))) }

@@ -11,7 +11,8 @@ use Rattle.exponential.proofs.place.rest.Statement.{statement}
 use Rattle.exponential.proofs.place.rest.Tie as tie
 
 -- what the code computes is the rest, and it is small
-rest-is : (y part k b : ℕ) → AtPlace y k → b ≡ border k → (y - b) * 2048 + (2047 - fraction k / 2 ^ 29 % 2048) + part ≡ rest (y * 2048 + part) k
+rest-is :
+    (y part k b : ℕ) → AtPlace y k → b ≡ border k → (y - b) * 2048 + (2047 - fraction k / 2 ^ 29 % 2048) + part ≡ rest (y * 2048 + part) k
 unfolding rest gap
 rest-is y part k b h e = go (border k) (2047 - fraction k / 2 ^ 29 % 2048) e (h .from)
   where

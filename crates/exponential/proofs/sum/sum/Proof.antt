@@ -1,4 +1,5 @@
--- `sum` meets its contract. Invariant: v is the sum of the terms from i on; measure: i. That no thirdIn53 overflows is the bound of the whole sum. Assumes nothing.
+-- `sum` meets its contract. Invariant: v is the sum of the terms from i on; measure: i. That no thirdIn53 overflows is the bound of the whole sum.
+-- Assumes nothing.
 use mathlib.Core.Path.{_≡_, sym, _∙_, ap}
 use Prim.Native.Nat.{ℕ, suc, _+_, _-_, _*_, _/_, _^_, _≤_, _<_}
 use native.Mathlib.Omega.{arith}
@@ -27,7 +28,8 @@ loop-holds : tie.Need-loop-holds Inv-loop μ-loop
 loop-holds c = (omega arith, sym (horner-starts (c .args .r) 18 (lit< tt)))
 
 new-v : (c : tie.After-high Inv-loop μ-loop)
-    → c .before .coefficient .result + c .high .result ≡ horner (c .before .before .before .before .args .r) (39 - (c .before .before .before .loop .i - 1))
+    → c .before .coefficient .result + c .high .result
+    ≡ horner (c .before .before .before .before .args .r) (39 - (c .before .before .before .loop .i - 1))
 new-v c =
     let r = c .before .before .before .before .args .r in
     let i = c .before .before .before .loop .i in

@@ -1,4 +1,5 @@
--- `less_logs` meets its contract: after i turns the loop holds the start less the first i terms. The measure is what is left of the shorter length. Assumes nothing.
+-- `less_logs` meets its contract: after i turns the loop holds the start less the first i terms. The measure is what is left of the shorter length.
+-- Assumes nothing.
 use Prim.Native.Nat.{_-_, _≤_, min}
 use mathlib.Core.Path.{_≡_}
 use native.Mathlib.Omega.{arith}
@@ -11,7 +12,8 @@ use Rattle.genpowcone_loops.proofs.folds.less_logs.Statement.{statement
 use Rattle.genpowcone_loops.proofs.folds.less_logs.Tie as tie
 
 abbrev Inv-loop : tie.InvT-loop
-Inv-loop start alpha z n barrier₀ i₀ barrier i = (n ≡ min (length alpha) (length z)) × (i ≤ n) × (barrier ≡ iter (lessLogsTurn alpha z) start i)
+Inv-loop start alpha z n barrier₀ i₀ barrier i =
+    (n ≡ min (length alpha) (length z)) × (i ≤ n) × (barrier ≡ iter (lessLogsTurn alpha z) start i)
 
 abbrev μ-loop : tie.MeasureT-loop
 μ-loop start alpha z n barrier₀ i₀ barrier i = n - i

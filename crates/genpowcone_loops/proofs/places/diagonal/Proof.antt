@@ -12,17 +12,18 @@ use Rattle.genpowcone_loops.proofs.places.diagonal.Statement.{statement
 use Rattle.genpowcone_loops.proofs.places.diagonal.Tie as tie
 
 abbrev Inv-loop : tie.InvT-loop
-Inv-loop alpha z phi zeta tau n d1₀ i₀ d1 i = (n ≡ min (length alpha) (length z)) × (i ≤ n) × (d1 ≡ iter (put (d1At alpha z tau phi zeta)) (replicate 32 #0) i)
+Inv-loop alpha z tau phi zeta n d1₀ i₀ d1 i =
+    (n ≡ min (length alpha) (length z)) × (i ≤ n) × (d1 ≡ iter (put (d1At alpha z tau phi zeta)) (replicate 32 #0) i)
 
 abbrev μ-loop : tie.MeasureT-loop
-μ-loop alpha z phi zeta tau n d1₀ i₀ d1 i = n - i
+μ-loop alpha z tau phi zeta n d1₀ i₀ d1 i = n - i
 
 loop-holds : tie.Need-loop-holds Inv-loop μ-loop
 loop-holds c = (c .shorter .ensures, omega arith, iter-none _ _)
 
 loop-again : tie.Need-loop-again Inv-loop μ-loop
 loop-again c =
-    let l = c .before .before .before .loop in
+    let l = c .before .before .before .before .loop in
     (l .inv .0, omega arith, iter-next _ _ _ (l .inv .2))
 
 returns : tie.Need-returns Inv-loop μ-loop

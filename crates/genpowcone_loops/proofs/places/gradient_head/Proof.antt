@@ -12,7 +12,8 @@ use Rattle.genpowcone_loops.proofs.places.gradient_head.Statement.{stat
 use Rattle.genpowcone_loops.proofs.places.gradient_head.Tie as tie
 
 abbrev Inv-loop : tie.InvT-loop
-Inv-loop alpha p g1 normr n g₀ i₀ g i = (n ≡ min (length alpha) (length p)) × (i ≤ n) × (g ≡ iter (put (headAt alpha p g1 normr)) (replicate 64 #0) i)
+Inv-loop alpha p g1 normr n g₀ i₀ g i =
+    (n ≡ min (length alpha) (length p)) × (i ≤ n) × (g ≡ iter (put (headAt alpha p g1 normr)) (replicate 64 #0) i)
 
 abbrev μ-loop : tie.MeasureT-loop
 μ-loop alpha p g1 normr n g₀ i₀ g i = n - i

@@ -11,17 +11,17 @@ use Rattle.genpowcone_loops.proofs.places.product_finished.Statement.{s
 use Rattle.genpowcone_loops.proofs.places.product_finished.Tie as tie
 
 abbrev Inv-loop : tie.InvT-loop
-Inv-loop n coefp mu y p g₀ i₀ g i = (i ≤ n) × (g ≡ iter (put (finishedAt y coefp p mu)) (replicate 64 #0) i)
+Inv-loop y n coefp p mu g₀ i₀ g i = (i ≤ n) × (g ≡ iter (put (finishedAt y coefp p mu)) (replicate 64 #0) i)
 
 abbrev μ-loop : tie.MeasureT-loop
-μ-loop n coefp mu y p g₀ i₀ g i = n - i
+μ-loop y n coefp p mu g₀ i₀ g i = n - i
 
 loop-holds : tie.Need-loop-holds Inv-loop μ-loop
 loop-holds c = (omega arith, iter-none _ _)
 
 loop-again : tie.Need-loop-again Inv-loop μ-loop
 loop-again c =
-    let l = c .before .loop in
+    let l = c .before .before .before .loop in
     (omega arith, iter-next _ _ _ (l .inv .1))
 
 returns : tie.Need-returns Inv-loop μ-loop

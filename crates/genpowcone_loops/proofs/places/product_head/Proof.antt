@@ -11,17 +11,17 @@ use Rattle.genpowcone_loops.proofs.places.product_head.Statement.{state
 use Rattle.genpowcone_loops.proofs.places.product_head.Tie as tie
 
 abbrev Inv-loop : tie.InvT-loop
-Inv-loop coefq x d1 q y₀ i₀ i-end y i = (i ≤ length x) × (y ≡ iter (put (productHeadAt d1 q coefq x)) (replicate 64 #0) i)
+Inv-loop d1 q coefq x y₀ i₀ i-end y i = (i ≤ length x) × (y ≡ iter (put (productHeadAt d1 q coefq x)) (replicate 64 #0) i)
 
 abbrev μ-loop : tie.MeasureT-loop
-μ-loop coefq x d1 q y₀ i₀ i-end y i = length x - i
+μ-loop d1 q coefq x y₀ i₀ i-end y i = length x - i
 
 loop-holds : tie.Need-loop-holds Inv-loop μ-loop
 loop-holds c = (omega arith, iter-none _ _)
 
 loop-again : tie.Need-loop-again Inv-loop μ-loop
 loop-again c =
-    let l = c .before .before .loop in
+    let l = c .before .before .before .before .loop in
     (omega arith, iter-next _ _ _ (l .inv .1))
 
 returns : tie.Need-returns Inv-loop μ-loop

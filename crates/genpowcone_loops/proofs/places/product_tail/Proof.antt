@@ -10,17 +10,17 @@ use Rattle.genpowcone_loops.proofs.places.product_tail.Statement.{state
 use Rattle.genpowcone_loops.proofs.places.product_tail.Tie as tie
 
 abbrev Inv-loop : tie.InvT-loop
-Inv-loop n d2 coefr x r y₀ j₀ j-end y j = (j ≤ length x) × (y ≡ iter (putFrom n (productTailAt d2 r coefr x)) y₀ j)
+Inv-loop n d2 r coefr x y₀ j₀ j-end y j = (j ≤ length x) × (y ≡ iter (putFrom n (productTailAt d2 r coefr x)) y₀ j)
 
 abbrev μ-loop : tie.MeasureT-loop
-μ-loop n d2 coefr x r y₀ j₀ j-end y j = length x - j
+μ-loop n d2 r coefr x y₀ j₀ j-end y j = length x - j
 
 loop-holds : tie.Need-loop-holds Inv-loop μ-loop
 loop-holds c = (omega arith, iter-none _ _)
 
 loop-again : tie.Need-loop-again Inv-loop μ-loop
 loop-again c =
-    let l = c .before .before .loop in
+    let l = c .before .before .before .loop in
     (omega arith, iter-next _ _ _ (l .inv .1))
 
 returns : tie.Need-returns Inv-loop μ-loop

@@ -1,4 +1,4 @@
--- `times64` meets its contract: after i turns the first i places are written. The measure is what is left of the count. Assumes nothing.
+-- `ratios` meets its contract: after i turns the first i places are written. The measure is what is left of the count. Assumes nothing.
 use Prim.Native.Nat.{_-_, _≤_}
 use mathlib.Core.Path.{_≡_}
 use native.Mathlib.Omega.{arith}
@@ -6,15 +6,15 @@ use lib.ListN.{length, replicate}
 use Rattle.arith.proofs.Turns.{iter-end, iter-next, iter-none}
 use Rattle.arith.specs.Turns.{iter}
 use Rattle.double.specs.Numbers.{#0}
-use Rattle.genpowcone_loops.specs.Places.{put, timesAt, wide}
-use Rattle.genpowcone_loops.proofs.places.times64.Statement.{statement}
-use Rattle.genpowcone_loops.proofs.places.times64.Tie as tie
+use Rattle.genpowcone_loops.specs.Places.{put, ratioAt, wide}
+use Rattle.genpowcone_loops.proofs.places.ratios.Statement.{statement}
+use Rattle.genpowcone_loops.proofs.places.ratios.Tie as tie
 
 abbrev Inv-loop : tie.InvT-loop
-Inv-loop c xs g₀ i₀ i-end g i = (i ≤ length xs) × (g ≡ iter (put (timesAt c xs)) (replicate 64 #0) i)
+Inv-loop xs g₀ i₀ i-end g i = (i ≤ length xs) × (g ≡ iter (put (ratioAt xs)) (replicate 64 #0) i)
 
 abbrev μ-loop : tie.MeasureT-loop
-μ-loop c xs g₀ i₀ i-end g i = length xs - i
+μ-loop xs g₀ i₀ i-end g i = length xs - i
 
 loop-holds : tie.Need-loop-holds Inv-loop μ-loop
 loop-holds c = (omega arith, iter-none _ _)
@@ -28,8 +28,8 @@ returns : tie.Need-returns Inv-loop μ-loop
 unfolding wide
 returns c = iter-end _ _ _ _ (c .before .loop .inv .1) (omega arith) (omega arith)
 
-pub times64-spec : {M : Type 1} → statement M
-times64-spec =
+pub ratios-spec : {M : Type 1} → statement M
+ratios-spec =
     tie.close
     (tie.spec
     Inv-loop

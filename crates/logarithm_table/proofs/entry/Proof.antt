@@ -7,9 +7,9 @@ use native.Mathlib.Omega.{arith}
 use borrow.Author.Needs.{needs}
 use lib.ListN.{getD, take, drop}
 use lib.Seq.{getD-take, getD-drop}
-use Rattle.logarithm.specs.Table.{table}
-use Rattle.logarithm.proofs.table.entry.Statement.{statement}
-use Rattle.logarithm.proofs.table.entry.Tie as tie
+use Rattle.logarithm_table.specs.Table.{table}
+use Rattle.logarithm_table.proofs.entry.Statement.{statement}
+use Rattle.logarithm_table.proofs.entry.Tie as tie
 
 -- the first n rows of a list
 abbrev rows : ℕ → List ℕ → List (List ℕ)
@@ -28,7 +28,8 @@ returns : tie.Need-returns
 unfolding table
 returns c =
     let i = c .before .args .i in
-    c .of-rows .ensures ∙ in-rows 16 table (i / 16) (i % 16) (omega arith) (omega arith) ∙ ap (λ (n : ℕ). getD table n 0) (div-add-mod' i 16)
+    c .of-rows .ensures ∙ in-rows 16 table (i / 16) (i % 16) (omega arith) (omega arith)
+    ∙ ap (λ (n : ℕ). getD table n 0) (div-add-mod' i 16)
 
 pub entry-spec : {M : Type 1} → statement M
 entry-spec = tie.close (tie.spec (λ c κs. search needs) returns)

@@ -1,8 +1,8 @@
 -- `of_rows` meets its contract, as `of_row` does: row n is among the rows and j in it, and the arm n asks row n where k is n. Assumes nothing.
 use lib.Dec.{lit<}
 use Rattle.arith.proofs.Tables.{last-arm}
-use Rattle.logarithm.proofs.table.of_rows.Statement.{statement}
-use Rattle.logarithm.proofs.table.of_rows.Tie as tie
+use Rattle.logarithm_table.proofs.of_rows.Statement.{statement}
+use Rattle.logarithm_table.proofs.of_rows.Tie as tie
 
 -- a fact for each arm, the places first
 pub of-rows-spec : {M : Type 1} → statement M

@@ -1,8 +1,9 @@
--- `of_row` meets its contract: each place is in the row, and the arm k reads the place k where j is k. In the last arm j is below 16 and none of the others. Assumes nothing.
+-- `of_row` meets its contract: each place is in the row, and the arm k reads the place k where j is k. In the last arm j is below 16 and none of the
+-- others. Assumes nothing.
 use lib.Dec.{lit<}
 use Rattle.arith.proofs.Tables.{last-arm}
-use Rattle.logarithm.proofs.table.of_row.Statement.{statement}
-use Rattle.logarithm.proofs.table.of_row.Tie as tie
+use Rattle.logarithm_table.proofs.of_row.Statement.{statement}
+use Rattle.logarithm_table.proofs.of_row.Tie as tie
 
 -- a fact for each arm, the places first
 pub of-row-spec : {M : Type 1} → statement M

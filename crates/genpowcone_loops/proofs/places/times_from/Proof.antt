@@ -1,4 +1,4 @@
--- `times_tail` meets its contract: after j turns the first j places of the tail are written. The measure is what is left of the count. Assumes nothing.
+-- `times_from` meets its contract: after j turns j places are written from place n on. The measure is what is left of the count. Assumes nothing.
 use Prim.Native.Nat.{_-_, _≤_}
 use mathlib.Core.Path.{_≡_}
 use native.Mathlib.Omega.{arith}
@@ -6,8 +6,8 @@ use lib.ListN.{length}
 use Rattle.arith.proofs.Turns.{iter-end, iter-next, iter-none}
 use Rattle.arith.specs.Turns.{iter}
 use Rattle.genpowcone_loops.specs.Places.{putFrom, timesAt, withTail}
-use Rattle.genpowcone_loops.proofs.places.times_tail.Statement.{statement}
-use Rattle.genpowcone_loops.proofs.places.times_tail.Tie as tie
+use Rattle.genpowcone_loops.proofs.places.times_from.Statement.{statement}
+use Rattle.genpowcone_loops.proofs.places.times_from.Tie as tie
 
 abbrev Inv-loop : tie.InvT-loop
 Inv-loop n c xs g₀ j₀ j-end g j = (j ≤ length xs) × (g ≡ iter (putFrom n (timesAt c xs)) g₀ j)
@@ -27,8 +27,8 @@ returns : tie.Need-returns Inv-loop μ-loop
 unfolding withTail
 returns c = iter-end _ _ _ _ (c .before .loop .inv .1) (omega arith) (omega arith)
 
-pub times-tail-spec : {M : Type 1} → statement M
-times-tail-spec =
+pub times-from-spec : {M : Type 1} → statement M
+times-from-spec =
     tie.close
     (tie.spec
     Inv-loop

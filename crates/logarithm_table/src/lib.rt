@@ -1,9 +1,9 @@
-// The table of logarithms.
+// The table of logarithms that `log` reads.
 ghost use mathlib.Core.Path.{_≡_};
 ghost use mathlib.Core.List.{[]};
 ghost use Prim.Native.Nat.{_<_};
 ghost use lib.ListN.{getD};
-ghost use Rattle.logarithm.specs.Table.{table};
+ghost use Rattle.logarithm_table.specs.Table.{table};
 
 // 01: "a table of 256 logarithms of 1+i/256 in units of 2^-56". Entry i is 2^56·S(i/(512+i)), rounded down; row k begins at entry 16·k.
 const TABLE: [[u64; 16]; 16] = [

@@ -1,0 +1,15 @@
+-- 01: "For each, show that any two outcomes allowed by it agree". Every contract here is one equation. Assumes nothing.
+use mathlib.Core.Path.{_∙_, sym}
+use Rattle.arith.specs.Outcomes.{OneAnswer}
+use Rattle.wide.proofs.product.Reads as product
+use Rattle.wide.proofs.high.Reads as high
+use Rattle.wide.proofs.left.Reads as left
+
+pub product-agrees : OneAnswer product.Post
+product-agrees κs a x y s t p q = p ∙ sym q
+
+pub high-agrees : OneAnswer high.Post
+high-agrees κs a x y s t p q = p ∙ sym q
+
+pub left-agrees : OneAnswer left.Post
+left-agrees κs a x y s t p q = p ∙ sym q

@@ -1,6 +1,6 @@
 -- A call that leaves with its rows' number is refused with it, one whose rows give 0 goes on, and then no row applied. Assumes nothing.
 use mathlib.Core.Path.{_≡_, refl, sym, _∙_, ap, subst}
-use mathlib.Core.Bool.{Bool, true, false, cond}
+use mathlib.Core.Bool.{Bool, true, false, cond, _&&_}
 use mathlib.Core.List.{List}
 use Prim.Native.Nat.{ℕ, zero, suc, _<_}
 use native.Mathlib.Omega.{arith}
@@ -16,6 +16,13 @@ refused (suc k) r d f e n = ap f e
 pub done : {A : Type 0} (k r : ℕ) (d : A) (f : ℕ → A) → r ≡ k → r ≡ 0 → d ≡ settle k d f
 unfolding settle
 done k r d f e z = subst (λ (n : ℕ). d ≡ settle n d f) (sym z ∙ e) refl
+
+pub through : {A : Type 0} {x : A} (k r : ℕ) (d : A) (f : ℕ → A) → r ≡ k → r ≡ 0 → x ≡ d → x ≡ settle k d f
+through k r d f e z p = p ∙ done k r d f e z
+
+-- two judgements taken together
+pub both : {a b a' b' : Bool} → a ≡ a' → b ≡ b' → (a && b) ≡ (a' && b')
+both p q = cc
 
 -- where the table gives 0, no row applied
 pub record NoFault (f : Faults) : Type 0 where

@@ -63,6 +63,10 @@ blockOf c = cond (eqb (c .kind) 3) (c .dim1 + c .dim2) 6
 abbrev pub allFinite : List Float → Bool
 allFinite xs = allOf finite xs
 
+-- of an entry that takes a dual and a primal point with their directions
+abbrev pub sidesFinite : List Float → List Float → List Float → List Float → Bool
+sidesFinite dz ds z s = allFinite dz && allFinite ds && allFinite z && allFinite s
+
 abbrev pub settingsFinite : Settings → Bool
 settingsFinite s = finite (s .start) && finite (s .step) && finite (s .smallest)
 

@@ -11,6 +11,8 @@ use Rattle.cone.specs.declared.Cone.{Cone}
 use Rattle.cone.specs.declared.Settings.{Settings}
 use Rattle.cone.specs.declared.Scaling.{Scaling}
 use Rattle.cone.specs.declared.Number.{Number}
+use Rattle.cone.specs.declared.Rounds.{Rounds}
+use Rattle.cone.specs.declared.Updated.{Updated}
 use Rattle.cone.specs.declared.Attempt.{Attempt}
 use Rattle.cone.specs.declared.refusal.Faults.{Faults}
 use Rattle.cone.specs.Judges.{coneOk, allFinite, recordFinite, settingsFinite, settingsOk, strategyOk}
@@ -83,6 +85,13 @@ refuseTwo x y k = record { answer = k; first = x; second = y }
 abbrev pub refuseNumber : ℕ → Number
 refuseNumber k = record { code = k; value = #0 }
 
+abbrev pub refuseRounds : List Float → ℕ → Lent Rounds
+refuseRounds old k = record { answer = record { code = k; rounds = 0 }; slice = old }
+
+-- 01: "and returns the scaling record bit for bit"
+abbrev pub refuseUpdate : Scaling → ℕ → Updated
+refuseUpdate r k = record { code = k; scaling = r }
+
 -- ---- 6: "the Rust would panic: Wright omega argument below 0, or ζ not above 0 in the generalized `update_dual_grad_H`"
 -- ---- 7: "the finished answer holds a NaN or an infinity"
 
@@ -98,3 +107,14 @@ publishTwoOf x y a b = cond (allFinite a && allFinite b) (record { answer = 0; f
 
 unfoldable pub numberOf : Float → Number
 numberOf value = cond (finite value) (record { code = 0; value = value }) (refuseNumber 7)
+
+-- a number that the Rust may panic before
+unfoldable pub judgedOf : Bool → Float → Number
+judgedOf panics value = cond panics (refuseNumber 6) (numberOf value)
+
+-- 01: "the round count (1 to 100) is handed back by it and by every primal gradient"; a refusal "returns zeros for all numbers"
+unfoldable pub countedOf : ℕ → ℕ → Rounds
+countedOf code rounds = cond (eqb code 0) (record { code = 0; rounds = rounds }) (record { code = code; rounds = 0 })
+
+abbrev pub withRounds : ℕ → Lent ℕ → Lent Rounds
+withRounds n l = record { answer = countedOf (l .answer) n; slice = l .slice }

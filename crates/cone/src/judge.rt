@@ -2,7 +2,7 @@
 ghost use mathlib.Core.Path.{_≡_};
 ghost use lib.ListN.{take};
 ghost use lib.Ieee.Scale.{finite};
-ghost use Rattle.cone.specs.Judges.{allOf, powerOk, exponentOk, sumOk, wideOk, threeOk, coneOk, numelOf, blockOf, settingsOk, settingsFinite, strategyOk, threeFinite, wideFinite, recordFinite};
+ghost use Rattle.cone.specs.Judges.{allOf, powerOk, exponentOk, sumOk, wideOk, threeOk, coneOk, numelOf, blockOf, settingsOk, settingsFinite, strategyOk, sidesFinite, threeFinite, wideFinite, recordFinite};
 use crate::Cone;
 use crate::DUAL;
 use crate::PRIMAL_DUAL;
@@ -25,6 +25,13 @@ pub fn all_finite(xs: &[f64]) -> bool
         all = all & is_finite(xs[i]);
     }
     all
+}
+
+// The same of the points and directions of both sides.
+pub fn sides_finite(dz: &[f64], ds: &[f64], z: &[f64], s: &[f64]) -> bool
+    ensures { λ r. ⌜ r ≡ sidesFinite (now (dz .entry)) (now (ds .entry)) (now (z .entry)) (now (s .entry)) ⌝ }
+{
+    all_finite(dz) & all_finite(ds) & all_finite(z) & all_finite(s)
 }
 
 // The same of the first n places.

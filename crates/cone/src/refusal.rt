@@ -2,9 +2,10 @@
 // and lends them to `publish`, which judges row 7 and only then writes.
 ghost use mathlib.Core.Path.{_≡_};
 ghost use lib.ListN.{length};
-ghost use Rattle.cone.specs.Refusals.{firstRow, Lent, LentTwo, publishOf, publishTwoOf, numberOf, lastRows};
+ghost use Rattle.cone.specs.Refusals.{firstRow, Lent, LentTwo, publishOf, publishTwoOf, numberOf, countedOf, lastRows};
 use crate::Attempt;
 use crate::Number;
+use crate::Rounds;
 use crate::judge::all_finite;
 use crate::judge::record_finite;
 use double::is_finite;
@@ -87,6 +88,16 @@ pub fn finished(value: f64) -> Number
         code: 7,
         value: 0.0,
     }
+}
+
+// A published gradient's count of rounds; a refusal counts 0.
+pub fn counted(code: u32, rounds: u32) -> Rounds
+    ensures { λ r. ⌜ r ≡ countedOf code rounds ⌝ }
+{
+    if code != 0 {
+        return Rounds { code, rounds: 0 };
+    }
+    Rounds { code: 0, rounds }
 }
 
 // Rows 6 and 7 of a new record.

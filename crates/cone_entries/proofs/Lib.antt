@@ -1,4 +1,4 @@
--- Laws that the entries share: lengths of a call that is let through, calls that go on by kind, lists changed place by place.
-pub mod Lengths
-pub mod Choices
+-- Laws that the entries share: lengths of a call that is let through, lists changed place by place; and that outcomes agree.
+mod Lengths
 mod Places
+pub mod Agree

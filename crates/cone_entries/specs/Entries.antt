@@ -13,15 +13,19 @@ use Rattle.cone.specs.declared.DualGrad.{DualGrad}
 use Rattle.cone.specs.declared.Attempt.{Attempt}
 use Rattle.cone.specs.Fresh as fresh
 use Rattle.cone.specs.Fresh.{emptyCone, noThree, noWide}
-use Rattle.cone.specs.Refusals.{row, badCone, lastRows, Lent, LentTwo, settle, refuse, refuseTwo, refuseNumber, publishOf, publishTwoOf, numberOf}
-use Rattle.search.specs.Passes.{passesOf}
-use Rattle.cone_entries.specs.Rows.{readRows, unitRows, copyRows, offsetRows}
-use Rattle.cone_entries.specs.Formulas.{barrierOf, gradientsOf, unitThree, unitWide, rectifiedOf}
+use Rattle.cone.specs.Refusals.{lastRows, Lent, LentTwo, settle, refuse, refuseTwo, refuseNumber, publishOf, publishTwoOf, numberOf}
+use Rattle.kinds.specs.Passes.{passesOf}
+use Rattle.kinds.specs.Cones as kinds
+use Rattle.kinds.specs.Cones.{alphaOf}
+use Rattle.kinds.specs.Three as three
+use Rattle.kinds.specs.Wide as wide
+use Rattle.cone_entries.specs.Rows.{freshRows, readRows, unitRows, copyRows, offsetRows}
+use Rattle.cone_entries.specs.Equilibration.{rectifiedOf}
 
 -- 01: "(fresh: no, and all its numbers +0)". A bad cone gets the record of no cone: "A refusal returns zeros for all numbers"
 unfoldable pub freshOf : Cone → Updated
 freshOf c =
-    settle (row (badCone c) 1 0)
+    settle (freshRows c)
     (record { code = 0; scaling = fresh.freshOf c })
     (λ k. record { code = k; scaling = fresh.freshOf emptyCone })
 
@@ -41,7 +45,7 @@ isDualFeasibleOf c z = settle (readRows c z) (record { code = 0; yes = passesOf 
 
 -- 000, 001, 002 barrier_dual
 unfoldable pub barrierDualOf : Cone → List Float → Number
-barrierDualOf c z = settle (readRows c z) (numberOf (barrierOf c z)) refuseNumber
+barrierDualOf c z = settle (readRows c z) (numberOf (kinds.barrierDualOf c z)) refuseNumber
 
 -- 000, 001, 002 update_dual_grad_H, by value. 7 looks at all that is handed back
 unfoldable pub refuseGrad : ℕ → DualGrad
@@ -53,7 +57,7 @@ gradOf a = record { code = 0; three = a .scaling .three; wide = a .scaling .wide
 unfoldable pub dualGradHOf : Cone → List Float → DualGrad
 dualGradHOf c z =
     settle (readRows c z)
-    (settle (lastRows (gradientsOf c z)) (gradOf (gradientsOf c z)) refuseGrad)
+    (settle (lastRows (kinds.dualGradHOf c z)) (gradOf (kinds.dualGradHOf c z)) refuseGrad)
     refuseGrad
 
 -- ---- entries that only write, or copy
@@ -61,10 +65,10 @@ dualGradHOf c z =
 -- 000, 001, 002 unit_initialization
 unfoldable pub unitInitializationOf : Cone → List Float → List Float → LentTwo ℕ
 unitInitializationOf c z s =
-    let wide = take (length z) (unitWide c) in
-    let three = unitThree c in
+    let generalized = take (length z) (wide.unitInitializationOf (c .exps) (c .dim1)) in
+    let unit = three.unitInitializationOf (c .kind) (alphaOf c) in
     settle (unitRows c (length z) (length s))
-    (cond (eqb (c .kind) 3) (publishTwoOf z s wide wide) (publishTwoOf z s three three))
+    (cond (eqb (c .kind) 3) (publishTwoOf z s generalized generalized) (publishTwoOf z s unit unit))
     (refuseTwo z s)
 
 -- 000, 001, 002 rectify_equilibration. It says yes, always: where the port refuses, it says no

@@ -1,3 +1,3 @@
 pub mod Rows
-pub mod Formulas
+pub mod Equilibration
 pub mod Entries

@@ -1,41 +1,66 @@
--- The rows of the table that judge each entry over a cone, in the table's order. Definitions only.
+-- What can be wrong with the arguments of an entry over a cone, a row of the table each; and the first row that applies. Definitions only.
 use Prim.Native.Nat.{ℕ}
-use mathlib.Core.Bool.{_||_, _&&_, not}
+use mathlib.Core.Bool.{false, _||_, _&&_, not}
 use mathlib.Core.List.{List}
 use lib.Dec.{eqb}
 use lib.Ieee.{Float}
 use Rattle.cone.specs.declared.Cone.{Cone}
+use Rattle.cone.specs.declared.refusal.Faults.{Faults}
 use Rattle.cone.specs.Judges.{numelOf, allFinite}
-use Rattle.cone.specs.Refusals.{row, badCone, otherLength, notFinite}
+use Rattle.cone.specs.Refusals.{firstRow, badCone, otherLength, notFinite}
+
+-- fresh
+unfoldable pub freshFaults : Cone → Faults
+freshFaults c = record { cone = badCone c; length = false; number = false; setting = false; unscaled = false }
+
+abbrev pub freshRows : Cone → ℕ
+freshRows c = firstRow (freshFaults c)
 
 -- is_primal_feasible, is_dual_feasible, barrier_dual, update_dual_grad_H
-unfoldable pub readRows : Cone → List Float → ℕ
-readRows c s =
-    row (badCone c) 1
-    (row (otherLength (numelOf c) s) 2
-    (row (notFinite s) 3 0))
+unfoldable pub readFaults : Cone → List Float → Faults
+readFaults c s =
+    record { cone = badCone c; length = otherLength (numelOf c) s; number = notFinite s; setting = false; unscaled = false }
+
+abbrev pub readRows : Cone → List Float → ℕ
+readRows c s = firstRow (readFaults c s)
 
 -- 01: "A slice that is only written is judged by its length alone". Below, a slice that is only written is given by its length
 
 -- unit_initialization
-unfoldable pub unitRows : Cone → ℕ → ℕ → ℕ
-unitRows c z s =
+unfoldable pub unitFaults : Cone → ℕ → ℕ → Faults
+unitFaults c z s =
     let n = numelOf c in
-    row (badCone c) 1
-    (row (not (eqb z n) || not (eqb s n)) 2 0)
+    record { cone = badCone c; length = not (eqb z n) || not (eqb s n); number = false; setting = false; unscaled = false }
+
+abbrev pub unitRows : Cone → ℕ → ℕ → ℕ
+unitRows c z s = firstRow (unitFaults c z s)
 
 -- rectify_equilibration, affine_ds
-unfoldable pub copyRows : Cone → ℕ → List Float → ℕ
-copyRows c out s =
+unfoldable pub copyFaults : Cone → ℕ → List Float → Faults
+copyFaults c out s =
     let n = numelOf c in
-    row (badCone c) 1
-    (row (not (eqb out n) || otherLength n s) 2
-    (row (notFinite s) 3 0))
+    record {
+      cone = badCone c;
+      length = not (eqb out n) || otherLength n s;
+      number = notFinite s;
+      setting = false;
+      unscaled = false;
+    }
+
+abbrev pub copyRows : Cone → ℕ → List Float → ℕ
+copyRows c out s = firstRow (copyFaults c out s)
 
 -- Δs_from_Δz_offset
-unfoldable pub offsetRows : Cone → ℕ → List Float → List Float → ℕ
-offsetRows c out ds z =
+unfoldable pub offsetFaults : Cone → ℕ → List Float → List Float → Faults
+offsetFaults c out ds z =
     let n = numelOf c in
-    row (badCone c) 1
-    (row (not (eqb out n) || otherLength n ds || otherLength n z) 2
-    (row (not (allFinite ds && allFinite z)) 3 0))
+    record {
+      cone = badCone c;
+      length = not (eqb out n) || otherLength n ds || otherLength n z;
+      number = not (allFinite ds && allFinite z);
+      setting = false;
+      unscaled = false;
+    }
+
+abbrev pub offsetRows : Cone → ℕ → List Float → List Float → ℕ
+offsetRows c out ds z = firstRow (offsetFaults c out ds z)

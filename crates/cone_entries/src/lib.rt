@@ -1,10 +1,11 @@
 // The public entries that take a cone. Each judges its arguments by the table of document 01, computes into locals, and only then writes.
 ghost use mathlib.Core.Path.{_≡_};
 ghost use Rattle.cone.specs.Refusals.{Lent, LentTwo};
-ghost use Rattle.cone_entries.specs.Rows.{readRows, copyRows, offsetRows, unitRows};
-ghost use Rattle.cone_entries.specs.Entries.{freshOf, isPrimalFeasibleOf, isDualFeasibleOf, barrierDualOf, dualGradHOf, unitInitializationOf, refuseGrad, rectifyOf, rectifyEquilibrationOf, affineDsOf, dsFromDzOffsetOf};
+ghost use Rattle.cone_entries.specs.Entries.{freshOf, isPrimalFeasibleOf, isDualFeasibleOf, barrierDualOf, refuseGrad, dualGradHOf};
+ghost use Rattle.cone_entries.specs.Entries.{unitInitializationOf, rectifyOf, rectifyEquilibrationOf, affineDsOf, dsFromDzOffsetOf};
 
-pub mod formulas;
+mod equilibration;
+mod rows;
 
 use algebra::vector::head;
 use cone::Cone;
@@ -13,29 +14,28 @@ use cone::Number;
 use cone::Updated;
 use cone::YesNo;
 use cone::empty_cone;
-use cone::judge::all_finite;
-use cone::judge::cone_ok;
-use cone::judge::numel;
 use cone::no_three;
 use cone::no_wide;
 use cone::refusal::finished;
 use cone::refusal::last_rows;
 use cone::refusal::publish;
 use cone::refusal::publish_two;
-use cone::refusal::row;
 use cone::refusal::store;
-use formulas::barrier;
-use formulas::gradients;
-use formulas::rectified;
-use formulas::unit_three;
-use formulas::unit_wide;
-use search::passes;
+use equilibration::rectified;
+use kinds::passes;
+use kinds::three;
+use kinds::wide;
+use rows::copy_rows;
+use rows::fresh_rows;
+use rows::offset_rows;
+use rows::read_rows;
+use rows::unit_rows;
 
 // A record for the cone that was never scaled.
 pub fn fresh(cone: Cone) -> Updated
     ensures { λ r. ⌜ r ≡ freshOf cone ⌝ }
 {
-    let code = row(!cone_ok(cone), 1, 0);
+    let code = fresh_rows(cone);
     if code != 0 {
         let none = empty_cone();
         let scaling = cone::fresh(none);
@@ -47,17 +47,6 @@ pub fn fresh(cone: Cone) -> Updated
 
 // ---- entries that read a point
 
-fn read_rows(cone: Cone, s: &[f64]) -> u32
-    ensures { λ r. ⌜ r ≡ readRows cone (now (s .entry)) ⌝ }
-{
-    let n = numel(cone);
-    row(
-        !cone_ok(cone),
-        1,
-        row(s.len() != n, 2, row(!all_finite(s), 3, 0)),
-    )
-}
-
 pub fn is_primal_feasible(cone: Cone, s: &[f64]) -> YesNo
     ensures { λ r. ⌜ r ≡ isPrimalFeasibleOf cone (now (s .entry)) ⌝ }
 {
@@ -65,7 +54,7 @@ pub fn is_primal_feasible(cone: Cone, s: &[f64]) -> YesNo
     if code != 0 {
         return YesNo { code, yes: false };
     }
-    let yes = passes(cone, true, s);
+    let yes = passes(cone.kind, cone.dim1, &cone.exps, true, s);
     YesNo { code: 0, yes }
 }
 
@@ -76,7 +65,7 @@ pub fn is_dual_feasible(cone: Cone, z: &[f64]) -> YesNo
     if code != 0 {
         return YesNo { code, yes: false };
     }
-    let yes = passes(cone, false, z);
+    let yes = passes(cone.kind, cone.dim1, &cone.exps, false, z);
     YesNo { code: 0, yes }
 }
 
@@ -87,7 +76,7 @@ pub fn barrier_dual(cone: Cone, z: &[f64]) -> Number
     if code != 0 {
         return Number { code, value: 0.0 };
     }
-    finished(barrier(cone, z))
+    finished(kinds::barrier_dual(cone, z))
 }
 
 fn refused_gradient(code: u32) -> DualGrad
@@ -106,7 +95,7 @@ pub fn dual_grad_h(cone: Cone, z: &[f64]) -> DualGrad
     if code != 0 {
         return refused_gradient(code);
     }
-    let attempt = gradients(cone, z);
+    let attempt = kinds::dual_grad_h(cone, z);
     let last = last_rows(attempt);
     if last != 0 {
         return refused_gradient(last);
@@ -123,15 +112,9 @@ pub fn dual_grad_h(cone: Cone, z: &[f64]) -> DualGrad
 
 // ---- entries that only write, or copy
 
-fn unit_rows(cone: Cone, z: usize, s: usize) -> u32
-    ensures { λ r. ⌜ r ≡ unitRows cone z s ⌝ }
-{
-    let n = numel(cone);
-    row(!cone_ok(cone), 1, row((z != n) | (s != n), 2, 0))
-}
-
 pub fn unit_initialization(cone: Cone, z: &mut [f64], s: &mut [f64]) -> u32
-    ensures { λ r. ⌜ record { answer = r; first = now (z .exit); second = now (s .exit) } ≡ unitInitializationOf cone (now (z .entry)) (now (s .entry)) ⌝ }
+    ensures { λ r. ⌜ record { answer = r; first = now (z .exit); second = now (s .exit) }
+        ≡ unitInitializationOf cone (now (z .entry)) (now (s .entry)) ⌝ }
 {
     let code = unit_rows(cone, z.len(), s.len());
     if code != 0 {
@@ -139,23 +122,12 @@ pub fn unit_initialization(cone: Cone, z: &mut [f64], s: &mut [f64]) -> u32
     }
     let kind = cone.kind;
     if kind == 3 {
-        let point = unit_wide(cone);
+        let point = wide::unit_initialization(&cone.exps, cone.dim1 as usize);
         let start = head(&point, z.len());
         return publish_two(z, s, start, start);
     }
-    let point = unit_three(cone);
+    let point = three::unit_initialization(kind, cone.exps[0]);
     publish_two(z, s, &point, &point)
-}
-
-fn copy_rows(cone: Cone, out: usize, s: &[f64]) -> u32
-    ensures { λ r. ⌜ r ≡ copyRows cone out (now (s .entry)) ⌝ }
-{
-    let n = numel(cone);
-    row(
-        !cone_ok(cone),
-        1,
-        row((out != n) | (s.len() != n), 2, row(!all_finite(s), 3, 0)),
-    )
 }
 
 fn rectify(cone: Cone, delta: &mut [f64], e: &[f64]) -> u32
@@ -171,7 +143,8 @@ fn rectify(cone: Cone, delta: &mut [f64], e: &[f64]) -> u32
 
 // scalar equilibration
 pub fn rectify_equilibration(cone: Cone, delta: &mut [f64], e: &[f64]) -> YesNo
-    ensures { λ r. ⌜ record { answer = r; slice = now (delta .exit) } ≡ rectifyEquilibrationOf cone (now (delta .entry)) (now (e .entry)) ⌝ }
+    ensures { λ r. ⌜ record { answer = r; slice = now (delta .exit) }
+        ≡ rectifyEquilibrationOf cone (now (delta .entry)) (now (e .entry)) ⌝ }
 {
     let code = rectify(cone, delta, e);
     YesNo {
@@ -191,21 +164,10 @@ pub fn affine_ds(cone: Cone, ds: &mut [f64], s: &[f64]) -> u32
     0
 }
 
-fn offset_rows(cone: Cone, out: usize, ds: &[f64], z: &[f64]) -> u32
-    ensures { λ r. ⌜ r ≡ offsetRows cone out (now (ds .entry)) (now (z .entry)) ⌝ }
-{
-    let n = numel(cone);
-    let bad2 = (out != n) | (ds.len() != n) | (z.len() != n);
-    row(
-        !cone_ok(cone),
-        1,
-        row(bad2, 2, row(!(all_finite(ds) & all_finite(z)), 3, 0)),
-    )
-}
-
 // 01: "Every argument of a call is judged, read or not": z is not read.
 pub fn ds_from_dz_offset(cone: Cone, out: &mut [f64], ds: &[f64], z: &[f64]) -> u32
-    ensures { λ r. ⌜ record { answer = r; slice = now (out .exit) } ≡ dsFromDzOffsetOf cone (now (out .entry)) (now (ds .entry)) (now (z .entry)) ⌝ }
+    ensures { λ r. ⌜ record { answer = r; slice = now (out .exit) }
+        ≡ dsFromDzOffsetOf cone (now (out .entry)) (now (ds .entry)) (now (z .entry)) ⌝ }
 {
     let code = offset_rows(cone, out.len(), ds, z);
     if code != 0 {

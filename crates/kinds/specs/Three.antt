@@ -8,7 +8,6 @@ use lib.Ieee.{Float}
 use lib.ListN.{replicate}
 use Rattle.double.specs.Numbers.{#0}
 use Rattle.cone.specs.declared.Three.{Three}
-use Rattle.expcone.specs.Feasible as expcone
 use Rattle.expcone.specs.Barriers as expBarriers
 use Rattle.expcone.specs.DualGradient as expDual
 use Rattle.expcone.specs.PrimalGradient as expPrimal
@@ -22,7 +21,7 @@ use Rattle.kinds.specs.declared.three.Valued.{Valued}
 
 -- 000, 001 unit_initialization: z and s alike
 unfoldable pub unitInitializationOf : ℕ → Float → List Float
-unitInitializationOf kind α = cond (eqb kind 2) (powPrimal.unitInitializationOf α) expcone.unitInitializationOf
+unitInitializationOf kind α = cond (eqb kind 2) (powPrimal.unitInitializationOf α) expPrimal.unitInitializationOf
 
 -- 000, 001 update_dual_grad_H: a gradient and a block, the rest of a record's numbers +0
 abbrev pub plainThree : List Float → List Float → Three

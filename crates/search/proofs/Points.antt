@@ -21,7 +21,8 @@ pub record Filled (l p₀ p : List Float) (i : ℕ) : Type 0 where
 pub filled-none : (l p : List Float) → Filled l p p 0
 filled-none l p = record { long = refl; upto = omega arith; same = refl }
 
-pub filled-more : (l p₀ p : List Float) (i : ℕ) (a z : Float) → length p₀ ≡ length l → Filled l p₀ p i → i < length l → a ≡ getD l i z → Filled l p₀ (set p i a) (i + 1)
+pub filled-more : (l p₀ p : List Float) (i : ℕ) (a z : Float) → length p₀ ≡ length l → Filled l p₀ p i → i < length l → a ≡ getD l i z
+    → Filled l p₀ (set p i a) (i + 1)
 filled-more l p₀ p i a z e f h g = record {
   long = simp length-set (f .long);
   upto = omega arith;

@@ -37,7 +37,8 @@ from-normal : (x : Float) → T (finite x) → T (#smallestNormal ≼ x) → T (
 unfolding ofBits
 from-normal x f t = above-finite x f (above-of-le #smallestNormal x tt t)
 
-pub usable-of : (how : Settings) → T (fits binary64 (how .start)) → T (fits binary64 (how .smallest)) → settingsFinite how ≡ true → settingsOk how ≡ true → Usable how
+pub usable-of : (how : Settings) → T (fits binary64 (how .start)) → T (fits binary64 (how .smallest)) → settingsFinite how ≡ true
+    → settingsOk how ≡ true → Usable how
 usable-of how fa fm f r =
     let a = how .start in
     let s = how .step in

@@ -11,7 +11,7 @@ use Rattle.cone.specs.declared.Found.{Found}
 use Rattle.cone.specs.declared.Steps.{Steps}
 use Rattle.cone.specs.Refusals.{Lent, LentTwo, settle}
 use Rattle.trials.specs.Search.{Outcome, searchOf}
-use Rattle.search.specs.Passes.{problemOf}
+use Rattle.search.specs.Problems.{problemOf}
 use Rattle.search_entries.specs.Rows.{searchRows, stepRows}
 
 -- ---- 003 backtrack_search

@@ -1,32 +1,45 @@
--- The rows of the table that judge a search, in the table's order. Definitions only.
+-- What can be wrong with a search's arguments, a row of the table each; and the first row that applies. Definitions only.
 use Prim.Native.Nat.{ℕ}
-use mathlib.Core.Bool.{Bool, _||_, _&&_, not}
+use mathlib.Core.Bool.{false, _||_, _&&_, not}
 use mathlib.Core.List.{List}
 use lib.Dec.{eqb}
 use lib.Ieee.{Float}
 use Rattle.cone.specs.declared.Cone.{Cone}
 use Rattle.cone.specs.declared.Settings.{Settings}
-use Rattle.cone.specs.Judges.{numelOf, allFinite, settingsFinite}
-use Rattle.cone.specs.Refusals.{row, badCone, otherLength, badSettings}
+use Rattle.cone.specs.declared.refusal.Faults.{Faults}
+use Rattle.cone.specs.Judges.{numelOf, allFinite, sidesFinite, settingsFinite}
+use Rattle.cone.specs.Refusals.{firstRow, badCone, otherLength, badSettings}
 
--- 01: "A slice that is only written is judged by its length alone": `point` is that length
+-- 01: "A slice that is only written is judged by its length alone": `point`, `dualPoint` and `primalPoint` are such lengths.
+-- 01: "Feasibility and step search take a cone and no record": none is unscaled
 
 -- 01: "`backtrack_search`, where public, is judged as a cone entry"
-unfoldable pub searchRows : Cone → List Float → List Float → ℕ → Settings → ℕ
-searchRows c dq q point s =
+unfoldable pub searchFaults : Cone → List Float → List Float → ℕ → Settings → Faults
+searchFaults c dq q point s =
     let n = numelOf c in
-    row (badCone c) 1
-    (row (otherLength n dq || otherLength n q || not (eqb point n)) 2
-    (row (not (allFinite dq && allFinite q && settingsFinite s)) 3
-    (row (badSettings s) 4 0)))
+    record {
+      cone = badCone c;
+      length = otherLength n dq || otherLength n q || not (eqb point n);
+      number = not (allFinite dq && allFinite q && settingsFinite s);
+      setting = badSettings s;
+      unscaled = false;
+    }
 
-abbrev pub sidesFinite : List Float → List Float → List Float → List Float → Bool
-sidesFinite dz ds z s = allFinite dz && allFinite ds && allFinite z && allFinite s
+abbrev pub searchRows : Cone → List Float → List Float → ℕ → Settings → ℕ
+searchRows c dq q point s = firstRow (searchFaults c dq q point s)
 
-unfoldable pub stepRows : Cone → List Float → List Float → List Float → List Float → ℕ → ℕ → Settings → ℕ
-stepRows c dz ds z s dualPoint primalPoint settings =
+-- 000, 001, 002 step_length: what is wrong on one side refuses both
+unfoldable pub stepFaults : Cone → List Float → List Float → List Float → List Float → ℕ → ℕ → Settings → Faults
+stepFaults c dz ds z s dualPoint primalPoint settings =
     let n = numelOf c in
-    row (badCone c) 1
-    (row (otherLength n dz || otherLength n ds || otherLength n z || otherLength n s || not (eqb dualPoint n) || not (eqb primalPoint n)) 2
-    (row (not (sidesFinite dz ds z s && settingsFinite settings)) 3
-    (row (badSettings settings) 4 0)))
+    record {
+      cone = badCone c;
+      length =
+          otherLength n dz || otherLength n ds || otherLength n z || otherLength n s || not (eqb dualPoint n) || not (eqb primalPoint n);
+      number = not (sidesFinite dz ds z s && settingsFinite settings);
+      setting = badSettings settings;
+      unscaled = false;
+    }
+
+abbrev pub stepRows : Cone → List Float → List Float → List Float → List Float → ℕ → ℕ → Settings → ℕ
+stepRows c dz ds z s dualPoint primalPoint settings = firstRow (stepFaults c dz ds z s dualPoint primalPoint settings)

@@ -1,11 +1,10 @@
-// Runs step searches, a line for each: the number that refuses the settings or 0, the step's bits, how many points were tested, the bits of the point that is handed back.
+// Runs step searches, a line for each: the number that refuses the call or 0, the step's bits, how many points were tested, the bits of the lent
+// point at exit.
 use cone::Cone;
 use cone::Settings;
 use cone::house_settings;
-use cone::judge::settings_finite;
-use cone::judge::settings_ok;
 use double::to_bits;
-use search::backtrack_search;
+use search_entries::backtrack_search;
 
 fn word(text: &[u8]) {
     io::write_all(1, text);
@@ -41,51 +40,16 @@ fn settings(start: f64, step: f64, smallest: f64) -> Settings {
     }
 }
 
-// What a search hands back, with the number that refuses its settings or 0.
-struct Answer {
-    code: u32,
-    step: f64,
-    count: u32,
-    point: [f64; 3],
-}
-
-fn judged_search(cone: Cone, primal: bool, dq: [f64; 3], q: [f64; 3], how: Settings) -> Answer {
-    let mut point = [0.0; 3];
-    if settings_finite(how) {
-        if settings_ok(how) {
-            let found = backtrack_search(cone, primal, &dq, &q, how, &mut point);
-            return Answer {
-                code: 0,
-                step: found.step,
-                count: found.count,
-                point,
-            };
-        }
-        return Answer {
-            code: 4,
-            step: 0.0,
-            count: 0,
-            point,
-        };
-    }
-    Answer {
-        code: 3,
-        step: 0.0,
-        count: 0,
-        point,
-    }
-}
-
 fn show(label: &[u8], cone: Cone, primal: bool, dq: [f64; 3], q: [f64; 3], how: Settings) {
-    let a = judged_search(cone, primal, dq, q, how);
-    let point = a.point;
+    let mut point = [0.0; 3];
+    let found = backtrack_search(cone, primal, &dq, &q, &mut point, how);
     word(label);
     word(b": ");
-    io::print_decimal(1, a.code as u64);
+    io::print_decimal(1, found.code as u64);
     word(b" ");
-    io::print_hex(1, to_bits(a.step), 16);
+    io::print_hex(1, to_bits(found.step), 16);
     word(b" after ");
-    io::print_decimal(1, a.count as u64);
+    io::print_decimal(1, found.count as u64);
     word(b" at ");
     io::print_hex(1, to_bits(point[0]), 16);
     word(b" ");
@@ -187,4 +151,10 @@ fn main() {
     stay(b"step 0.991", inside, settings(1.0, 0.991, 0.5));
     stay(b"start zero", inside, settings(0.0, 0.5, 0.5));
     stay(b"start infinite", inside, settings(1.0 / 0.0, 0.5, 0.5));
+    // From the largest double down to the smallest normal one by the slowest step, and no point passes.
+    stay(
+        b"the longest search",
+        out,
+        settings(1.7976931348623157e308, 0.99, least),
+    );
 }

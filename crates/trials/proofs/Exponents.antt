@@ -1,4 +1,5 @@
--- The number of binary digits of a normal double's units is its exponent field and 52: the field less 1023 is the exponent E with x from 2^E up to 2^(E+1). Assumes nothing.
+-- The number of binary digits of a normal double's units is its exponent field and 52: the field less 1023 is the exponent E with x from 2^E up to
+-- 2^(E+1). Assumes nothing.
 use mathlib.Core.Path.{_≡_, ap, _∙_}
 use Prim.Native.Nat.{ℕ, zero, suc, _+_, _^_, _≤_, _<_}
 use native.Mathlib.Nat.{le-trans, le-of-eq, not-le-of-lt, zero-lt-suc}
@@ -19,7 +20,8 @@ unfolding mag
 field-pos zero t n l = absurd (not-le-of-lt l n)
 field-pos (suc j) t n l = zero-lt-suc j
 
-pub digits-by-exponent : (x : Float) → T (fits binary64 x) → T (positive x) → 2 ^ 52 ≤ unitsOf binary64 x → size (unitsOf binary64 x) ≡ exponentOf x + 52
+pub digits-by-exponent : (x : Float) → T (fits binary64 x) → T (positive x) → 2 ^ 52 ≤ unitsOf binary64 x
+    → size (unitsOf binary64 x) ≡ exponentOf x + 52
 digits-by-exponent x F p n =
     let b = toBits binary64 x in
     let r = read x false (unitsOf binary64 x) F (is-units binary64 x F p) in

@@ -91,18 +91,26 @@ module _ (P : Problem) where
     where
       go : Ended P → FirstPassing P (searchOf P)
       go (passed n r p e) = subst (λ (o : Outcome). FirstPassing P o) (sym e) (hit-passing ok n (first-of n r p))
-      go (failed n r p c e) = let z = last-of n r c in subst (λ (o : Outcome). FirstPassing P o) (sym e) (miss-passing ok n (none-of n r p z) z)
+      go (failed n r p c e) =
+          let z = last-of n r c in subst (λ (o : Outcome). FirstPassing P o) (sym e) (miss-passing ok n (none-of n r p z) z)
 
   -- any outcome that meets the statement is the search's
   pub found-is : Usable (P .how) → (o : Outcome) → FirstPassing P o → o ≡ searchOf P
   found-is ok o s = go (ended P ok)
     where
       same : (o : Outcome) (α : Float) (n : ℕ) → o .step ≡ α → o .count ≡ n → (p : List Float) → o .point ≡ p → o ≡ outcome α n p
-      same o α n a c p q = ap (λ (x : Float). outcome x (o .count) (o .point)) a ∙ ap (λ (k : ℕ). outcome α k (o .point)) c ∙ ap (outcome α n) q
+      same o α n a c p q =
+          ap (λ (x : Float). outcome x (o .count) (o .point)) a ∙ ap (λ (k : ℕ). outcome α k (o .point)) c ∙ ap (outcome α n) q
 
       go : Ended P → o ≡ searchOf P
-      go (passed n r p e) = let f = first-of n r p in same o (trialOf P n) (suc n) (s .returns-first n f) (s .tests-to-first n f) (P .pointAt (trialOf P n)) (s .point-tested n f) ∙ sym e
-      go (failed n r p c e) = let z = last-of n r c in let h = none-of n r p z in same o #0 (suc n) (s .zero-if-none h) (s .tests-of-all n h z) (P .q) (s .point-at-zero h) ∙ sym e
+      go (passed n r p e) =
+          let f = first-of n r p in
+          let α = trialOf P n in
+          same o α (suc n) (s .returns-first n f) (s .tests-to-first n f) (P .pointAt α) (s .point-tested n f) ∙ sym e
+      go (failed n r p c e) =
+          let z = last-of n r c in
+          let h = none-of n r p z in
+          same o #0 (suc n) (s .zero-if-none h) (s .tests-of-all n h z) (P .q) (s .point-at-zero h) ∙ sym e
 
   pub two-agree : Usable (P .how) → (o o' : Outcome) → FirstPassing P o → FirstPassing P o' → o ≡ o'
   two-agree ok o o' s s' = found-is ok o s ∙ sym (found-is ok o' s')

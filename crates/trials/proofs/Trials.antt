@@ -1,8 +1,10 @@
 -- There are at most `bound` allowed trials: each product leaves at most 0.99 + 2^-53 of a trial, so 69 of them take a binary exponent. Assumes nothing.
--- The trials are followed in units, that is as whole numbers. A start below the smallest step may be subnormal; then the first product is below the smallest step too.
+-- The trials are followed in units, that is as whole numbers. A start below the smallest step may be subnormal; then the first product is below the
+-- smallest step too.
 use mathlib.Core.Path.{_≡_, refl, sym, ap, _∙_, subst}
 use Prim.Native.Nat.{ℕ, zero, suc, _+_, _-_, _*_, _^_, _≤_, _<_}
-use native.Mathlib.Nat.{le-refl, le-trans, le-of-eq, le-of-lt, lt-of-le-of-lt, lt-of-lt-of-le, lt-of-not-le, one-mul, mul-comm, mul-assoc, mul-le-mul-right, le-div-iff-mul-le}
+use native.Mathlib.Nat.{le-refl, le-trans, le-of-eq, le-of-lt, lt-of-le-of-lt, lt-of-lt-of-le, lt-of-not-le}
+use native.Mathlib.Nat.{one-mul, mul-comm, mul-assoc, mul-le-mul-right, le-div-iff-mul-le}
 use native.Mathlib.Omega.{arith}
 use mathlib.Core.Bool.{Bool, true, false, cond, true≢false}
 use lib.Dec.{T, lit<, lit≤}
@@ -47,7 +49,8 @@ normal-units x p h = le-div-iff-mul-le (den-pos x) .1 (go (den x) (num x) (le→
     go : (d n : ℕ) → 1 * 1 * d ≤ n * 2 ^ 1022 → 2 ^ 52 * d ≤ n * 2 ^ 1074
     go d n h =
         le-trans (le-of-eq (ap (λ (z : ℕ). 2 ^ 52 * z) (sym (one-mul d))))
-        (le-trans (le-of-eq (mul-comm (2 ^ 52) (1 * 1 * d))) (le-trans (mul-le-mul-right (2 ^ 52) h) (le-of-eq (mul-assoc n (2 ^ 1022) (2 ^ 52)))))
+        (le-trans (le-of-eq (mul-comm (2 ^ 52) (1 * 1 * d)))
+        (le-trans (mul-le-mul-right (2 ^ 52) h) (le-of-eq (mul-assoc n (2 ^ 1022) (2 ^ 52)))))
 
 less-of-product : (g m : ℕ) → g * (100 * 2 ^ 53) ≤ m * (99 * 2 ^ 53 + 100) → 0 < m → g < m
 less-of-product g m h p = omega arith
@@ -82,17 +85,22 @@ module _ (how : Settings) (ok : Usable how) where
     pub under : u k < overflow binary64
 
   -- the trial after k, against any bound N of the trial k that is in the normal range
-  next : (k N : ℕ) → T (positive (trial how k)) → IsUnits binary64 (trial how k) (u k) → u k ≤ N → M ≤ N → N < overflow binary64 → Shrunk binary64 (trial how (suc k)) N 99 100
+  next : (k N : ℕ) → T (positive (trial how k)) → IsUnits binary64 (trial how k) (u k) → u k ≤ N → M ≤ N → N < overflow binary64
+      → Shrunk binary64 (trial how (suc k)) N 99 100
   unfolding trial u
   next k N p i a b c =
-      mul-shrinks binary64 (trial how k) (how .step) (u k) N 99 100 p (ok .step-positive) i (lit< tt) (step-at-most (how .step) (ok .step-positive) (ok .step-most)) (lit≤ tt) a (le-trans M-normal b) c
+      let s = how .step in
+      let most = step-at-most s (ok .step-positive) (ok .step-most) in
+      mul-shrinks binary64 (trial how k) s (u k) N 99 100 p (ok .step-positive) i (lit< tt) most (lit≤ tt) a (le-trans M-normal b) c
 
   after : (k : ℕ) → Good k → Shrunk binary64 (trial how (suc k)) (u k) 99 100
   after k g = next k (u k) (g .pos) (g .is) (le-refl (u k)) (g .above) (g .under)
 
   -- a value that is not below the smallest step is M units at least
   not-below : (x : Float) (g : ℕ) → IsUnits binary64 x g → (x ≺ how .smallest) ≡ false → M ≤ g
-  not-below x g i e = le-of-not-lt M (λ (h : g < M). true≢false (sym (is-true (x ≺ how .smallest) (lt-of-units binary64 x (how .smallest) g M i M-is h)) ∙ e))
+  not-below x g i e =
+      le-of-not-lt M
+      (λ (h : g < M). true≢false (sym (is-true (x ≺ how .smallest) (lt-of-units binary64 x (how .smallest) g M i M-is h)) ∙ e))
     where
       le-of-not-lt : (m : ℕ) → (g < m → ⊥) → m ≤ g
       le-of-not-lt m n = omega arith
@@ -111,7 +119,8 @@ module _ (how : Settings) (ok : Usable how) where
 
   good : (how .start ≺ how .smallest) ≡ false → (n k : ℕ) → Allowed how n → k ≤ n → Good k
   unfolding trial
-  good e n zero a l = good-of 0 (unitsOf binary64 (how .start)) start-is e (units-under binary64 (how .start) (ok .start-double) (ok .start-positive))
+  good e n zero a l =
+      good-of 0 (unitsOf binary64 (how .start)) start-is e (units-under binary64 (how .start) (ok .start-double) (ok .start-positive))
   good e n (suc k) a l =
       let g = good e n k a (le-of-lt l) in
       let z = after k g in
@@ -123,16 +132,10 @@ module _ (how : Settings) (ok : Usable how) where
       let z = after i (good e n i a (le-of-lt l)) in
       subst (λ (w : ℕ). w * Q ≤ u i * R) (sym (units-of binary64 (trial how (suc i)) (z .units) (z .is))) (z .small)
 
-  -- each product is below the last
-  pub strictly : (how .start ≺ how .smallest) ≡ false → (n k : ℕ) → Allowed how n → k ≤ n → T (trial how (suc k) ≺ trial how k)
-  strictly e n k a l =
-      let g = good e n k a l in
-      let z = after k g in
-      lt-of-units binary64 (trial how (suc k)) (trial how k) (z .units) (u k) (z .is) (g .is) (less-of-product (z .units) (u k) (z .small) (lt-of-lt-of-le M-pos (g .above)))
-
   -- K products take a binary digit, K * t take t. What makes K 69 is 2 * R ^ K ≤ Q ^ K, which is computed
   exponents-fall : (how .start ≺ how .smallest) ≡ false → (t : ℕ) → Allowed how (K * t) → size (u (K * t)) + t ≤ size (u 0)
-  exponents-fall e t a = digits-fall u Q R K t (lit< tt) (lit≤ tt) (shrinks e (K * t) a) (λ i l. lt-of-lt-of-le M-pos (good e (K * t) i a l .above))
+  exponents-fall e t a =
+      digits-fall u Q R K t (lit< tt) (lit≤ tt) (shrinks e (K * t) a) (λ i l. lt-of-lt-of-le M-pos (good e (K * t) i a l .above))
 
   -- the start is not below the smallest step
   most : (how .start ≺ how .smallest) ≡ false → (n : ℕ) → Allowed how n → n < K * (exponentOf (how .start) - exponentOf (how .smallest) + 1)
@@ -143,7 +146,8 @@ module _ (how : Settings) (ok : Usable how) where
       let t = x - m + 1 in
       lt-of-not-le (λ (h : K * t ≤ n).
       let a' : Allowed how (K * t) = λ j p l. a j p (le-trans l h) in
-      let s : size (u 0) ≡ x + 52 = digits-by-exponent (how .start) (ok .start-double) (ok .start-positive) (le-trans M-normal (good e n 0 a (omega arith) .above)) in
+      let normal = le-trans M-normal (good e n 0 a (omega arith) .above) in
+      let s : size (u 0) ≡ x + 52 = digits-by-exponent (how .start) (ok .start-double) (ok .start-positive) normal in
       let z : size M ≡ m + 52 = digits-by-exponent (how .smallest) (ok .smallest-double) (ok .smallest-positive) M-normal in
       let f : size (u (K * t)) + t ≤ size (u 0) = exponents-fall e t a' in
       let g : size M ≤ size (u (K * t)) = size-mono M (u (K * t)) (good e (K * t) (K * t) a' (le-refl (K * t)) .above) in
@@ -156,9 +160,12 @@ module _ (how : Settings) (ok : Usable how) where
   once : (how .start ≺ how .smallest) ≡ true → (trial how 1 ≺ how .smallest) ≡ true
   unfolding u M trial
   once e =
-      let l : unitsOf binary64 (how .start) < M = units-of-lt binary64 (how .start) (how .smallest) (unitsOf binary64 (how .start)) M start-is M-is (subst (λ (b : Bool). T b) (sym e) tt) in
-      let z = next 0 M (ok .start-positive) start-is (le-of-lt l) (le-refl M) (units-under binary64 (how .smallest) (ok .smallest-double) (ok .smallest-positive)) in
-      is-true (trial how 1 ≺ how .smallest) (lt-of-units binary64 (trial how 1) (how .smallest) (z .units) M (z .is) M-is (less-of-product (z .units) M (z .small) M-pos))
+      let n = unitsOf binary64 (how .start) in
+      let below : n < M = units-of-lt binary64 (how .start) (how .smallest) n M start-is M-is (subst (λ (b : Bool). T b) (sym e) tt) in
+      let small = units-under binary64 (how .smallest) (ok .smallest-double) (ok .smallest-positive) in
+      let z = next 0 M (ok .start-positive) start-is (le-of-lt below) (le-refl M) small in
+      let less = less-of-product (z .units) M (z .small) M-pos in
+      is-true (trial how 1 ≺ how .smallest) (lt-of-units binary64 (trial how 1) (how .smallest) (z .units) M (z .is) M-is less)
 
   pub under-bound : (n : ℕ) → Allowed how n → n < bound how
   under-bound n a = go (how .start ≺ how .smallest) refl

@@ -9,7 +9,7 @@ use native.Mathlib.Omega.{arith}
 use lib.Ieee.{Float}
 use Rattle.double.specs.Operators.{_⊗_, _≺_}
 use Rattle.trials.specs.Trials.{trial, Allowed, bound, Usable}
-use Rattle.trials.specs.Search.{Problem, passesAt, cutAfter, hit, miss, scan, searchOf}
+use Rattle.trials.specs.Search.{Problem, Outcome, passesAt, cutAfter, hit, miss, scan, searchOf}
 use Rattle.trials.proofs.Trials.{under-bound}
 
 abbrev pub trialOf : Problem → ℕ → Float
@@ -35,20 +35,30 @@ module _ (P : Problem) (n : ℕ) (α : Float) where
   unfolding trial
   reached-next r f c = record {
     is = ap (λ (z : Float). z ⊗ P .how .step) (r .is);
-    allowed = λ j p l. elim (le-suc-iff .0 l) [ inl k ↦ r .allowed j p k | inr e ↦ subst (λ (z : ℕ). (trialOf P z ≺ P .how .smallest) ≡ false) (sym e) (subst (λ (z : Float). cutAfter P z ≡ false) (r .is) c) ];
-    failed = below-suc (λ (k : ℕ). passesAt P (trialOf P k) ≡ false) n (r .failed) (subst (λ (z : Float). passesAt P z ≡ false) (r .is) f);
+    allowed = λ j p l.
+        let uncut = subst (λ (z : Float). cutAfter P z ≡ false) (r .is) c in
+        elim (le-suc-iff .0 l) [
+          | inl k ↦ r .allowed j p k
+          | inr e ↦ subst (λ (z : ℕ). (trialOf P z ≺ P .how .smallest) ≡ false) (sym e) uncut
+        ];
+    failed =
+        below-suc (λ (k : ℕ). passesAt P (trialOf P k) ≡ false) n (r .failed) (subst (λ (z : Float). passesAt P z ≡ false) (r .is) f);
   }
 
   pub reached-under : Usable (P .how) → Reached P n α → n < bound (P .how)
   reached-under ok r = under-bound (P .how) ok n (r .allowed)
 
+-- the definition from its trial α on, the one numbered n, with f trials more at most
+abbrev from : Problem → ℕ → Float → ℕ → Outcome
+from P f α n = scan P f (passesAt P α) (cutAfter P α) α n
+
 -- the definition, followed to the trial n
 walk : (P : Problem) (n f : ℕ) → Allowed (P .how) n → ((k : ℕ) → k < n → passesAt P (trialOf P k) ≡ false)
-    → scan P (n + f) (passesAt P (P .how .start)) (cutAfter P (P .how .start)) (P .how .start) 0 ≡ scan P f (passesAt P (trialOf P n)) (cutAfter P (trialOf P n)) (trialOf P n) n
+    → from P (n + f) (P .how .start) 0 ≡ from P f (trialOf P n) n
 unfolding scan trial
-walk P zero f a h = ap (λ (z : ℕ). scan P z (passesAt P (P .how .start)) (cutAfter P (P .how .start)) (P .how .start) 0) (zero-add f)
+walk P zero f a h = ap (λ (z : ℕ). from P z (P .how .start) 0) (zero-add f)
 walk P (suc n) f a h =
-    ap (λ (z : ℕ). scan P z (passesAt P (P .how .start)) (cutAfter P (P .how .start)) (P .how .start) 0) (suc-add n f ∙ sym (add-suc n f))
+    ap (λ (z : ℕ). from P z (P .how .start) 0) (suc-add n f ∙ sym (add-suc n f))
     ∙ walk P n (suc f) (λ j p l. a j p (le-step l)) (λ k l. h k (le-step l))
     ∙ ap (λ (b : Bool). scan P (suc f) b (cutAfter P (trialOf P n)) (trialOf P n) n) (h n (le-refl (suc n)))
     ∙ ap (λ (b : Bool). scan P (suc f) false b (trialOf P n) n) (a (suc n) (omega arith) (le-refl (suc n)))
@@ -58,12 +68,12 @@ module _ (P : Problem) (n : ℕ) (α : Float) (ok : Usable (P .how)) (r : Reache
   fuel : ℕ
   fuel = bound (P .how) - suc n
 
-  from-here : searchOf P ≡ scan P (suc fuel) (passesAt P α) (cutAfter P α) α n
+  from-here : searchOf P ≡ from P (suc fuel) α n
   unfolding searchOf fuel
   from-here =
-      ap (λ (z : ℕ). scan P z (passesAt P (P .how .start)) (cutAfter P (P .how .start)) (P .how .start) 0) (sym (split (bound (P .how)) n (reached-under P n α ok r)))
+      ap (λ (z : ℕ). from P z (P .how .start) 0) (sym (split (bound (P .how)) n (reached-under P n α ok r)))
       ∙ walk P n (suc (bound (P .how) - suc n)) (r .allowed) (r .failed)
-      ∙ ap (λ (z : Float). scan P (suc (bound (P .how) - suc n)) (passesAt P z) (cutAfter P z) z n) (sym (r .is))
+      ∙ ap (λ (z : Float). from P (suc (bound (P .how) - suc n)) z n) (sym (r .is))
     where
       split : (b n : ℕ) → n < b → n + suc (b - suc n) ≡ b
       split b n h = omega arith
@@ -74,12 +84,14 @@ module _ (P : Problem) (n : ℕ) (α : Float) (ok : Usable (P .how)) (r : Reache
 
   pub is-miss : passesAt P α ≡ false → cutAfter P α ≡ true → searchOf P ≡ miss P n
   unfolding scan
-  is-miss p c = from-here ∙ ap (λ (b : Bool). scan P (suc fuel) b (cutAfter P α) α n) p ∙ ap (λ (b : Bool). scan P (suc fuel) false b α n) c
+  is-miss p c =
+      from-here ∙ ap (λ (b : Bool). scan P (suc fuel) b (cutAfter P α) α n) p ∙ ap (λ (b : Bool). scan P (suc fuel) false b α n) c
 
 -- The search ends at a trial n that is reached: it passes and is handed back, or it fails and the next is cut.
 pub data Ended (P : Problem) : Type 0 where
   passed : (n : ℕ) → Reached P n (trialOf P n) → passesAt P (trialOf P n) ≡ true → searchOf P ≡ hit P (trialOf P n) n → Ended P
-  failed : (n : ℕ) → Reached P n (trialOf P n) → passesAt P (trialOf P n) ≡ false → cutAfter P (trialOf P n) ≡ true → searchOf P ≡ miss P n → Ended P
+  failed : (n : ℕ) → Reached P n (trialOf P n) → passesAt P (trialOf P n) ≡ false → cutAfter P (trialOf P n) ≡ true
+      → searchOf P ≡ miss P n → Ended P
 
 pub ended : (P : Problem) → Usable (P .how) → Ended P
 unfolding trial
@@ -88,11 +100,14 @@ ended P ok = go (bound (P .how)) 0 (zero-add (bound (P .how))) (reached-start P)
     spent : (n b : ℕ) → n + 0 ≡ b → n < b → ⊥
     spent n b e l = omega arith
 
-    test : (n : ℕ) → Reached P n (trialOf P n) → (Reached P (suc n) (trialOf P (suc n)) → Ended P) → (b c : Bool) → passesAt P (trialOf P n) ≡ b → cutAfter P (trialOf P n) ≡ c → Ended P
+    test : (n : ℕ) → Reached P n (trialOf P n) → (Reached P (suc n) (trialOf P (suc n)) → Ended P) → (b c : Bool)
+        → passesAt P (trialOf P n) ≡ b → cutAfter P (trialOf P n) ≡ c → Ended P
     test n r on true c p q = passed n r p (is-hit P n (trialOf P n) ok r p)
     test n r on false true p q = failed n r p q (is-miss P n (trialOf P n) ok r p q)
     test n r on false false p q = on (reached-next P n (trialOf P n) r p q)
 
     go : (f n : ℕ) → n + f ≡ bound (P .how) → Reached P n (trialOf P n) → Ended P
     go zero n e r = absurd (spent n (bound (P .how)) e (reached-under P n (trialOf P n) ok r))
-    go (suc f) n e r = test n r (go f (suc n) (suc-add n f ∙ sym (add-suc n f) ∙ e)) (passesAt P (trialOf P n)) (cutAfter P (trialOf P n)) refl refl
+    go (suc f) n e r =
+        let on = go f (suc n) (suc-add n f ∙ sym (add-suc n f) ∙ e) in
+        test n r on (passesAt P (trialOf P n)) (cutAfter P (trialOf P n)) refl refl

@@ -14,9 +14,10 @@ returns c = refused _ _ _ _ (c .before .read-rows .ensures) (c .if1 .taken)
 returns-2 : tie.Need-returns-2
 unfolding barrierDualOf
 returns-2 c =
-    let let-through = c .before .before in
-    let judged = let-through .before in
-    c .finished .ensures ∙ ap numberOf (c .before .barrier .ensures) ∙ done _ _ _ _ (judged .read-rows .ensures) (let-through .if1 .left)
+    let computed = c .before in
+    let let-through = computed .before in
+    c .finished .ensures ∙ ap numberOf (computed .barrier-dual .ensures)
+    ∙ done _ _ _ _ (let-through .before .read-rows .ensures) (let-through .if1 .left)
 
 pub barrier-dual-spec : {M : Type 1} → statement M
 barrier-dual-spec =

@@ -8,23 +8,15 @@ use Rattle.cone_entries.proofs.fresh.Tie as tie
 returns : tie.Need-returns
 unfolding freshOf
 returns c =
-    let let-through = c .before .before in
-    let at-row = let-through .before in
-    let at-cone-ok = at-row .before in
-    simp (c .fresh .ensures, c .before .empty-cone .ensures) (refused _ _ _ _ (simp (at-row .row .ensures, at-cone-ok .cone-ok .ensures)) (let-through .if1 .taken))
+    let refused-call = c .before .before in
+    simp (c .fresh .ensures, c .before .empty-cone .ensures)
+    (refused _ _ _ _ (refused-call .before .fresh-rows .ensures) (refused-call .if1 .taken))
 
 returns-2 : tie.Need-returns-2
 unfolding freshOf
-returns-2 c =
-    let at-row = c .before .before in
-    let at-cone-ok = at-row .before in
-    simp (c .fresh2 .ensures) (done _ _ _ _ (simp (at-row .row .ensures, at-cone-ok .cone-ok .ensures)) (c .before .if1 .left))
+returns-2 c = simp (c .fresh2 .ensures) (done _ _ _ _ (c .before .before .fresh-rows .ensures) (c .before .if1 .left))
 
 pub fresh-spec : {M : Type 1} → statement M
 fresh-spec =
     tie.close
-    (tie.spec
-    (λ c κs. search needs) (λ c κs. search needs) (λ c κs. search needs) (λ c κs. search needs)
-    returns
-    (λ c κs. search needs)
-    returns-2)
+    (tie.spec (λ c κs. search needs) (λ c κs. search needs) (λ c κs. search needs) returns (λ c κs. search needs) returns-2)

@@ -11,7 +11,9 @@ returns c = refused _ _ _ _ (c .before .read-rows .ensures) (c .if1 .taken)
 
 returns-2 : tie.Need-returns-2
 unfolding isPrimalFeasibleOf
-returns-2 c = simp (c .passes .ensures) (done _ _ _ _ (c .before .before .read-rows .ensures) (c .before .if1 .left))
+returns-2 c =
+    let let-through = c .before .before .before in
+    simp (c .passes .ensures) (done _ _ _ _ (let-through .before .read-rows .ensures) (let-through .if1 .left))
 
 pub is-primal-feasible-spec : {M : Type 1} → statement M
 is-primal-feasible-spec = tie.close (tie.spec (λ c κs. search needs) returns (λ c κs. search needs) returns-2)

@@ -13,7 +13,7 @@ use Rattle.cone.proofs.Lengths.{cut}
 use Rattle.cone.proofs.Settled.{refused, done}
 use Rattle.cone_entries.proofs.Lengths.{copy-length}
 use Rattle.cone_entries.specs.Rows.{copyRows}
-use Rattle.cone_entries.specs.Formulas.{rectifiedOf}
+use Rattle.cone_entries.specs.Equilibration.{rectifiedOf}
 use Rattle.cone_entries.specs.Entries.{rectifyOf}
 use borrow.Author.Needs.{needs}
 use Rattle.cone_entries.proofs.rectify.Statement.{statement}
@@ -31,13 +31,22 @@ module _ (c : Cone) (δ e : List Float) (r : ℕ) (k : r ≡ copyRows c (length 
   as-long : {sent : List Float} (d : List Float) → length d ≡ 64 → sent ≡ take (length e) d → length sent ≡ length δ
   as-long d l h = cut (length e) 64 d (let-through .1) l h ∙ let-through .0
 
-  answer : {sent d : List Float} {x : Lent ℕ} → x ≡ publishOf δ sent → sent ≡ take (length e) d → d ≡ wideOf (rectifiedOf e) → x ≡ rectifyOf c δ e
+  answer : {sent d : List Float} {x : Lent ℕ} → x ≡ publishOf δ sent → sent ≡ take (length e) d → d ≡ wideOf (rectifiedOf e)
+      → x ≡ rectifyOf c δ e
   unfolding rectifyOf
   answer {d = d} p h w =
       let n : length (rectifiedOf e) ≡ length e = same-count e in
       let f = wide-front (rectifiedOf e) (omega (arith, n, let-through .1)) in
       p ∙ ap (publishOf δ) (h ∙ ap (take (length e)) w ∙ ap (λ (m : ℕ). take m (wideOf (rectifiedOf e))) (sym n) ∙ f)
       ∙ done _ r _ (refuse δ) k z
+
+-- the rows were asked
+abbrev start : tie.After-copy-rows → tie.Start
+start c = c .before .before .before
+
+-- they let the call through, and the rectified numbers were made and lent
+abbrev made : tie.After-head → tie.After-rectified
+made c = c .before .before .before
 
 returns : tie.Need-returns
 unfolding rectifyOf
@@ -48,20 +57,21 @@ rectified-requires c κs = copy-length _ _ _ (sym (c .before .copy-rows .ensures
 
 publish-requires : tie.Need-publish-requires
 publish-requires c κs =
-    let at-if1 = c .before .before .before .before in
-    let judged = at-if1 .before in
-    let start = judged .before .before .before in
-    as-long (start .args .cone) (start .args .delta .now) (start .args .e .now) _ (judged .copy-rows .ensures) (at-if1 .if1 .left) _ (search needs) (c .head .ensures)
+    let passed = made c .before in
+    let judged = passed .before in
+    let a = start judged .args in
+    as-long (a .cone) (a .delta .now) (a .e .now) _ (judged .copy-rows .ensures) (passed .if1 .left) _ (search needs) (c .head .ensures)
 
 returns-2 : tie.Need-returns-2
 returns-2 c =
     let published = c .before .before in
-    let at-head = published .before in
-    let at-rectified = at-head .before .before .before in
-    let at-if1 = at-rectified .before in
-    let judged = at-if1 .before in
-    let start = judged .before .before .before in
-    answer (start .args .cone) (start .args .delta .now) (start .args .e .now) _ (judged .copy-rows .ensures) (at-if1 .if1 .left) (published .publish .ensures) (at-head .head .ensures) (at-rectified .rectified .ensures)
+    let lent = published .before in
+    let numbers = made lent in
+    let passed = numbers .before in
+    let judged = passed .before in
+    let a = start judged .args in
+    answer (a .cone) (a .delta .now) (a .e .now) _ (judged .copy-rows .ensures) (passed .if1 .left) (published .publish .ensures)
+    (lent .head .ensures) (numbers .rectified .ensures)
 
 pub rectify-spec : {M : Type 1} → statement M
 rectify-spec =

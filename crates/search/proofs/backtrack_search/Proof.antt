@@ -1,4 +1,5 @@
--- `backtrack_search` is the definition, trial by trial. The invariant is `Reached`: the trial α is allowed, and all before it failed. The measure is what is left of `bound`. Assumes nothing.
+-- `backtrack_search` is the definition, trial by trial. The invariant is `Reached`: the trial α is allowed, and all before it failed. The measure is
+-- what is left of `bound`. Assumes nothing.
 use mathlib.Core.Path.{_≡_, refl, sym, ap, _∙_, subst}
 use mathlib.Core.Bool.{false}
 use mathlib.Core.List.{List}
@@ -13,7 +14,8 @@ use Rattle.double.specs.Operators.{_⊗_}
 use Rattle.double.specs.Numbers.{#0}
 use Rattle.trials.specs.Trials.{bound, Usable}
 use Rattle.trials.specs.Search.{Problem, outcome, passesAt}
-use Rattle.search.specs.Passes.{passesOf, problemOf}
+use Rattle.kinds.specs.Passes.{passesIn}
+use Rattle.search.specs.Problems.{problemIn}
 use Rattle.trials.proofs.Trials.{bound-small}
 use Rattle.trials.proofs.Walk.{Reached, reached-start, reached-next, reached-under, is-hit, is-miss}
 use Rattle.search.proofs.Points.{length-point}
@@ -22,19 +24,22 @@ use Rattle.search.proofs.backtrack_search.Statement.{statement}
 use Rattle.search.proofs.backtrack_search.Tie as tie
 
 abbrev Inv-loop : tie.InvT-loop
-Inv-loop cone primal dq q how point₀ alpha₀ count₀ point alpha count = (length point ≡ length point₀) × Reached (problemOf cone primal dq q how) count alpha
+Inv-loop kind dim1 exps primal dq q how point₀ alpha₀ count₀ point alpha count =
+    (length point ≡ length point₀) × Reached (problemIn kind dim1 exps primal dq q how) count alpha
 
 abbrev μ-loop : tie.MeasureT-loop
-μ-loop cone primal dq q how point₀ alpha₀ count₀ point alpha count = bound how - count
+μ-loop kind dim1 exps primal dq q how point₀ alpha₀ count₀ point alpha count = bound how - count
 
 -- the function's problem
 abbrev problem : tie.Start Inv-loop μ-loop → Problem
-problem s = let a = s .args in problemOf (a .cone) (a .primal) (now (a .dq)) (now (a .q)) (a .how)
+problem s =
+    let a = s .args in problemIn (a .kind) (a .dim1) (now (a .exps)) (a .primal) (now (a .dq)) (now (a .q)) (a .how)
 
--- its settings are usable; that their numbers are doubles is known of every parameter, and stands in `good`: how is the fifth, start and smallest are its first and third field
+-- its settings are usable; that their numbers are doubles is known of every parameter, and stands in `good`: how is the seventh, start and smallest
+-- are its first and third field
 usable : (s : tie.Start Inv-loop μ-loop) → Usable (s .args .how)
 usable s =
-    let f = s .good .1 .1 .1 .1 .0 .1 .1 in
+    let f = s .good .1 .1 .1 .1 .1 .1 .0 .1 .1 in
     usable-of (s .args .how) (of-true _ (f .0 .1)) (of-true _ (f .1 .1 .0 .1)) (s .pre .finite-settings) (s .pre .good-settings)
 
 -- the loop's head
@@ -45,8 +50,12 @@ under : (h : tie.At-loop Inv-loop μ-loop) → h .loop .count < bound (S h .args
 under h = reached-under (problem (S h)) (h .loop .count) (h .loop .alpha) (usable (S h)) (h .loop .inv .1)
 
 -- the point was written: it is as long as it was
-point-long : (c : tie.After-put-trial Inv-loop μ-loop) → length (c .put-trial .last .1 .1 .1 .0) ≡ length (now (S (c .before .before) .args .q))
-point-long c = let h = c .before .before in let a = S h .args in ap length (c .put-trial .ensures) ∙ length-point (now (a .q)) (now (a .dq)) (h .loop .alpha) (S h .pre .dq-length)
+point-long : (c : tie.After-put-trial Inv-loop μ-loop)
+    → length (c .put-trial .last .1 .1 .1 .0) ≡ length (now (S (c .before .before) .args .q))
+point-long c =
+    let h = c .before .before in
+    let a = S h .args in
+    ap length (c .put-trial .ensures) ∙ length-point (now (a .q)) (now (a .dq)) (h .loop .alpha) (S h .pre .dq-length)
 
 -- the point was tested: by the definition's test
 abbrev written : tie.After-passes Inv-loop μ-loop → tie.After-put-trial Inv-loop μ-loop
@@ -56,7 +65,9 @@ abbrev H : tie.After-passes Inv-loop μ-loop → tie.At-loop Inv-loop μ-loop
 H c = written c .before .before
 
 tested : (c : tie.After-passes Inv-loop μ-loop) → c .passes .result ≡ passesAt (problem (S (H c))) (H c .loop .alpha)
-tested c = c .passes .ensures ∙ ap (passesOf (S (H c) .args .cone) (S (H c) .args .primal)) (written c .put-trial .ensures)
+tested c =
+    let a = S (H c) .args in
+    c .passes .ensures ∙ ap (passesIn (a .kind) (a .dim1) (now (a .exps)) (a .primal)) (written c .put-trial .ensures)
 
 -- the test failed, and the next trial is not below the smallest step, or it is
 abbrev failed-on : tie.Else2 Inv-loop μ-loop → tie.Else1 Inv-loop μ-loop
@@ -75,7 +86,10 @@ put-trial-requires : tie.Need-put-trial-requires Inv-loop μ-loop
 put-trial-requires c κs = let h = c .before in (S h .pre .dq-length, h .loop .inv .0 ∙ S h .pre .point-length)
 
 add-count : tie.Need-add-count Inv-loop μ-loop
-add-count c = let h = c .before .before .before .before in record { fits = small (h .loop .count) (bound (S h .args .how)) (under h) (bound-small (S h .args .how)) }
+add-count c =
+    let h = c .before .before .before .before in
+    let how = S h .args .how in
+    record { fits = small (h .loop .count) (bound how) (under h) (bound-small how) }
   where
     small : (n b : ℕ) → n < b → b ≤ 141312 → n + 1 < 2 ^ 32
     small n b l m = omega arith
@@ -113,7 +127,10 @@ returns c =
     ∙ sym (is-hit (problem (S h)) n a (usable (S h)) (h .loop .inv .1) (sym (tested d) ∙ c .if1 .taken))
 
 same-length-2 : tie.Need-same-length-2 Inv-loop μ-loop
-same-length-2 c = let d = c .before .before in ap length (d .store .ensures) ∙ sym (S (H (failed-last (d .before .before) .before)) .pre .point-length)
+same-length-2 c =
+    let stored = c .before .before in
+    let h = H (failed-last (stored .before .before) .before) in
+    ap length (stored .store .ensures) ∙ sym (S h .pre .point-length)
 
 returns-2 : tie.Need-returns-2 Inv-loop μ-loop
 returns-2 c =

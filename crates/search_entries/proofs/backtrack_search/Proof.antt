@@ -7,20 +7,24 @@ use borrow.Author.Needs.{needs}
 use Rattle.search_entries.proofs.backtrack_search.Statement.{statement}
 use Rattle.search_entries.proofs.backtrack_search.Tie as tie
 
+-- the search is about to begin: the rows let the call through
+abbrev let-through : tie.After-backtrack-search-arg2 → tie.Else1
+let-through c = c .before .before .before
+
 returns : tie.Need-returns
 unfolding backtrackSearchOf
 returns c = refused _ _ _ _ (c .before .search-rows .ensures) (c .if1 .taken)
 
 backtrack-search-requires : tie.Need-backtrack-search-requires
-backtrack-search-requires c κs = searchable _ _ _ _ _ (sym (c .before .before .search-rows .ensures) ∙ c .before .if1 .left)
+backtrack-search-requires c κs =
+    let passed = let-through c in searchable _ _ _ _ _ (sym (passed .before .search-rows .ensures) ∙ passed .if1 .left)
 
 returns-2 : tie.Need-returns-2
 unfolding backtrackSearchOf
 returns-2 c =
-    let at-backtrack-search = c .before .before in
-    let let-through = at-backtrack-search .before .before in
-    let judged = let-through .before in
-    ap found (at-backtrack-search .backtrack-search .ensures) ∙ done _ _ _ _ (judged .search-rows .ensures) (let-through .if1 .left)
+    let searched = c .before .before in
+    let passed = let-through (searched .before) in
+    ap found (searched .backtrack-search .ensures) ∙ done _ _ _ _ (passed .before .search-rows .ensures) (passed .if1 .left)
 
 pub backtrack-search-spec : {M : Type 1} → statement M
 backtrack-search-spec =

@@ -2,8 +2,10 @@
 use mathlib.Core.Path.{_≡_, _∙_, sym, ap}
 use Rattle.cone.proofs.Settled.{refused, done}
 use Rattle.trials.specs.Search.{Outcome}
+use Rattle.search.specs.Problems.{Searchable}
 use Rattle.search_entries.proofs.LetThrough.{both-searchable}
 use Rattle.search_entries.specs.Entries.{bothFound, stepLengthOf}
+use denote.Ref.{now}
 use borrow.Author.Needs.{needs}
 use Rattle.search_entries.proofs.step_length.Statement.{statement}
 use Rattle.search_entries.proofs.step_length.Tie as tie
@@ -11,32 +13,44 @@ use Rattle.search_entries.proofs.step_length.Tie as tie
 both : {d d' p p' : Outcome} → d ≡ d' → p ≡ p' → bothFound d p ≡ bothFound d' p'
 both {d' = d'} {p = p} e f = ap (λ (o : Outcome). bothFound o p) e ∙ ap (bothFound d') f
 
+-- the rows were asked
+abbrev start : tie.After-step-rows → tie.Start
+start c = c .before .before .before .before .before .before .before
+
+-- they let the call through, and the dual search is about to begin
+abbrev let-through : tie.After-backtrack-search-arg2 → tie.Else1
+let-through c = c .before .before .before
+
+-- it has ended, and the primal one is about to begin
+abbrev dual-ended : tie.After-backtrack-search-arg4 → tie.After-backtrack-search
+dual-ended c = c .before .before .before .before .before
+
+both-ready : (c : tie.Else1)
+    → let a = start (c .before) .args in
+    Searchable (now (a .dz)) (now (a .z)) (a .settings) (now (a .dualpoint))
+    × Searchable (now (a .ds)) (now (a .s)) (a .settings) (now (a .primalpoint))
+both-ready c =
+    let a = start (c .before) .args in
+    both-searchable _ _ _ _ _ (now (a .dualpoint)) (now (a .primalpoint)) _ (sym (c .before .step-rows .ensures) ∙ c .if1 .left)
+
 returns : tie.Need-returns
 unfolding stepLengthOf
 returns c = refused _ _ _ _ (c .before .step-rows .ensures) (c .if1 .taken)
 
 backtrack-search-requires : tie.Need-backtrack-search-requires
-backtrack-search-requires c κs =
-    let judged = c .before .before in
-    let start = judged .before .before .before .before .before .before .before in
-    both-searchable _ _ _ _ _ (start .args .dualpoint .now) (start .args .primalpoint .now) _ (sym (judged .step-rows .ensures) ∙ c .before .if1 .left) .0
+backtrack-search-requires c κs = both-ready (let-through c) .0
 
 backtrack-search-requires-2 : tie.Need-backtrack-search-requires-2
-backtrack-search-requires-2 c κs =
-    let let-through = c .before .before .before .before .before in
-    let judged = let-through .before in
-    let start = judged .before .before .before .before .before .before .before in
-    both-searchable _ _ _ _ _ (start .args .dualpoint .now) (start .args .primalpoint .now) _ (sym (judged .step-rows .ensures) ∙ let-through .if1 .left) .1
+backtrack-search-requires-2 c κs = both-ready (let-through (dual-ended c .before)) .1
 
 returns-2 : tie.Need-returns-2
 unfolding stepLengthOf
 returns-2 c =
-    let at-backtrack-search2 = c .before .before in
-    let at-backtrack-search = at-backtrack-search2 .before .before .before .before in
-    let let-through = at-backtrack-search .before .before in
-    let judged = let-through .before in
-    both (at-backtrack-search .backtrack-search .ensures) (at-backtrack-search2 .backtrack-search2 .ensures)
-    ∙ done _ _ _ _ (judged .step-rows .ensures) (let-through .if1 .left)
+    let primal = c .before .before in
+    let dual = dual-ended (primal .before) in
+    let passed = let-through (dual .before) in
+    both (dual .backtrack-search .ensures) (primal .backtrack-search2 .ensures)
+    ∙ done _ _ _ _ (passed .before .step-rows .ensures) (passed .if1 .left)
 
 pub step-length-spec : {M : Type 1} → statement M
 step-length-spec =

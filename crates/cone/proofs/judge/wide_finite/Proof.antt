@@ -1,7 +1,6 @@
 -- `wide_finite` joins the judgements of its eight parts. Assumes nothing.
-use mathlib.Core.Path.{_≡_, _∙_, ap}
-use mathlib.Core.Bool.{Bool, _&&_}
 use Rattle.cone.specs.Judges.{wideFinite}
+use Rattle.cone.proofs.Settled.{both}
 use borrow.Author.Needs.{needs}
 use Rattle.cone.proofs.judge.wide_finite.Statement.{statement}
 use Rattle.cone.proofs.judge.wide_finite.Tie as tie
@@ -27,9 +26,6 @@ at-mu c = at-grad c .before .before
 
 abbrev at-z : tie.After-is-finite2 → tie.After-head-finite
 at-z c = at-mu c .before
-
-both : {a b c d : Bool} → a ≡ b → c ≡ d → (a && c) ≡ (b && d)
-both {b = b} {c = c} e f = ap (λ (t : Bool). t && c) e ∙ ap (λ (t : Bool). b && t) f
 
 returns : tie.Need-returns
 unfolding wideFinite

@@ -1,0 +1,27 @@
+-- The faults of the code are those of the definition. Assumes nothing.
+use Rattle.cone_entries.specs.Rows.{offsetFaults}
+use borrow.Author.Needs.{needs}
+use Rattle.cone_entries.proofs.rows.offset_rows.Statement.{statement}
+use Rattle.cone_entries.proofs.rows.offset_rows.Tie as tie
+
+returns : tie.Need-returns
+unfolding offsetFaults
+returns c =
+    let second-read = c .before in
+    let first-read = second-read .before in
+    let cone-judged = first-read .before in
+    let counted = cone-judged .before in
+    simp (
+      c .first-row .ensures,
+      second-read .all-finite2 .ensures,
+      first-read .all-finite .ensures,
+      cone-judged .cone-ok .ensures,
+      counted .numel .ensures,
+    )
+
+pub offset-rows-spec : {M : Type 1} → statement M
+offset-rows-spec =
+    tie.close
+    (tie.spec
+    (λ c κs. search needs) (λ c κs. search needs) (λ c κs. search needs) (λ c κs. search needs) (λ c κs. search needs)
+    returns)

@@ -1,1 +1,1 @@
-// Any two outcomes that the contract of an export of `spindle` allows agree. No code: see proofs/.
+// Laws only: any two outcomes that the contract of an export allows are the same.

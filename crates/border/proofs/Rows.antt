@@ -5,13 +5,13 @@ use lib.Ieee.{add, sub, mul, div, neg, lt, le, eq, ne, isNan, ofBits, toBits, of
 use Rattle.arith.specs.Turns.{iter}
 use Rattle.double.specs.Numbers.{dec}
 use Rattle.double.specs.Fields.{mag, shift, normalOf}
-use Rattle.logarithm.specs.Table.{table as logarithms}
+use Rattle.logarithm_table.specs.Table.{table as logarithms}
 use Rattle.logarithm.specs.Steps.{upper, ratioOf, shortSeriesOf, mantissaOf, scaledOf, positiveOf, byFieldOf, logOf}
 use Rattle.exponential.specs.Sum.{factorial}
 use Rattle.exponential.specs.Steps.{border, gap, placeOf, raised, rest, coefficient, horner, composed, expAt, expOf}
 use Rattle.cone.specs.Fresh.{freshOf, noThree, noWide}
-use Rattle.cone.specs.Judges.{allOf, coneOk, numelOf, threeFinite, recordFinite}
-use Rattle.cone.specs.Refusals.{row, settle, lastRows}
+use Rattle.cone.specs.Judges.{allOf, coneOk, threeOk, numelOf, threeFinite, recordFinite}
+use Rattle.cone.specs.Refusals.{firstRow, settle, lastRows}
 use Rattle.expcone.specs.Feasible.{primalResidueAt, primalResidue, dualResidueAt, dualResidue, primalFeasible, dualFeasible}
 use Rattle.wright.specs.Omega.{taylorStart, startOf, refineOf, refinedAt, refinedOf, omegaOf, omegaArg, omegaAt}
 use Rattle.expcone.specs.PrimalGradient.{gradientBy, gradientPrimalOf}
@@ -19,18 +19,18 @@ use Rattle.expcone.specs.DualGradient.{gradHAt, updateDualGradHOf}
 use Rattle.powcone.specs.Feasible as powcone
 use Rattle.trials.specs.Trials.{trial}
 use Rattle.trials.specs.Search.{scan, searchOf}
-use Rattle.search.specs.Passes.{expPasses, powPasses, passesOf}
+use Rattle.kinds.specs.Passes.{expPasses, powPasses, passesIn}
+use Rattle.kinds.specs.Three as three
+use Rattle.kinds.specs.Cones as cones
 use Rattle.algebra.specs.Vectors.{movedOf}
-use Rattle.cone_entries.specs.Rows.{readRows}
-use Rattle.cone_entries.specs.Formulas.{dualThree, gradientsOf}
+use Rattle.cone_entries.specs.Rows.{readFaults}
 use Rattle.cone_entries.specs.Entries.{isPrimalFeasibleOf, isDualFeasibleOf, dualGradHOf}
-use Rattle.search_entries.specs.Rows.{searchRows}
+use Rattle.search_entries.specs.Rows.{searchFaults}
 use Rattle.search_entries.specs.Entries.{backtrackSearchOf}
-use Rattle.record_rows.specs.Rows.{gradientRows}
-use Rattle.record_formulas.specs.Formulas.{threeGradient}
+use Rattle.record_entries.specs.Rows.{gradientRows}
 use Rattle.record_entries.specs.Entries as record-entries
 use Rattle.border.specs.Rows.{Border, table}
 
 pub border-rows : Border
-unfolding table isPrimalFeasibleOf isDualFeasibleOf dualGradHOf readRows row settle lastRows coneOk numelOf allOf threeFinite recordFinite freshOf noThree noWide passesOf expPasses powPasses primalFeasible primalResidue primalResidueAt dualFeasible dualResidue dualResidueAt powcone.primalFeasible powcone.primalResidue powcone.residueAt taylorStart startOf refineOf refinedAt refinedOf omegaOf omegaArg omegaAt gradientBy gradientPrimalOf gradHAt updateDualGradHOf dualThree gradientsOf searchRows backtrackSearchOf searchOf scan trial movedOf record-entries.gradientPrimalOf record-entries.threeGradientOf gradientRows threeGradient iter dec logOf byFieldOf positiveOf normalOf scaledOf mantissaOf shortSeriesOf ratioOf upper logarithms expOf expAt composed horner coefficient factorial rest raised placeOf gap border mag shift add sub mul div neg lt le eq ne isNan toBits ofBits ofFields ofInt round size units odd span climb trailingZeros leadingZeros
+unfolding table isPrimalFeasibleOf isDualFeasibleOf dualGradHOf readFaults firstRow settle lastRows coneOk threeOk numelOf allOf threeFinite recordFinite freshOf noThree noWide passesIn expPasses powPasses primalFeasible primalResidue primalResidueAt dualFeasible dualResidue dualResidueAt powcone.primalFeasible powcone.primalResidue powcone.residueAt taylorStart startOf refineOf refinedAt refinedOf omegaOf omegaArg omegaAt gradientBy gradientPrimalOf gradHAt updateDualGradHOf three.updateDualGradHOf cones.dualGradHOf searchFaults backtrackSearchOf searchOf scan trial movedOf record-entries.gradientPrimalOf gradientRows three.gradientPrimalOf iter dec logOf byFieldOf positiveOf normalOf scaledOf mantissaOf shortSeriesOf ratioOf upper logarithms expOf expAt composed horner coefficient factorial rest raised placeOf gap border mag shift add sub mul div neg lt le eq ne isNan toBits ofBits ofFields ofInt round size units odd span climb trailingZeros leadingZeros
 border-rows = (refl, (refl, (refl, (refl, (refl, (refl, (refl, ((λ x y z. refl), ((refl, refl), ((λ x y z. refl), ((λ x y z. refl), ((λ x y z. refl), tt))))))))))))

@@ -202,7 +202,7 @@ pub fn update_scaling(record: Scaling, option: u32, given: [f64; 64]) -> bool {
     let s = numbers(ns);
     let nz = count();
     let z = numbers(nz);
-    let r = record_entries::update_scaling(record, head(&s, ns), head(&z, nz), given[0], option);
+    let r = record_update::update_scaling(record, head(&s, ns), head(&z, nz), given[0], option);
     let scaling = r.scaling;
     let answer = reply(r.code, false, [0; 2], [0.0; 3]);
     let all = same_record(scaling, cone);

@@ -1,2 +1,3 @@
--- Of what a completed update depends, and what a refused one leaves.
-pub mod Updates
+-- For each kind, what the entries answer is what record_three or record_wide does.
+pub mod ByKind
+mod Agree

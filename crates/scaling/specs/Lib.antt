@@ -1,1 +1,2 @@
 pub mod Scalings
+pub mod Updates

@@ -10,24 +10,11 @@ use Rattle.double.specs.Numbers.{#0, #1, #3, #ε, #√ε}
 use Rattle.double.specs.Sizes.{absOf}
 use Rattle.algebra.specs.Vectors.{dotOf, movedOf, normalizeOf}
 use Rattle.algebra.specs.Packed.{mulOf, quadFormOf, normFroOf, scaledOf, outerOf}
-use Rattle.expcone.specs.declared.Gradient as Exponential
-use Rattle.powcone.specs.declared.Gradient as Power
-use Rattle.expcone.specs.PrimalGradient as exponential
-use Rattle.powcone.specs.PrimalGradient as power
-use Rattle.scaling.specs.declared.Primal.{Primal}
+use Rattle.cone.specs.Judges.{dual}
+use Rattle.kinds.specs.declared.three.Gradient.{Gradient}
+use Rattle.kinds.specs.Three.{gradientPrimalOf}
 use Rattle.scaling.specs.declared.Scaled.{Scaled}
 use Rattle.scaling.specs.declared.Measures.{Measures}
-
--- what the two kinds' primal gradients have in common; the round count stays behind
-abbrev pub ofExponential : Exponential.Gradient → Primal
-ofExponential e = record { panics = e .panics; g = e .g }
-
-abbrev pub ofPower : Power.Gradient → Primal
-ofPower p = record { panics = false; g = p .g }
-
--- 003 gradient_primal of the trait. 01: "Closures become a choice by cone kind"
-unfoldable pub gradientOf : ℕ → Float → List Float → Primal
-gradientOf kind α s = cond (eqb kind 1) (ofExponential (exponential.gradientPrimalOf s)) (ofPower (power.gradientPrimalOf α s))
 
 -- 003 use_primal_dual_scaling, what it computes before it chooses: h and st are the dual Hessian and gradient, zt the primal gradient
 unfoldable pub measureOf : List Float → List Float → List Float → List Float → List Float → Measures
@@ -118,13 +105,13 @@ unfoldable pub chosenBy : List Float → List Float → List Float → List Floa
 chosenBy h st zt s z m = cond (apart m) (scaledBy (primalDualBlock h st zt s z m)) (scaledBy (scaledOf (m .mu) h))
 
 -- 003 use_primal_dual_scaling, with what the primal gradient answered
-unfoldable pub primalDualBy : List Float → List Float → List Float → List Float → Primal → Scaled
+unfoldable pub primalDualBy : List Float → List Float → List Float → List Float → Gradient → Scaled
 primalDualBy grad h s z p =
     let zt = p .g in
     let refused : Scaled = record { panics = true; hs = #0 ∷ #0 ∷ #0 ∷ #0 ∷ #0 ∷ #0 ∷ [] } in
     cond (p .panics) refused (chosenBy h grad zt s z (measureOf h grad zt s z))
 
--- 003 update_Hs. 01: "strategy 1 uses the caller's"
+-- 003 update_Hs. 01: "strategy 1 uses the caller's"; the primal gradient's round count stays behind
 unfoldable pub updateHsOf : ℕ → Float → ℕ → Float → List Float → List Float → List Float → List Float → Scaled
 updateHsOf kind α strategy μ grad h s z =
-    cond (eqb strategy 1) (scaledBy (scaledOf μ h)) (primalDualBy grad h s z (gradientOf kind α s))
+    cond (eqb strategy dual) (scaledBy (scaledOf μ h)) (primalDualBy grad h s z (gradientPrimalOf kind α s))

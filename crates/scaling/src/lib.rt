@@ -1,7 +1,8 @@
-// Both scalings of the exponential and the power cone (003), as functions on values. Blocks are packed: (0,0),(0,1),(1,1),(0,2),(1,2),(2,2).
+// Both scalings of the exponential and the power cone (003), as functions on values, and the new record that an update makes with them
+// (`update`). Blocks are packed: (0,0),(0,1),(1,1),(0,2),(1,2),(2,2).
 ghost use mathlib.Core.Path.{_≡_};
 ghost use Rattle.algebra.specs.Packed.{scaledOf};
-ghost use Rattle.scaling.specs.Scalings.{gradientOf, measureOf, apart, lessBoth, restAt, crossOf, axisOf, lessAt, frobeniusOf, sumAt, primalDualBlock, updateHsOf};
+ghost use Rattle.scaling.specs.Scalings.{measureOf, apart, lessBoth, restAt, crossOf, axisOf, lessAt, frobeniusOf, sumAt, primalDualBlock, updateHsOf};
 use algebra::sym3::mul;
 use algebra::sym3::norm_fro;
 use algebra::sym3::outer;
@@ -10,17 +11,15 @@ use algebra::sym3::scaled_from;
 use algebra::vector::dot3;
 use algebra::vector::moved3;
 use algebra::vector::normalize3;
+use cone::DUAL;
 use double::abs;
+use kinds::three::gradient_primal;
+
+pub mod update;
 
 const EPSILON: f64 = 2.220446049250313e-16;
 
 const SQRT_EPSILON: f64 = 1.4901161193847656e-8;
-
-// The primal gradient of a cone of kind 1 or 2; `panics` where the exponential cone's Wright omega has an argument below 0.
-pub struct Primal {
-    pub panics: bool,
-    pub g: [f64; 3],
-}
 
 // The scaling matrix Hs; all +0 where the primal gradient panics.
 pub struct Scaled {
@@ -39,24 +38,7 @@ pub struct Measures {
     pub de2: f64,
 }
 
-// the trait's gradient_primal becomes a choice by kind
-fn gradient_primal(kind: u32, alpha: f64, s: [f64; 3]) -> Primal
-    ensures { λ r. ⌜ r ≡ gradientOf kind alpha s ⌝ }
-{
-    if kind == 1 {
-        let e = expcone::gradient_primal(s);
-        let g = e.g;
-        return Primal {
-            panics: e.panics,
-            g,
-        };
-    }
-    let p = powcone::gradient_primal(alpha, s);
-    let g = p.g;
-    Primal { panics: false, g }
-}
-
-// Choose the scaling strategy: 1 is dual, any other primal-dual. grad and h are the dual gradient and Hessian at z.
+// Choose the scaling strategy: dual, or else primal-dual. grad and h are the dual gradient and Hessian at z.
 pub fn update_hs(
     kind: u32,
     alpha: f64,
@@ -69,7 +51,7 @@ pub fn update_hs(
 ) -> Scaled
     ensures { λ r. ⌜ r ≡ updateHsOf kind alpha strategy mu grad h s z ⌝ }
 {
-    if strategy == 1 {
+    if strategy == DUAL {
         // Dual scaling: Hs = μ*H
         let hs = use_dual_scaling(mu, h);
         return Scaled { panics: false, hs };

@@ -1,11 +1,12 @@
 // The face of the library, include/spindle.h: each export hands its arguments on.
 ghost use mathlib.Core.Path.{_≡_};
 ghost use Rattle.kernels.specs.Door.{sqrtOf, logOf, expOf, powfOf};
-ghost use Rattle.cone.specs.Fresh.{houseSettings};
+ghost use Rattle.cone.specs.Fresh.{houseSettings, houseStrategy};
 ghost use Rattle.cone.specs.Refusals.{Lent, LentTwo};
 ghost use Rattle.cone_entries.specs.Entries.{freshOf, isPrimalFeasibleOf, isDualFeasibleOf, barrierDualOf, dualGradHOf, unitInitializationOf, rectifyEquilibrationOf, affineDsOf, dsFromDzOffsetOf};
 ghost use Rattle.search_entries.specs.Entries.{backtrackSearchOf, stepLengthOf};
-ghost use Rattle.record_entries.specs.Entries.{updateScalingOf, gradientPrimalOf, barrierPrimalOf, computeBarrierOf, getHsOf, mulHsOf, higherCorrectionOf, combinedDsShiftOf};
+ghost use Rattle.record_update.specs.Entries.{updateScalingOf};
+ghost use Rattle.record_entries.specs.Entries.{gradientPrimalOf, barrierPrimalOf, computeBarrierOf, getHsOf, mulHsOf, higherCorrectionOf, combinedDsShiftOf};
 use cone::Cone;
 use cone::DualGrad;
 use cone::Found;
@@ -92,6 +93,13 @@ pub extern "C" fn spindle_house_settings(start: f64) -> Settings
 }
 
 #[no_mangle]
+pub extern "C" fn spindle_house_strategy() -> u32
+    ensures { λ r. ⌜ r ≡ houseStrategy ⌝ }
+{
+    cone::house_strategy()
+}
+
+#[no_mangle]
 pub extern "C" fn spindle_backtrack_search(
     cone: Cone,
     primal: bool,
@@ -166,7 +174,7 @@ pub extern "C" fn spindle_update_scaling(
 ) -> Updated
     ensures { λ r. ⌜ r ≡ updateScalingOf scaling (now (s .entry)) (now (z .entry)) mu strategy ⌝ }
 {
-    record_entries::update_scaling(scaling, s, z, mu, strategy)
+    record_update::update_scaling(scaling, s, z, mu, strategy)
 }
 
 #[no_mangle]

@@ -1,28 +1,19 @@
--- A call that its rows refuse leaves with their number, one that they let through with the finished barrier. Assumes nothing.
-use mathlib.Core.Path.{_∙_, sym, ap}
-use Rattle.cone.proofs.Settled.{refused, done}
-use Rattle.record_rows.proofs.LetThrough.{compute-call}
-use Rattle.record_formulas.specs.Outcomes.{judgedOf}
-use Rattle.record_entries.specs.Entries.{computeBarrierOf}
+-- By kind, the entry is record_wide's or record_three's of its name. Assumes nothing.
+use mathlib.Core.Path.{_∙_}
+use Rattle.record_entries.proofs.ByKind.{compute-barrier-3D, compute-barrier-wide}
 use borrow.Author.Needs.{needs}
 use Rattle.record_entries.proofs.compute_barrier.Statement.{statement}
 use Rattle.record_entries.proofs.compute_barrier.Tie as tie
 
 returns : tie.Need-returns
-unfolding computeBarrierOf
-returns c = refused _ _ _ _ (c .before .compute-rows .ensures) (c .if1 .taken)
-
-combined-barrier-requires : tie.Need-combined-barrier-requires
-combined-barrier-requires c κs = compute-call _ _ _ _ _ _ (sym (c .before .compute-rows .ensures) ∙ c .if1 .left)
+returns c = c .compute-barrier .ensures ∙ compute-barrier-wide _ (c .before .if1 .taken) _ _ _ _ _
 
 returns-2 : tie.Need-returns-2
-unfolding computeBarrierOf
 returns-2 c =
-    let let-through = c .before .before in
-    let judged = let-through .before in
-    c .judged .ensures ∙ ap judgedOf (c .before .combined-barrier .ensures) ∙ done _ _ _ _ (judged .compute-rows .ensures) (let-through .if1 .left)
+    let by-kind = c .before .before .before in
+    c .compute-barrier2 .ensures ∙ compute-barrier-3D _ (by-kind .if1 .left) _ _ _ _ _
 
 pub compute-barrier-spec : {M : Type 1} → statement M
 compute-barrier-spec =
     tie.close
-    (tie.spec (λ c κs. search needs) returns combined-barrier-requires (λ c κs. search needs) returns-2)
+    (tie.spec (λ c κs. search needs) returns (λ c. search needs) (λ c κs. search needs) returns-2)

@@ -26,7 +26,8 @@ returns c =
     let c3 = c4 .before .before .before in
     let c2 = c3 .before .before .before in
     let c1 = c2 .before .before .before in
-    six (c1 .less-both .ensures) (c2 .less-both2 .ensures) (c3 .less-both3 .ensures) (c4 .less-both4 .ensures) (c5 .less-both5 .ensures) (c .less-both6 .ensures)
+    six (c1 .less-both .ensures) (c2 .less-both2 .ensures) (c3 .less-both3 .ensures)
+    (c4 .less-both4 .ensures) (c5 .less-both5 .ensures) (c .less-both6 .ensures)
 
 pub rest-spec : {M : Type 1} → statement M
 rest-spec =

@@ -1,0 +1,112 @@
+-- By kind, an entry's definition is that of record_three or of record_wide: judges, lengths and formulas are those of the kind. Assumes
+-- nothing.
+use Prim.Native.Nat.{ℕ}
+use mathlib.Core.Path.{_≡_, refl}
+use mathlib.Core.Bool.{Bool, true, false, _||_, _&&_, not}
+use mathlib.Core.List.{List}
+use lib.Dec.{eqb}
+use lib.Ieee.{Float}
+use lib.Ieee.Scale.{finite}
+use lib.ListN.{length}
+use borrow.Author.Tests.{eq-eqb, ne-eqb, eqb-true, eqb-false}
+use Rattle.cone.specs.declared.Scaling.{Scaling}
+use Rattle.cone.specs.Judges.{coneOk, threeOk, allFinite}
+use Rattle.cone.specs.Refusals.{firstRow, otherLength, judgedOf}
+use Rattle.cone.proofs.Lengths.{cone-wide, cone-3D, record-wide, record-3D, numel-wide, numel-3D, block-wide, block-3D}
+use Rattle.kinds.specs.Cones.{alphaOf}
+use Rattle.record_three.specs.Entries as three
+use Rattle.record_wide.specs.Entries as wide
+use Rattle.record_entries.specs.Rows.{gradientRows, barrierRows, computeRows, blockRows, productRows, correctionRows}
+use Rattle.record_entries.specs.Entries.{gradientPrimalOf, primalBarrierOf, barrierPrimalOf, combinedBarrierOf, computeBarrierOf, getHsOf, mulHsOf, higherCorrectionOf, combinedDsShiftOf}
+
+-- ---- kinds 1 and 2
+
+module _ (r : Scaling) (k : r .cone .kind ≡ 3 → ⊥) where
+  pub gradient-primal-3D : (g s : List Float) → three.gradientPrimalOf (r .cone .kind) (alphaOf (r .cone)) (r .three) g s ≡ gradientPrimalOf r g s
+  unfolding three.gradientPrimalOf three.rowsOf gradientPrimalOf gradientRows
+  gradient-primal-3D g s = simp (ne-eqb _ _ k, cone-3D (r .cone) k, numel-3D (r .cone) k, record-3D r k)
+
+  pub barrier-primal-3D : (s : List Float) → three.barrierPrimalOf (r .cone .kind) (alphaOf (r .cone)) (r .three) s ≡ barrierPrimalOf r s
+  unfolding three.barrierPrimalOf three.rowsOf barrierPrimalOf primalBarrierOf barrierRows
+  barrier-primal-3D s = simp (ne-eqb _ _ k, cone-3D (r .cone) k, numel-3D (r .cone) k, record-3D r k)
+
+  pub compute-barrier-3D
+      : (z s dz ds : List Float) (step : Float)
+      → three.computeBarrierOf (r .cone .kind) (alphaOf (r .cone)) (r .three) z s dz ds step ≡ computeBarrierOf r z s dz ds step
+  unfolding three.computeBarrierOf three.rowsOf computeBarrierOf combinedBarrierOf computeRows
+  compute-barrier-3D z s dz ds step = simp (ne-eqb _ _ k, cone-3D (r .cone) k, numel-3D (r .cone) k, record-3D r k)
+
+  pub get-hs-3D : (block : List Float) → three.getHsOf (r .cone .kind) (alphaOf (r .cone)) (r .scaled) (r .three) block ≡ getHsOf r block
+  unfolding three.getHsOf three.rowsOf getHsOf blockRows
+  get-hs-3D block = simp (ne-eqb _ _ k, cone-3D (r .cone) k, block-3D (r .cone) k, record-3D r k)
+
+  pub mul-hs-3D : (y x : List Float) → three.mulHsOf (r .cone .kind) (alphaOf (r .cone)) (r .scaled) (r .three) y x ≡ mulHsOf r y x
+  unfolding three.mulHsOf three.rowsOf mulHsOf productRows
+  mul-hs-3D y x = simp (ne-eqb _ _ k, cone-3D (r .cone) k, numel-3D (r .cone) k, record-3D r k)
+
+-- ---- kind 3
+
+module _ (r : Scaling) (k : r .cone .kind ≡ 3) where
+  pub gradient-primal-wide : (g s : List Float) → wide.gradientPrimalOf r g s ≡ gradientPrimalOf r g s
+  unfolding wide.gradientPrimalOf wide.rowsIn gradientPrimalOf gradientRows
+  gradient-primal-wide g s = simp (eq-eqb _ _ k, cone-wide (r .cone) k, numel-wide (r .cone) k, record-wide r k)
+
+  pub barrier-primal-wide : (s : List Float) → wide.barrierPrimalOf r s ≡ barrierPrimalOf r s
+  unfolding wide.barrierPrimalOf wide.rowsIn barrierPrimalOf primalBarrierOf barrierRows judgedOf
+  barrier-primal-wide s = simp (eq-eqb _ _ k, cone-wide (r .cone) k, numel-wide (r .cone) k, record-wide r k)
+
+  pub compute-barrier-wide : (z s dz ds : List Float) (step : Float) → wide.computeBarrierOf r z s dz ds step ≡ computeBarrierOf r z s dz ds step
+  unfolding wide.computeBarrierOf wide.rowsIn computeBarrierOf combinedBarrierOf computeRows judgedOf
+  compute-barrier-wide z s dz ds step = simp (eq-eqb _ _ k, cone-wide (r .cone) k, numel-wide (r .cone) k, record-wide r k)
+
+  pub get-hs-wide : (block : List Float) → wide.getHsOf r block ≡ getHsOf r block
+  unfolding wide.getHsOf wide.rowsIn getHsOf blockRows
+  get-hs-wide block = simp (eq-eqb _ _ k, cone-wide (r .cone) k, block-wide (r .cone) k, record-wide r k)
+
+  pub mul-hs-wide : (y x : List Float) → wide.mulHsOf r y x ≡ mulHsOf r y x
+  unfolding wide.mulHsOf wide.rowsIn mulHsOf productRows
+  mul-hs-wide y x = simp (eq-eqb _ _ k, cone-wide (r .cone) k, numel-wide (r .cone) k, record-wide r k)
+
+-- ---- kinds 1 and 2 alone: for kind 3 both sides give 1
+
+or-true : (b : Bool) → (b || true) ≡ true
+or-true true = refl
+or-true false = refl
+
+or-false : (b : Bool) → (b || false) ≡ b
+or-false true = refl
+or-false false = refl
+
+module _ (r : Scaling) where
+  abbrev rows : Bool → Bool → ℕ
+  rows lengths numbers = three.rowsOf (r .cone .kind) (alphaOf (r .cone)) (r .three) lengths (not (r .scaled)) numbers
+
+  module _ (out : ℕ) (a b : List Float) (numbers : Bool) where
+    abbrev lengths : Bool
+    lengths = not (eqb out 3) || otherLength 3 a || otherLength 3 b
+
+    rows-wide : r .cone .kind ≡ 3 → rows lengths numbers ≡ correctionRows r out a b numbers
+    unfolding three.rowsOf correctionRows firstRow threeOk
+    rows-wide k = simp (k, or-true (not (coneOk (r .cone))))
+
+    rows-3D : (r .cone .kind ≡ 3 → ⊥) → rows lengths numbers ≡ correctionRows r out a b numbers
+    unfolding three.rowsOf correctionRows
+    rows-3D k = simp (ne-eqb _ _ k, cone-3D (r .cone) k, or-false (not (threeOk (r .cone .kind) (alphaOf (r .cone)))), record-3D r k)
+
+    rows-of : (is3 : Bool) → eqb (r .cone .kind) 3 ≡ is3 → rows lengths numbers ≡ correctionRows r out a b numbers
+    rows-of true e = rows-wide (eqb-true _ _ e)
+    rows-of false e = rows-3D (eqb-false _ _ e)
+
+  pub higher-correction-3D
+      : (η ds v : List Float)
+      → three.higherCorrectionOf (r .cone .kind) (alphaOf (r .cone)) (r .scaled) (r .three) η ds v ≡ higherCorrectionOf r η ds v
+  unfolding three.higherCorrectionOf higherCorrectionOf
+  higher-correction-3D η ds v = simp (rows-of (length η) ds v (allFinite ds && allFinite v) (eqb (r .cone .kind) 3) refl)
+
+  pub combined-ds-shift-3D
+      : (out stepz steps : List Float) (σμ : Float)
+      → three.combinedDsShiftOf (r .cone .kind) (alphaOf (r .cone)) (r .scaled) (r .three) out stepz steps σμ
+      ≡ combinedDsShiftOf r out stepz steps σμ
+  unfolding three.combinedDsShiftOf combinedDsShiftOf
+  combined-ds-shift-3D out stepz steps σμ =
+      simp (rows-of (length out) stepz steps (allFinite stepz && allFinite steps && finite σμ) (eqb (r .cone .kind) 3) refl)

@@ -1,0 +1,86 @@
+-- The rows of the table that judge each entry over a record. Definitions only.
+-- 01: "Every argument of a call is judged, read or not, a passed record's numbers under 3 included."
+use Prim.Native.Nat.{ℕ}
+use mathlib.Core.Bool.{Bool, false, _||_, _&&_, not}
+use mathlib.Core.List.{List}
+use lib.Dec.{eqb}
+use lib.Ieee.{Float}
+use lib.Ieee.Scale.{finite}
+use Rattle.cone.specs.declared.Scaling.{Scaling}
+use Rattle.cone.specs.Judges.{numelOf, blockOf, allFinite, sidesFinite, recordFinite}
+use Rattle.cone.specs.Refusals.{firstRow, badCone, badCone3D, otherLength, neverScaled}
+
+-- A slice that is only written is given by its length.
+
+-- 5, "and the generalized cone's primal gradient, primal barrier and combined barrier (`compute_barrier`)": of kind 3 alone
+abbrev pub unscaledWide : Scaling → Bool
+unscaledWide r = eqb (r .cone .kind) 3 && neverScaled r
+
+-- gradient_primal
+unfoldable pub gradientRows : Scaling → ℕ → List Float → ℕ
+gradientRows r g s =
+    let n = numelOf (r .cone) in
+    firstRow (record {
+      cone = badCone (r .cone);
+      length = not (eqb g n) || otherLength n s;
+      number = not (allFinite s && recordFinite r);
+      setting = false;
+      unscaled = unscaledWide r;
+    })
+
+-- barrier_primal
+unfoldable pub barrierRows : Scaling → List Float → ℕ
+barrierRows r s =
+    firstRow (record {
+      cone = badCone (r .cone);
+      length = otherLength (numelOf (r .cone)) s;
+      number = not (allFinite s && recordFinite r);
+      setting = false;
+      unscaled = unscaledWide r;
+    })
+
+-- compute_barrier; the step, the Rust's α, may be any finite number
+unfoldable pub computeRows : Scaling → List Float → List Float → List Float → List Float → Float → ℕ
+computeRows r z s dz ds step =
+    let n = numelOf (r .cone) in
+    firstRow (record {
+      cone = badCone (r .cone);
+      length = otherLength n z || otherLength n s || otherLength n dz || otherLength n ds;
+      number = not (sidesFinite dz ds z s && finite step && recordFinite r);
+      setting = false;
+      unscaled = unscaledWide r;
+    })
+
+-- get_Hs
+unfoldable pub blockRows : Scaling → ℕ → ℕ
+blockRows r block =
+    firstRow (record {
+      cone = badCone (r .cone);
+      length = not (eqb block (blockOf (r .cone)));
+      number = not (recordFinite r);
+      setting = false;
+      unscaled = neverScaled r;
+    })
+
+-- mul_Hs
+unfoldable pub productRows : Scaling → ℕ → List Float → ℕ
+productRows r y x =
+    let n = numelOf (r .cone) in
+    firstRow (record {
+      cone = badCone (r .cone);
+      length = not (eqb y n) || otherLength n x;
+      number = not (allFinite x && recordFinite r);
+      setting = false;
+      unscaled = neverScaled r;
+    })
+
+-- higher_correction and combined_ds_shift; `numbers` says whether the call's own are finite
+unfoldable pub correctionRows : Scaling → ℕ → List Float → List Float → Bool → ℕ
+correctionRows r out a b numbers =
+    firstRow (record {
+      cone = badCone3D (r .cone);
+      length = not (eqb out 3) || otherLength 3 a || otherLength 3 b;
+      number = not (numbers && recordFinite r);
+      setting = false;
+      unscaled = neverScaled r;
+    })

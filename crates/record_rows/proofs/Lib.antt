@@ -1,2 +1,0 @@
--- What is known in a call that its rows let through.
-pub mod LetThrough

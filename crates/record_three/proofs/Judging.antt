@@ -1,0 +1,14 @@
+-- What a call has that its rows let through. Assumes nothing.
+use mathlib.Core.Path.{_≡_, _∙_, sym}
+use mathlib.Core.Bool.{Bool, false}
+use Prim.Native.Nat.{ℕ}
+use lib.Ieee.{Float}
+use Rattle.cone.specs.declared.Three.{Three}
+use Rattle.cone.proofs.Settled.{no-fault}
+use Rattle.record_three.specs.Entries.{rowsOf}
+
+pub lengths-right : (kind : ℕ) (α : Float) (t : Three) (lengths unscaled finite : Bool) {k : ℕ} → k ≡ rowsOf kind α t lengths unscaled finite
+    → k ≡ 0
+    → lengths ≡ false
+unfolding rowsOf
+lengths-right kind α t lengths unscaled finite e z = no-fault _ (sym e ∙ z) .length

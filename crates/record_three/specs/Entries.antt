@@ -1,0 +1,88 @@
+-- What each entry over a record answers and leaves for kinds 1 and 2, by what it takes of the record. Definitions only; that they are the
+-- entries' own for these kinds is proved in record_entries.
+use Prim.Native.Nat.{ℕ}
+use mathlib.Core.Bool.{Bool, true, false, cond, not, _||_, _&&_}
+use mathlib.Core.List.{List}
+use lib.Ieee.{Float}
+use lib.Ieee.Scale.{finite}
+use Rattle.algebra.specs.Packed.{mulOf}
+use Rattle.cone.specs.declared.Three.{Three}
+use Rattle.cone.specs.declared.Number.{Number}
+use Rattle.cone.specs.declared.Rounds.{Rounds}
+use Rattle.cone.specs.Judges.{threeOk, threeFinite, allFinite, sidesFinite}
+use Rattle.cone.specs.Points.{threeOf}
+use Rattle.cone.specs.Refusals.{firstRow, otherLength, Lent, settle, refuse, refuseNumber, refuseRounds, publishOf, judgedOf, withRounds}
+use Rattle.kinds.specs.declared.three.Gradient.{Gradient}
+use Rattle.kinds.specs.declared.three.Valued.{Valued}
+use Rattle.kinds.specs.Three as three
+
+-- The table, by what is wrong with the call's lengths and its record, and whether its own numbers are finite.
+unfoldable pub rowsOf : ℕ → Float → Three → Bool → Bool → Bool → ℕ
+rowsOf kind α t lengths unscaled finite =
+    firstRow (record {
+      cone = not (threeOk kind α);
+      length = lengths;
+      number = not (finite && threeFinite t);
+      setting = false;
+      unscaled = unscaled;
+    })
+
+-- ---- the primal side
+
+-- 6: "Wright omega argument below 0" is kind 1's alone
+abbrev pub published : List Float → Gradient → Lent Rounds
+published g a = cond (a .panics) (refuseRounds g 6) (withRounds (a .rounds) (publishOf g (a .g)))
+
+abbrev pub judged : Valued → Number
+judged v = judgedOf (v .panics) (v .value)
+
+-- 000, 001 gradient_primal
+unfoldable pub gradientPrimalOf : ℕ → Float → Three → List Float → List Float → Lent Rounds
+gradientPrimalOf kind α t g s =
+    settle (rowsOf kind α t (otherLength 3 g || otherLength 3 s) false (allFinite s))
+    (published g (three.gradientPrimalOf kind α (threeOf s)))
+    (refuseRounds g)
+
+-- 000, 001 barrier_primal
+unfoldable pub barrierPrimalOf : ℕ → Float → Three → List Float → Number
+barrierPrimalOf kind α t s =
+    settle (rowsOf kind α t (otherLength 3 s) false (allFinite s)) (judged (three.barrierPrimalOf kind α (threeOf s))) refuseNumber
+
+-- 000, 001 compute_barrier; the step is the Rust's α
+unfoldable pub computeBarrierOf : ℕ → Float → Three → List Float → List Float → List Float → List Float → Float → Number
+computeBarrierOf kind α t z s dz ds step =
+    let lengths = otherLength 3 z || otherLength 3 s || otherLength 3 dz || otherLength 3 ds in
+    settle (rowsOf kind α t lengths false (sidesFinite dz ds z s && finite step))
+    (judged (three.computeBarrierOf kind α (threeOf z) (threeOf s) (threeOf dz) (threeOf ds) step))
+    refuseNumber
+
+-- ---- the scaling matrix
+
+-- 000, 001 get_Hs
+unfoldable pub getHsOf : ℕ → Float → Bool → Three → List Float → Lent ℕ
+getHsOf kind α scaled t block = settle (rowsOf kind α t (otherLength 6 block) (not scaled) true) (publishOf block (t .hs)) (refuse block)
+
+-- 000, 001 mul_Hs
+unfoldable pub mulHsOf : ℕ → Float → Bool → Three → List Float → List Float → Lent ℕ
+mulHsOf kind α scaled t y x =
+    settle (rowsOf kind α t (otherLength 3 y || otherLength 3 x) (not scaled) (allFinite x))
+    (publishOf y (mulOf (t .hs) (threeOf x)))
+    (refuse y)
+
+-- ---- kinds 1 and 2 alone: another kind is no cone here
+
+-- 000, 001 higher_correction
+unfoldable pub higherCorrectionOf : ℕ → Float → Bool → Three → List Float → List Float → List Float → Lent ℕ
+higherCorrectionOf kind α scaled t η ds v =
+    let lengths = otherLength 3 η || otherLength 3 ds || otherLength 3 v in
+    settle (rowsOf kind α t lengths (not scaled) (allFinite ds && allFinite v))
+    (publishOf η (three.higherCorrectionOf kind α (t .hdual) (t .z) (threeOf ds) (threeOf v)))
+    (refuse η)
+
+-- 000, 001 combined_ds_shift
+unfoldable pub combinedDsShiftOf : ℕ → Float → Bool → Three → List Float → List Float → List Float → Float → Lent ℕ
+combinedDsShiftOf kind α scaled t out stepz steps σμ =
+    let lengths = otherLength 3 out || otherLength 3 stepz || otherLength 3 steps in
+    settle (rowsOf kind α t lengths (not scaled) (allFinite stepz && allFinite steps && finite σμ))
+    (publishOf out (three.combinedDsShiftOf kind α (t .hdual) (t .z) (t .grad) (threeOf stepz) (threeOf steps) σμ))
+    (refuse out)

@@ -1,0 +1,192 @@
+// The entries over a record for kinds 1 and 2, which take of the record the cone's kind and exponent, whether it was ever scaled, and the
+// numbers of these kinds: so none copies the rest. Each judges its arguments by the table of document 01, computes into locals, and only
+// then writes.
+ghost use mathlib.Core.Path.{_≡_};
+ghost use Rattle.cone.specs.Refusals.{Lent, judgedOf};
+ghost use Rattle.record_three.specs.Entries.{rowsOf, gradientPrimalOf, barrierPrimalOf, computeBarrierOf, getHsOf, mulHsOf, higherCorrectionOf, combinedDsShiftOf};
+use algebra::sym3::mul;
+use cone::Number;
+use cone::Rounds;
+use cone::Three;
+use cone::judge::all_finite;
+use cone::judge::sides_finite;
+use cone::judge::three_finite;
+use cone::judge::three_ok;
+use cone::refusal::Faults;
+use cone::refusal::counted;
+use cone::refusal::finished;
+use cone::refusal::first_row;
+use cone::refusal::publish;
+use cone::three_of;
+use double::is_finite;
+use kinds::three;
+use kinds::three::Valued;
+
+// The table, by what is wrong with the call's lengths and its record, and whether its own numbers are finite.
+fn rows(kind: u32, alpha: f64, three: Three, lengths: bool, unscaled: bool, finite: bool) -> u32
+    ensures { λ r. ⌜ r ≡ rowsOf kind alpha three lengths unscaled finite ⌝ }
+{
+    first_row(Faults {
+        cone: !three_ok(kind, alpha),
+        length: lengths,
+        number: !(finite & three_finite(three)),
+        setting: false,
+        unscaled,
+    })
+}
+
+// ---- the primal side
+
+pub fn gradient_primal(kind: u32, alpha: f64, three: Three, g: &mut [f64], s: &[f64]) -> Rounds
+    ensures { λ r. ⌜ record { answer = r; slice = now (g .exit) } ≡ gradientPrimalOf kind alpha three (now (g .entry)) (now (s .entry)) ⌝ }
+{
+    let lengths = (g.len() != 3) | (s.len() != 3);
+    let code = rows(kind, alpha, three, lengths, false, all_finite(s));
+    if code != 0 {
+        return Rounds { code, rounds: 0 };
+    }
+    let a = three::gradient_primal(kind, alpha, three_of(s));
+    if a.panics {
+        return Rounds { code: 6, rounds: 0 };
+    }
+    let published = publish(g, &a.g);
+    counted(published, a.rounds)
+}
+
+fn judged(v: Valued) -> Number
+    ensures { λ r. ⌜ r ≡ judgedOf (v .panics) (v .value) ⌝ }
+{
+    if v.panics {
+        return Number {
+            code: 6,
+            value: 0.0,
+        };
+    }
+    finished(v.value)
+}
+
+pub fn barrier_primal(kind: u32, alpha: f64, three: Three, s: &[f64]) -> Number
+    ensures { λ r. ⌜ r ≡ barrierPrimalOf kind alpha three (now (s .entry)) ⌝ }
+{
+    let lengths = s.len() != 3;
+    let code = rows(kind, alpha, three, lengths, false, all_finite(s));
+    if code != 0 {
+        return Number { code, value: 0.0 };
+    }
+    judged(three::barrier_primal(kind, alpha, three_of(s)))
+}
+
+// step is the Rust's α; it may be any finite number.
+pub fn compute_barrier(
+    kind: u32,
+    alpha: f64,
+    three: Three,
+    z: &[f64],
+    s: &[f64],
+    dz: &[f64],
+    ds: &[f64],
+    step: f64,
+) -> Number
+    ensures { λ r. ⌜ r ≡ computeBarrierOf kind alpha three (now (z .entry)) (now (s .entry)) (now (dz .entry)) (now (ds .entry)) step ⌝ }
+{
+    let lengths = (z.len() != 3) | (s.len() != 3) | (dz.len() != 3) | (ds.len() != 3);
+    let finite = sides_finite(dz, ds, z, s) & is_finite(step);
+    let code = rows(kind, alpha, three, lengths, false, finite);
+    if code != 0 {
+        return Number { code, value: 0.0 };
+    }
+    judged(three::compute_barrier(
+        kind,
+        alpha,
+        three_of(z),
+        three_of(s),
+        three_of(dz),
+        three_of(ds),
+        step,
+    ))
+}
+
+// ---- the scaling matrix
+
+pub fn get_hs(kind: u32, alpha: f64, scaled: bool, three: Three, block: &mut [f64]) -> u32
+    ensures { λ r. ⌜ record { answer = r; slice = now (block .exit) } ≡ getHsOf kind alpha scaled three (now (block .entry)) ⌝ }
+{
+    let code = rows(kind, alpha, three, block.len() != 6, !scaled, true);
+    if code != 0 {
+        return code;
+    }
+    // Hs data is already in packed triu form, so just copy
+    publish(block, &three.hs)
+}
+
+pub fn mul_hs(kind: u32, alpha: f64, scaled: bool, three: Three, y: &mut [f64], x: &[f64]) -> u32
+    ensures { λ r. ⌜ record { answer = r; slice = now (y .exit) } ≡ mulHsOf kind alpha scaled three (now (y .entry)) (now (x .entry)) ⌝ }
+{
+    let lengths = (y.len() != 3) | (x.len() != 3);
+    let code = rows(kind, alpha, three, lengths, !scaled, all_finite(x));
+    if code != 0 {
+        return code;
+    }
+    let hs = three.hs;
+    let product = mul(hs, three_of(x));
+    publish(y, &product)
+}
+
+// ---- kinds 1 and 2 alone: another kind is no cone here
+
+pub fn higher_correction(
+    kind: u32,
+    alpha: f64,
+    scaled: bool,
+    three: Three,
+    eta: &mut [f64],
+    ds: &[f64],
+    v: &[f64],
+) -> u32
+    ensures { λ r. ⌜ record { answer = r; slice = now (eta .exit) } ≡ higherCorrectionOf kind alpha scaled three (now (eta .entry)) (now (ds .entry)) (now (v .entry)) ⌝ }
+{
+    let lengths = (eta.len() != 3) | (ds.len() != 3) | (v.len() != 3);
+    let finite = all_finite(ds) & all_finite(v);
+    let code = rows(kind, alpha, three, lengths, !scaled, finite);
+    if code != 0 {
+        return code;
+    }
+    let h = three.hdual;
+    let z = three.z;
+    let ans = three::higher_correction(kind, alpha, h, z, three_of(ds), three_of(v));
+    publish(eta, &ans)
+}
+
+pub fn combined_ds_shift(
+    kind: u32,
+    alpha: f64,
+    scaled: bool,
+    three: Three,
+    shifted: &mut [f64],
+    stepz: &[f64],
+    steps: &[f64],
+    sigmamu: f64,
+) -> u32
+    ensures { λ r. ⌜ record { answer = r; slice = now (shifted .exit) } ≡ combinedDsShiftOf kind alpha scaled three (now (shifted .entry)) (now (stepz .entry)) (now (steps .entry)) sigmamu ⌝ }
+{
+    let lengths = (shifted.len() != 3) | (stepz.len() != 3) | (steps.len() != 3);
+    let finite = all_finite(stepz) & all_finite(steps) & is_finite(sigmamu);
+    let code = rows(kind, alpha, three, lengths, !scaled, finite);
+    if code != 0 {
+        return code;
+    }
+    let h = three.hdual;
+    let z = three.z;
+    let grad = three.grad;
+    let ans = three::combined_ds_shift(
+        kind,
+        alpha,
+        h,
+        z,
+        grad,
+        three_of(stepz),
+        three_of(steps),
+        sigmamu,
+    );
+    publish(shifted, &ans)
+}

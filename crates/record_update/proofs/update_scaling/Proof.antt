@@ -1,0 +1,46 @@
+-- A call that its rows refuse leaves with their number and the old record, also after the formulas; any other with the new record.
+-- Assumes nothing.
+use mathlib.Core.Path.{_∙_, sym, ap}
+use Rattle.cone.specs.Refusals.{lastRows}
+use Rattle.cone.proofs.Settled.{refused, done}
+use Rattle.record_update.specs.Entries.{completed, updateScalingOf}
+use Rattle.record_update.proofs.LetThrough.{update-call}
+use borrow.Author.Needs.{needs}
+use Rattle.record_update.proofs.update_scaling.Statement.{statement}
+use Rattle.record_update.proofs.update_scaling.Tie as tie
+
+returns : tie.Need-returns
+unfolding updateScalingOf
+returns c = refused _ _ _ _ (c .before .update-rows .ensures) (c .if1 .taken)
+
+new-record-requires : tie.Need-new-record-requires
+new-record-requires c κs = update-call _ _ _ _ _ (sym (c .before .update-rows .ensures) ∙ c .if1 .left)
+
+returns-2 : tie.Need-returns-2
+unfolding updateScalingOf
+returns-2 c =
+    let made = c .before .before in
+    let past = made .before in
+    refused _ _ _ _ (c .before .last-rows .ensures ∙ ap lastRows (made .new-record .ensures)) (c .if2 .taken)
+    ∙ done _ _ _ _ (past .before .update-rows .ensures) (past .if1 .left)
+
+returns-3 : tie.Need-returns-3
+unfolding updateScalingOf
+returns-3 c =
+    let judged = c .before .before in
+    let made = judged .before in
+    let past = made .before in
+    ap completed (made .new-record .ensures)
+    ∙ done _ _ _ _ (judged .last-rows .ensures ∙ ap lastRows (made .new-record .ensures)) (c .before .if2 .left)
+    ∙ done _ _ _ _ (past .before .update-rows .ensures) (past .if1 .left)
+
+pub update-scaling-spec : {M : Type 1} → statement M
+update-scaling-spec =
+    tie.close
+    (tie.spec
+    (λ c κs. search needs)
+    returns
+    new-record-requires
+    (λ c κs. search needs)
+    returns-2
+    returns-3)

@@ -1,0 +1,41 @@
+-- A call that its rows refuse leaves with their number, one that they let through with the finished barrier. Assumes nothing.
+use mathlib.Core.Path.{_∙_, ap}
+use Rattle.cone.specs.Refusals.{numberOf}
+use Rattle.cone.proofs.Settled.{refused, through}
+use Rattle.record_wide.specs.Entries.{rowsIn, barrierPrimalOf}
+use Rattle.record_wide.proofs.Judging.{small-dims}
+use borrow.Author.Needs.{needs}
+use Rattle.record_wide.proofs.barrier_primal.Statement.{statement}
+use Rattle.record_wide.proofs.barrier_primal.Tie as tie
+
+-- the call's own numbers, which are judged before the record is lent to the rows
+abbrev numbers : tie.After-rows → tie.After-all-finite
+numbers c = c .before .before .before .before .before .before .before .before .before
+
+returns : tie.Need-returns
+unfolding barrierPrimalOf
+returns c = refused _ _ _ _ (c .before .rows .ensures ∙ ap (rowsIn _ _ _ _ _ _) (numbers (c .before) .all-finite .ensures)) (c .if1 .taken)
+
+barrier-primal-requires : tie.Need-barrier-primal-requires
+barrier-primal-requires c κs =
+    let past = c .before .before .before in
+    small-dims _ _ _ _ _ _ _ (past .before .rows .ensures) (past .if1 .left)
+
+returns-2 : tie.Need-returns-2
+unfolding barrierPrimalOf
+returns-2 c =
+    let computed = c .before in
+    let past = computed .before .before .before .before in
+    let judged = past .before in
+    through _ _ _ _ (judged .rows .ensures ∙ ap (rowsIn _ _ _ _ _ _) (numbers judged .all-finite .ensures)) (past .if1 .left)
+    (c .finished .ensures ∙ ap numberOf (computed .barrier-primal .ensures))
+
+pub barrier-primal-spec : {M : Type 1} → statement M
+barrier-primal-spec =
+    tie.close
+    (tie.spec
+    (λ c. search needs) (λ c. search needs) (λ c. search needs) (λ c κs. search needs) (λ c κs. search needs)
+    returns
+    barrier-primal-requires
+    (λ c κs. search needs)
+    returns-2)

@@ -1,0 +1,70 @@
+-- A call that its rows refuse leaves with their number, one that they let through publishes the gradient with its count. Assumes nothing.
+use mathlib.Core.Path.{_≡_, _∙_, ap}
+use mathlib.Core.List.{List}
+use Prim.Native.Nat.{ℕ, _≤_}
+use native.Mathlib.Omega.{arith}
+use lib.Ieee.{Float}
+use lib.ListN.{length, take}
+use Rattle.cone.specs.declared.Rounds.{Rounds}
+use Rattle.cone.specs.Refusals.{publishOf, countedOf, withRounds}
+use Rattle.cone.proofs.Settled.{refused, through}
+use Rattle.cone.proofs.Lengths.{same-2}
+use Rattle.genpowcone.specs.declared.Gradient.{Gradient}
+use Rattle.record_wide.specs.Entries.{dims, rowsIn, gradientPrimalOf}
+use Rattle.record_wide.proofs.Judging.{lengths-right, small-dims}
+use borrow.Author.Needs.{needs}
+use Rattle.record_wide.proofs.gradient_primal.Statement.{statement}
+use Rattle.record_wide.proofs.gradient_primal.Tie as tie
+
+went-out : (old : List Float) (a : Gradient) {k : ℕ} {out : List Float} {t : Rounds}
+    → record { answer = k; slice = out } ≡ publishOf old (take (length old) (a .g))
+    → t ≡ countedOf k (a .rounds)
+    → record { answer = t; slice = out } ≡ withRounds (a .rounds) (publishOf old (take (length old) (a .g)))
+went-out old a {out = out} q t = ap (λ (n : Rounds). record { answer = n; slice = out }) t ∙ ap (withRounds (a .rounds)) q
+
+-- the call's own numbers, which are judged before the record is lent to the rows
+abbrev numbers : tie.After-rows → tie.After-all-finite
+numbers c = c .before .before .before .before .before .before .before .before .before
+
+abbrev start : tie.After-rows → tie.Start
+start c = numbers c .before .before .before
+
+small : (c : tie.Else1) → (let r = start (c .before) .args .t1 in (r .cone .dim1 ≤ 32) × (r .cone .dim2 ≤ 32))
+small c = small-dims _ _ _ _ _ _ _ (c .before .rows .ensures) (c .if1 .left)
+
+returns : tie.Need-returns
+unfolding gradientPrimalOf
+returns c = refused _ _ _ _ (c .before .rows .ensures ∙ ap (rowsIn _ _ _ _ _ _) (numbers (c .before) .all-finite .ensures)) (c .if1 .taken)
+
+gradient-primal-requires : tie.Need-gradient-primal-requires
+gradient-primal-requires c κs = small (c .before .before .before)
+
+publish-wide-requires : tie.Need-publish-wide-requires
+publish-wide-requires c κs =
+    let computed = c .before .before .before in
+    let past = computed .before .before .before .before in
+    let a = start (past .before) .args in
+    let right = lengths-right _ _ _ _ _ _ _ (past .before .rows .ensures) (past .if1 .left) in
+    omega (arith, same-2 (dims (a .t1)) (length (a .g .now)) (length (a .s .now)) right .0, small past .0, small past .1)
+
+returns-2 : tie.Need-returns-2
+unfolding gradientPrimalOf
+returns-2 c =
+    let published = c .before .before .before in
+    let computed = published .before .before .before .before in
+    let past = computed .before .before .before .before in
+    let judged = past .before in
+    through _ _ _ _ (judged .rows .ensures ∙ ap (rowsIn _ _ _ _ _ _) (numbers judged .all-finite .ensures)) (past .if1 .left)
+    (simp (← computed .gradient-primal .ensures)
+    (went-out (start judged .args .g .now) (computed .gradient-primal .result) (published .publish-wide .ensures) (c .counted .ensures)))
+
+pub gradient-primal-spec : {M : Type 1} → statement M
+gradient-primal-spec =
+    tie.close
+    (tie.spec
+    (λ c. search needs) (λ c. search needs) (λ c. search needs) (λ c. search needs) (λ c κs. search needs) (λ c κs. search needs)
+    returns
+    gradient-primal-requires
+    publish-wide-requires
+    (λ c κs. search needs) (λ c. search needs)
+    returns-2)

@@ -1,0 +1,12 @@
+-- `rows` asks the table of its definition. Assumes nothing.
+use Rattle.record_wide.specs.Entries.{rowsIn}
+use borrow.Author.Needs.{needs}
+use Rattle.record_wide.proofs.rows.Statement.{statement}
+use Rattle.record_wide.proofs.rows.Tie as tie
+
+returns : tie.Need-returns
+unfolding rowsIn
+returns c = simp (← c .before .before .wide-ok .ensures, ← c .before .wide-finite .ensures) (c .first-row .ensures)
+
+pub rows-spec : {M : Type 1} → statement M
+rows-spec = tie.close (tie.spec (λ c κs. search needs) (λ c κs. search needs) (λ c κs. search needs) returns)

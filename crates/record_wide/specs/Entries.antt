@@ -1,0 +1,77 @@
+-- What each entry over a record answers and leaves for kind 3. Definitions only; that they are the entries' own for this kind is proved in
+-- record_entries.
+use Prim.Native.Nat.{ℕ, _+_}
+use mathlib.Core.Bool.{Bool, true, false, not, _||_, _&&_}
+use mathlib.Core.List.{List}
+use lib.Ieee.{Float}
+use lib.Ieee.Scale.{finite}
+use lib.ListN.{length, take}
+use Rattle.cone.specs.declared.Wide.{Wide}
+use Rattle.cone.specs.declared.Scaling.{Scaling}
+use Rattle.cone.specs.declared.Number.{Number}
+use Rattle.cone.specs.declared.Rounds.{Rounds}
+use Rattle.cone.specs.Judges.{wideOk, wideFinite, allFinite, sidesFinite}
+use Rattle.cone.specs.Refusals.{firstRow, otherLength, Lent, settle, refuse, refuseNumber, refuseRounds, publishOf, numberOf, withRounds}
+use Rattle.genpowcone.specs.Rank3 as genRank3
+use Rattle.kinds.specs.Wide as wide
+
+-- how many numbers a point has
+abbrev pub dims : Scaling → ℕ
+dims r = r .cone .dim1 + r .cone .dim2
+
+-- The table, by what is wrong with the call's lengths, whether its record was ever scaled, and whether its own numbers are finite.
+unfoldable pub rowsIn : ℕ → ℕ → List Float → Wide → Bool → Bool → Bool → ℕ
+rowsIn dim1 dim2 exps w lengths scaled finite =
+    firstRow (record {
+      cone = not (wideOk dim1 dim2 exps);
+      length = lengths;
+      number = not (finite && wideFinite w dim1 dim2);
+      setting = false;
+      unscaled = not scaled;
+    })
+
+abbrev pub rowsOf : Scaling → Bool → Bool → ℕ
+rowsOf r lengths finite = rowsIn (r .cone .dim1) (r .cone .dim2) (r .cone .exps) (r .wide) lengths (r .scaled) finite
+
+-- ---- the primal side
+
+-- 002 gradient_primal
+unfoldable pub gradientPrimalOf : Scaling → List Float → List Float → Lent Rounds
+gradientPrimalOf r g s =
+    let a = wide.gradientPrimalOf (r .cone .exps) (r .cone .dim1) s (r .wide .r) (r .cone .dim2) in
+    settle (rowsOf r (otherLength (dims r) g || otherLength (dims r) s) (allFinite s))
+    (withRounds (a .rounds) (publishOf g (take (length g) (a .g))))
+    (refuseRounds g)
+
+-- 002 barrier_primal
+unfoldable pub barrierPrimalOf : Scaling → List Float → Number
+barrierPrimalOf r s =
+    settle (rowsOf r (otherLength (dims r) s) (allFinite s))
+    (numberOf (wide.barrierPrimalOf (r .cone .exps) (r .cone .dim1) s (r .wide .r) (r .cone .dim2)))
+    refuseNumber
+
+-- 002 compute_barrier; the step is the Rust's α
+unfoldable pub computeBarrierOf : Scaling → List Float → List Float → List Float → List Float → Float → Number
+computeBarrierOf r z s dz ds step =
+    let n = dims r in
+    let lengths = otherLength n z || otherLength n s || otherLength n dz || otherLength n ds in
+    settle (rowsOf r lengths (sidesFinite dz ds z s && finite step))
+    (numberOf (wide.computeBarrierOf (r .cone .exps) (r .cone .dim1) z s dz ds step (r .wide .r) (r .cone .dim2)))
+    refuseNumber
+
+-- ---- the scaling matrix
+
+-- 002 get_Hs
+unfoldable pub getHsOf : Scaling → List Float → Lent ℕ
+getHsOf r block =
+    let diagonal = wide.getHsOf (r .wide .mu) (r .wide .d1) (r .cone .dim1) (r .wide .d2) (r .cone .dim2) in
+    settle (rowsOf r (otherLength (dims r) block) true)
+    (publishOf block (take (length block) diagonal))
+    (refuse block)
+
+-- 002 mul_Hs
+unfoldable pub mulHsOf : Scaling → List Float → List Float → Lent ℕ
+mulHsOf r y x =
+    settle (rowsOf r (otherLength (dims r) y || otherLength (dims r) x) (allFinite x))
+    (publishOf y (take (length y) (genRank3.mulHsOf (r .wide) (r .cone .dim1) x)))
+    (refuse y)

@@ -1,35 +1,124 @@
 #!/bin/sh
 # Proves the library, builds it as target/staticlib/libspindle.a, and runs examples/plan.c over it.
 #
-#   sh build.sh            all of that
-#   sh build.sh --archive  the archive alone, and nothing where it is newer than every crate
+#   sh build.sh                   all of that
+#   sh build.sh --archive         the archive alone; where it is fresh, nothing
+#   sh build.sh --fresh           builds nothing: status 0 if the archive is there and fresh, 1 if it is not
+#   sh build.sh --install PREFIX  the header, the archive, spindle.pc for pkg-config, the programs and the licence, below the folder PREFIX
+#   sh build.sh --help            this text
+#
+# The archive is fresh if it is the one last built here, by this kit, from the library's files as they are now (by their sums, not their dates).
+# Exit status 0: done; 1: something was not proved or not built; 2: bad usage, or a command is missing.
 set -eu
+from=$PWD
 cd "$(dirname "$0")"
 
-case ${1:-} in
-'' | --archive) ;;
--h | --help) sed -n '2,5s/^# \{0,1\}//p' "$0"; exit 0 ;;
-*) echo "build: no such option: $1 (try --help)" >&2; exit 2 ;;
+# The programs that are installed beside the library: crates with a main, built as target/bin/NAME.
+programs=''
+
+die() { echo "build: $*" >&2; exit 1; }
+usage() { echo "build: $* (try sh build.sh --help)" >&2; exit 2; }
+
+job=${1:-all}
+case $job in
+all | --archive | --fresh) [ $# -le 1 ] || usage "$job takes no further word: $2" ;;
+--install) [ $# -eq 2 ] && [ -n "$2" ] || usage "--install takes one folder" ;;
+-h | --help) awk 'NR > 1 { if (!/^#/) exit; sub(/^# ?/, ""); print }' build.sh; exit 0 ;;
+*) usage "no such option: $job" ;;
 esac
 
-command -v rt >/dev/null 2>&1 || { echo "build: the Rattle kit's command rt is not on the PATH; install the kit first" >&2; exit 1; }
+command -v rt >/dev/null 2>&1 || { echo "build: the Rattle kit's command rt is not on the PATH; install the kit first" >&2; exit 2; }
 
 archive=target/staticlib/libspindle.a
-if [ "${1:-}" = --archive ] && [ -f "$archive" ] && [ -z "$(find crates crates.txt -newer "$archive" -print -quit)" ]; then exit 0; fi
-
+record=target/staticlib/made-of
 log=target/log/build.txt
-mkdir -p target/log
-echo "build: proving the library and building its archive (some minutes the first time; the whole output goes to $log)"
-# One line for each crate, as it is proved.
-if ! rt staticlib spindle >"$log" 2>&1; then
-    tail -n 20 "$log" >&2
-    echo "build: the library was not built" >&2
-    exit 1
-fi
-sed -n 's/^rt: \(.* proved.*\)$/build: \1/p' "$log"
-echo "build: target/staticlib/libspindle.a"
-[ "${1:-}" != --archive ] || exit 0
 
-mkdir -p target/examples
-tools/x86 cc target/examples/plan examples/plan.c target/staticlib/libspindle.a
-tools/x86 run target/examples/plan
+# The lines of crates.txt of the crates that spindle reaches, itself included.
+reached() {
+    awk '{ sub(/#.*/, "") }
+        (i = index($0, ":")) { name[++n] = substr($0, 1, i - 1); deps[name[n]] = substr($0, i + 1) }
+        END {
+            need["spindle"]
+            for (turn = 1; turn <= n; turn++) for (k = n; k; k--) if (name[k] in need) { m = split(deps[name[k]], d, " "); while (m) need[d[m--]] }
+            for (k = 1; k <= n; k++) if (name[k] in need) print name[k] ":" deps[name[k]]
+        }' crates.txt
+}
+
+# What an archive is made of: the kit, and the lines and files of those crates.
+made_of() {
+    {
+        rt version
+        reached
+        for name in $(reached | sed 's/:.*//'); do
+            find "crates/$name/src" "crates/$name/specs" "crates/$name/proofs" -type f -exec sha256sum {} + 2>/dev/null | LC_ALL=C sort
+        done
+    } | sha256sum
+}
+
+fresh() { [ -f "$archive" ] && [ -f "$record" ] && [ "$(cat "$record")" = "$(made_of; sha256sum <"$archive")" ]; }
+
+build_archive() {
+    ! fresh || return 0
+    [ "$(rt version)" = "$(cat KIT-ID)" ] || echo "build: note: the kit here is '$(rt version)'; the file KIT-ID names the one that this library was proved with, '$(cat KIT-ID)'"
+    echo "build: proving the library and building its archive: some minutes the first time, a line for each crate; the whole output goes to $log"
+    rm -f "$record" target/log/build.status
+    of=$(made_of)
+    { rt staticlib spindle 2>&1 && echo 0 >target/log/build.status || echo 1 >target/log/build.status; } | tee "$log" | {
+        # the shell's own read shows a line at once, where an awk may wait for a block of them
+        same=0
+        while IFS= read -r line; do
+            case $line in
+            'rt: '*' proved (unchanged'*) same=$((same + 1)) ;;
+            'rt: '*' proved'*) echo "build: ${line#rt: }" ;;
+            esac
+        done
+        [ $same = 0 ] || echo "build: $same crates unchanged since they were proved"
+    }
+    [ "$(cat target/log/build.status 2>/dev/null)" = 0 ] || { tail -n 20 "$log" >&2; die "the library was not built"; }
+    { echo "$of"; sha256sum <"$archive"; } >"$record"
+    echo "build: $archive"
+}
+
+mkdir -p target/log
+case $job in
+--fresh)
+    fresh
+    ;;
+--archive)
+    build_archive
+    ;;
+all)
+    build_archive
+    mkdir -p target/examples
+    tools/x86 cc target/examples/plan -Iinclude examples/plan.c "$archive"
+    tools/x86 run target/examples/plan
+    ;;
+--install)
+    build_archive
+    for program in $programs; do
+        rt check "$program" >"target/log/$program.txt" 2>&1 || { tail -n 20 "target/log/$program.txt" >&2; die "the program $program was not built"; }
+    done
+    version=$(sed -n 's/^#define SPINDLE_VERSION "\(.*\)"$/\1/p' include/spindle.h)
+    # put FOLDER FILE..: each file into the folder below PREFIX
+    case $2 in /*) prefix=$2 ;; *) prefix=$from/$2 ;; esac
+    put() {
+        folder=$prefix/$1
+        shift
+        mkdir -p "$folder"
+        for file in "$@"; do cp "$file" "$folder/" && echo "build: $folder/$(basename "$file")"; done
+    }
+    cat >target/spindle.pc <<EOF
+prefix=\${pcfiledir}/../..
+Name: spindle
+Description: Step searches and scalings for the exponential, power and generalized power cone, proved
+Version: $version
+Cflags: -I\${prefix}/include
+Libs: -L\${prefix}/lib -lspindle
+EOF
+    put include include/spindle.h
+    put lib "$archive"
+    put lib/pkgconfig target/spindle.pc
+    put share/doc/spindle LICENSE NOTICE CHANGELOG.md
+    for program in $programs; do put bin "target/bin/$program"; done
+    ;;
+esac

@@ -2,26 +2,32 @@
 # Passes all tests of the repository. The last line is rt ci's own: 'N passed, 0 failed'.
 #
 #   sh test.sh            everything, from nothing
-#   sh test.sh --quick    only the checks of files: layout, listed crates, paths
+#   sh test.sh --quick    only the checks of files: layout, listed crates, silent answers, lemmas of agreement, versions, paths
 #   sh test.sh --outside  only what runs over the archive: the C example, the kernels, the comparison with the Rust, the Rust crate
+#   sh test.sh --help     this text
 #
-# Exit status 0 only if everything passed.
+# Exit status 0 only if everything passed; 2: bad usage, or a command is missing.
 set -eu
 cd "$(dirname "$0")"
 
 say() { echo "test: $*"; }
 die() { echo "test: $*" >&2; exit 1; }
 
+[ $# -le 1 ] || { echo "test: one option at most (try sh test.sh --help)" >&2; exit 2; }
 case ${1:-} in
 '' | --quick | --outside) ;;
--h | --help) sed -n '2,8s/^# \{0,1\}//p' "$0"; exit 0 ;;
-*) die "no such option: $1 (try --help)" ;;
+-h | --help) awk 'NR > 1 { if (!/^#/) exit; sub(/^# ?/, ""); print }' test.sh; exit 0 ;;
+*) echo "test: no such option: $1 (try sh test.sh --help)" >&2; exit 2 ;;
 esac
 
 # Rust's installer puts its commands here, which not every shell has on its PATH.
 [ ! -d "${HOME:-}/.cargo/bin" ] || PATH=$PATH:$HOME/.cargo/bin
-for tool in rt cc rustc cargo python3; do
-    command -v $tool >/dev/null 2>&1 || die "the command $tool is not on the PATH (the Rattle kit brings rt; Rust and the others stand beside it)"
+tools='rt python3'
+[ "${1:-}" = --quick ] || tools="$tools cc rustc"
+# the Rust crate's tests are for x86-64 alone
+[ "${1:-}" = --quick ] || [ "$(uname -m)" != x86_64 ] || tools="$tools cargo"
+for tool in $tools; do
+    command -v "$tool" >/dev/null 2>&1 || { echo "test: the command $tool is not on the PATH (the Rattle kit brings rt; Rust and the others stand beside it)" >&2; exit 2; }
 done
 
 # What needs libspindle.a.
@@ -31,11 +37,19 @@ outside() {
     sh build.sh >target/log/plan.txt 2>&1 || { tail -n 20 target/log/plan.txt >&2; die "sh build.sh failed"; }
     sed '/^build: /d' target/log/plan.txt | diff - examples/plan.stdout || die "examples/plan.c wrote something else than examples/plan.stdout"
 
+    say "include/spindle.h as C99 and as C++"
+    cc -std=c99 -pedantic -Wall -Wextra -Werror -fsyntax-only -x c include/spindle.h || die "include/spindle.h is not clean C99"
+    if command -v c++ >/dev/null 2>&1; then c++ -std=c++11 -pedantic -Wall -Wextra -Werror -fsyntax-only -x c++ include/spindle.h || die "include/spindle.h is not clean C++"; fi
+
     say "the kernels from outside (a short run of tests/kernels/run)"
     tests/kernels/run --short
 
     say "the port against the Rust, call by call (a short run of oracle/compare.sh)"
     oracle/compare.sh --calls 300000
+
+    say "the comparison itself: one change of the Rust must be seen, one wrong port refused (oracle/mutants.py)"
+    oracle/mutants.py --only 'H[(0, 1)] = -l / r / r' --calls 20000
+    oracle/mutants.py --ports --only 'last failed trial' --calls 20000
 
     say "the Rust crate bindings/rust"
     tools/rust-tests
@@ -56,6 +70,23 @@ for folder in crates/*/; do
     grep -q "^$name:" crates.txt || die "crates/$name is in no line of crates.txt"
 done
 
+say "answers that say nothing stand in the list of their proof"
+tools/test-inline-needs >/dev/null || die "tools/test-inline-needs failed"
+silent=$(tools/inline-needs --check crates) || die "run tools/inline-needs crates:
+$silent"
+
+say "every public function has its lemma of agreement"
+tools/test-agreement >/dev/null || die "tools/test-agreement failed"
+tools/agreement || die "a public function has no lemma that any two outcomes of its contract agree"
+
+say "header, Rust crate and CHANGELOG.md name one version"
+version=$(sed -n 's/^#define SPINDLE_VERSION "\(.*\)"$/\1/p' include/spindle.h)
+[ -n "$version" ] || die "include/spindle.h has no SPINDLE_VERSION"
+for file in bindings/rust/Cargo.toml bindings/rust/Cargo.lock; do
+    grep -q "^version = \"$version\"\$" $file || die "$file has another version than include/spindle.h, $version"
+done
+grep -q "^## $version" CHANGELOG.md || die "CHANGELOG.md has no heading for version $version of include/spindle.h"
+
 say "no file names a path of a machine"
 roots='opt|tmp|root|home|mnt|srv|work|Users'
 if git rev-parse --git-dir >/dev/null 2>&1; then
@@ -68,35 +99,58 @@ $found"
 
 [ "${1:-}" != --quick ] || { say "quick checks passed"; exit 0; }
 
+[ "$(rt version)" = "$(cat KIT-ID)" ] || say "note: the kit here is '$(rt version)'; the file KIT-ID names the one that this repository was proved with, '$(cat KIT-ID)'"
+
 # rt ci proves everything from nothing. As soon as it has proved the library, what needs the archive runs beside the rest of it, in a copy of the
-# files and over the proofs just made: rt staticlib takes a crate's proof only where the copy has the very files that were proved.
+# files and over the proofs just made: rt staticlib takes a crate's proof only where the copy has the very files that were proved. Each of the two
+# is a session of its own, so that this one, which waits for them, ends both when it is told to end.
 copy=$(mktemp -d)
-beside=
-trap '[ -z "$beside" ] || kill -- "-$beside" 2>/dev/null || true; rm -rf "$copy"' EXIT
+started=
+end() {
+    for group in $started; do kill -- "-$group" 2>/dev/null || true; done
+    for group in $started; do wait "$group" 2>/dev/null || true; done
+    rm -rf "$copy"
+}
+trap end EXIT
 trap 'exit 1' HUP INT PIPE TERM
 mkdir -p "$copy/files/target/rlib" "$copy/files/target/stamp"
 tar -cf - --exclude=./target --exclude=./.git . | tar -xf - -C "$copy/files"
-say "what runs over the archive starts when rt ci has proved the library; it is shown after it"
 rm -rf target
+
+say "what runs over the archive starts when rt ci has proved the library; it is shown after it"
 setsid sh -eu -c '
-    until [ -f target/stamp/spindle ]; do
-        [ ! -f "$1/status" ] || { echo "test: rt ci did not prove the library, so nothing ran over the archive"; exit 1; }
+    until [ -s target/stamp/spindle ]; do
+        [ ! -f "$1/status" ] || [ -s target/stamp/spindle ] || { echo "test: rt ci did not prove the library, so nothing ran over the archive"; exit 1; }
         sleep 1
     done
+    # a stamp is written when its library is whole; programs have stamps, too, and no library
     for stamp in target/stamp/*; do
-        cp -R "target/rlib/${stamp##*/}.rlib" "$1/files/target/rlib/"
+        name=${stamp##*/}
+        [ -e "target/rlib/$name.rlib" ] || continue
+        cp -R "target/rlib/$name.rlib" "$1/files/target/rlib/"
         cp "$stamp" "$1/files/target/stamp/"
     done
     exec sh "$1/files/test.sh" --outside' sh "$copy" >"$copy/outside.txt" 2>&1 &
 beside=$!
+started=$beside
 
 say "proofs, must-fail edits and programs, from nothing (rt ci)"
 # rt waits for a batch of RT_JOBS to end before it starts the next: four on two processors leave less idle. The last line is held back until
 # the runs over the archive have ended, too.
-{ RT_JOBS=${RT_JOBS:-4} rt ci 2>&1 && echo 0 >"$copy/status" || echo 1 >"$copy/status"; } | tee "$copy/ci.txt" | awk 'NR > 1 { print last; fflush() } { last = $0 }'
+RT_JOBS=${RT_JOBS:-4} setsid sh -c '
+    { rt ci 2>&1; echo $? >"$1/status"; } | tee "$1/ci.txt" | {
+        IFS= read -r held && while IFS= read -r line; do
+            printf "%s\n" "$held"
+            held=$line
+        done
+    }' sh "$copy" &
+ci=$!
+started="$started $ci"
+wait "$ci" || true
+[ -f "$copy/status" ] || echo 1 >"$copy/status"
 passed=0
 wait "$beside" || passed=1
-beside=
+started=
 cat "$copy/outside.txt"
 [ "$(cat "$copy/status")" = 0 ] || { tail -n 1 "$copy/ci.txt"; die "rt ci failed"; }
 [ $passed = 0 ] || die "a run over the archive failed"

@@ -1,14 +1,11 @@
 /* One cone's work in a round of a plan, from C: make a record, scale it, take the Hessian block, search a step, and see a refusal.
-   Built and run by `sh build.sh`. */
+   Built and run by `sh build.sh`; on x86-64 also by
+
+       cc -Iinclude examples/plan.c target/staticlib/libspindle.a && ./a.out */
+#include <spindle.h>
 #include <stdio.h>
-#include "../include/spindle.h"
 
-static const char *const meaning[] = {
-    "done", "bad cone", "a lent slice has another length than needed", "an input number is NaN or infinite",
-    "bad search settings or strategy", "the record was never scaled", "the Rust would panic here", "the finished answer is not finite",
-};
-
-static void say(const char *what, uint32_t code) { printf("%-22s %u (%s)\n", what, (unsigned)code, meaning[code]); }
+static void say(const char *what, uint32_t code) { printf("%-22s %u (%s)\n", what, (unsigned)code, spindle_meaning(code)); }
 
 static void row(const char *what, const double *x, size_t n) {
     printf("%-22s", what);
@@ -17,7 +14,7 @@ static void row(const char *what, const double *x, size_t n) {
 }
 
 int main(void) {
-    Cone cone = {.kind = 1}; /* exponential: places that a kind does not use may hold anything */
+    Cone cone = {.kind = SPINDLE_EXPONENTIAL}; /* places that a kind does not use may hold anything */
     Updated fresh = spindle_fresh(cone);
     say("fresh", fresh.code);
 
@@ -25,7 +22,7 @@ int main(void) {
     say("unit_initialization", spindle_unit_initialization(cone, z, 3, s, 3));
     row("  s = z =", s, 3);
 
-    Updated scaled = spindle_update_scaling(fresh.record, s, 3, z, 3, 1.0, 2);
+    Updated scaled = spindle_update_scaling(fresh.record, s, 3, z, 3, 1.0, SPINDLE_PRIMAL_DUAL);
     say("update_scaling", scaled.code);
     double block[6];
     say("get_hs", spindle_get_hs(scaled.record, block, 6));

@@ -2,10 +2,12 @@
 # Builds the comparison as an x86-64 program.
 #
 #   oracle/build.sh RUST ARCHIVE OUT    from the folder RUST of the four Rust files and the port's ARCHIVE (or a C file in its place); its parts stay in OUT.parts
+#   oracle/build.sh --help              this text
 #
-# Works on any machine that has rustc and the kit: see tools/rust-obj.
+# Works on any machine that has rustc and the kit: see tools/rust-obj. Exit status 2: bad usage, or a command is missing.
 set -eu
-[ $# -eq 3 ] || { sed -n '2,4s/^# \{0,1\}//p' "$0"; exit 2; }
+case ${1:-} in -h | --help) awk 'NR > 1 { if (!/^#/) exit; sub(/^# ?/, ""); print }' "$0"; exit 0 ;; esac
+[ $# -eq 3 ] || { echo "oracle/build.sh: it takes RUST ARCHIVE OUT (try oracle/build.sh --help)" >&2; exit 2; }
 here=$(cd "$(dirname "$0")" && pwd)
 root=$(dirname "$here")
 rust=$(cd "$1" && pwd)

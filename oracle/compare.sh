@@ -1,12 +1,31 @@
 #!/bin/sh
 # Compares the port with the Rust, call by call, every answer as bits.
 #
-#   oracle/compare.sh [WORDS..]             proves the library and builds its archive where a crate is newer, builds the comparison, runs it
+#   oracle/compare.sh [WORDS..]             builds the archive where it is not fresh (sh build.sh --archive) and the comparison, and runs it
 #   oracle/compare.sh --standin [WORDS..]   the same on oracle/standin.c, a second port in C: a trial of the comparison itself
+#   oracle/compare.sh --help                this text
 #
-# WORDS: --calls N, --seed S, --entry NAME, --help. A short run: oracle/compare.sh --calls 100000
+# WORDS  --calls N        how many calls (a million; --calls 100000 is a short run)
+#        --seed S         other calls (1)
+#        --entry NAME     one entry alone, as update_scaling
+#        --vectors FILE   write the fixed list that crates/oracle_run replays, and compare nothing
+#
+# Exit status 0: every answer the same, or the list is written; 1: a difference, which is shown; 2: bad words, or it could not be built.
 set -eu
 cd "$(dirname "$0")/.."
+for word in "$@"; do
+    case $word in -h | --help) awk 'NR > 1 { if (!/^#/) exit; sub(/^# ?/, ""); print }' oracle/compare.sh; exit 0 ;; esac
+done
+awaited=name
+for word in "$@"; do
+    case $awaited:$word in
+    name:--standin) ;;
+    name:--calls | name:--seed | name:--entry | name:--vectors) awaited=value ;;
+    value:*) awaited=name ;;
+    *) echo "compare: no such word: $word (try oracle/compare.sh --help)" >&2; exit 2 ;;
+    esac
+done
+[ $awaited = name ] || { echo "compare: the last word takes a value (try oracle/compare.sh --help)" >&2; exit 2; }
 mkdir -p target/oracle
 port=target/staticlib/libspindle.a
 program=target/oracle/compare
@@ -15,7 +34,7 @@ if [ "${1:-}" = --standin ]; then
     port=oracle/standin.c
     program=target/oracle/compare-standin
 else
-    sh build.sh --archive >target/oracle/staticlib.txt 2>&1 || { cat target/oracle/staticlib.txt >&2; exit 2; }
+    sh build.sh --archive || exit 2
 fi
-oracle/build.sh docs/src/src/solver/core/cones "$port" "$program"
+oracle/build.sh docs/src/src/solver/core/cones "$port" "$program" || exit 2
 exec tools/x86 run "$program" "$@"

@@ -1,12 +1,15 @@
 #!/usr/bin/env python3
-"""Changes one operation at a time in copies of the Rust and asks whether the comparison's cases see it.
+"""Tries the comparison itself: does it see a changed Rust, does it refuse a wrong port?
 
-    oracle/mutants.py [--calls N | --list] [--only WORD] [--part I/N] [--seed S] [--entry NAME]
-    oracle/mutants.py --ports [--calls N] [--only WORD]      wrong ports (wrong-ports.txt) in the place of changed Rust
+    oracle/mutants.py            changes one operation at a time in copies of the Rust (mutants.txt) and asks whether the comparison's cases see it
+    oracle/mutants.py --ports    changes the second port, standin.c, into wrong ones (wrong-ports.txt) and asks whether the comparison refuses them
 
-Each line of mutants.txt is a change: file | old | new. A line end in old or new is written as a pilcrow, the bars around a closure's arguments as slashes.
-Every changed copy becomes an oracle beside the unchanged one in one program, over the stand-in's kernels. All answer the calls that the comparison
-makes; a change is seen at the first call that it answers otherwise. Writes one line for each change.
+A line of mutants.txt is a change: file | old | new; one of wrong-ports.txt is: what is wrong | old | new. A line end in old or new is written as a
+pilcrow, the bars around a closure's arguments as slashes. Every changed copy of the Rust becomes an oracle beside the unchanged one in one program,
+over the stand-in's kernels. All answer the calls that the comparison makes; a change is seen at the first call that it answers otherwise.
+
+Writes one line for each change. Exit status 0: every one was seen or refused, those aside that stand below the line `# Rarely seen` of mutants.txt; 1: one
+was not (some are met only in 100,000 calls); 2: bad usage, or a program could not be built.
 """
 import argparse
 import os
@@ -21,38 +24,55 @@ root = os.path.dirname(here)
 text = os.path.join(root, "docs/src/src/solver/core/cones")
 
 
+def stop(why):
+    print(f"mutants: {why}", file=sys.stderr)
+    sys.exit(2)
+
+
 def changes(file="mutants.txt"):
+    """Each change, and whether it has to be seen."""
+    wanted = True
     for line in open(os.path.join(here, file), encoding="utf-8"):
         line = line.rstrip("\n")
+        wanted = wanted and not line.startswith("# Rarely seen")
         if line and not line.startswith("#"):
             name, old, new = line.split(" | ")
-            yield name, written(old), written(new)
+            yield name, written(old), written(new), wanted
+
+
+def build(port, program, **environment):
+    """The comparison of a port with the Rust, as a program."""
+    command = [os.path.join(here, "build.sh"), text, os.path.join(here, port), program]
+    built = subprocess.run(command, env=dict(os.environ, **environment), capture_output=True, text=True)
+    if built.returncode:
+        stop("the comparison could not be built:\n" + built.stderr[-4000:])
 
 
 def wrong_ports(work, calls, only):
-    """The comparison must stop at each changed stand-in."""
+    """The comparison must stop at each changed stand-in. Hands back how many it did not refuse."""
+    listed = [change for change in changes("wrong-ports.txt") if only in change[0]]
+    if not listed:
+        stop(f"no wrong port has '{only}' in its name")
     program = os.path.join(work, "compare")
-    built = subprocess.run([os.path.join(here, "build.sh"), text, os.path.join(here, "standin.c"), program], capture_output=True, text=True)
-    if built.returncode:
-        sys.exit(built.stderr[-4000:])
+    build("standin.c", program)
     whole = open(os.path.join(here, "standin.c"), encoding="utf-8").read()
-    parts = [os.path.join(program + ".parts", name) for name in ("stubs.c", "oracle.o")]
-    changed = os.path.join(work, "standin.c")
-    count = unseen = 0
-    for name, old, new in changes("wrong-ports.txt"):
-        if only not in name:
-            continue
+    parts = [os.path.join(program + ".parts", name) for name in ("oracle.c", "oracle.o")]
+    x86, changed = os.path.join(root, "tools/x86"), os.path.join(work, "standin.c")
+    unseen = 0
+    for name, old, new, _ in listed:
         if whole.count(old) != 1:
-            sys.exit(f"this stands {whole.count(old)} times in standin.c: {old}")
+            stop(f"this stands {whole.count(old)} times in standin.c: {old}")
         with open(changed, "w", encoding="utf-8") as out:
             out.write(whole.replace(old, new))
-        subprocess.run([os.path.join(root, "tools/x86"), "cc", program, "-I" + os.path.join(root, "include"), "-w", os.path.join(here, "port.c"), *parts, changed, "-lm"], check=True)
-        ran = subprocess.run([os.path.join(root, "tools/x86"), "run", program, "--calls", str(calls)], capture_output=True, text=True)
+        made = subprocess.run([x86, "cc", program, "-I" + os.path.join(root, "include"), "-w", os.path.join(here, "port.c"), *parts, changed, "-lm"])
+        if made.returncode:
+            stop(f"the wrong port could not be built: {name}")
+        ran = subprocess.run([x86, "run", program, "--calls", str(calls)], capture_output=True, text=True)
         at = re.search(r"DIFFERENT at call (\d+)", ran.stdout)
-        count += 1
         unseen += not at
         print(f"refused at call {at.group(1)}: {name}" if at else f"NOT REFUSED: {name}", flush=True)
-    print(f"{count} wrong ports, {count - unseen} refused, {unseen} not, at most {calls} calls")
+    print(f"{len(listed)} wrong ports, {len(listed) - unseen} refused, {unseen} not, at most {calls} calls")
+    return unseen
 
 
 def written(words):
@@ -60,21 +80,21 @@ def written(words):
 
 
 def harness(work, only, part):
-    """A copy of src/ in which mutants.rs has an oracle for each change."""
+    """A copy of src/ in which mutants.rs has an oracle for each change; the changes' names, and those that have to be seen."""
     source = os.path.join(work, "src")
     shutil.copytree(os.path.join(here, "src"), source)
     cones = open(os.path.join(source, "cones.rs"), encoding="utf-8").read()
     # the items of cones.rs; a change to one cone's file needs that cone and the choice by kind anew, and takes the rest from the unchanged oracle
     items = re.split(r"\n\n(?=\S)", cones)
-    names, modules, arms = [], [], []
+    names, modules, arms, due = [], [], [], set()
     which, of = (int(n) for n in part.split("/"))
-    for place, (file, old, new) in enumerate(changes()):
+    for place, (file, old, new, wanted) in enumerate(changes()):
         shown = " ".join(f"{file}: {old}  ->  {new}".split())
         if only not in shown or place % of != which - 1:
             continue
         whole = open(os.path.join(text, file), encoding="utf-8").read()
         if whole.count(old) != 1:
-            sys.exit(f"this does not stand once in its file: {shown}")
+            stop(f"this does not stand once in its file: {shown}")
         k = len(names)
         copy = os.path.join(work, f"rust{k}")
         shutil.copytree(text, copy)
@@ -91,6 +111,7 @@ def harness(work, only, part):
         with open(os.path.join(source, f"cones{k}.rs"), "w", encoding="utf-8") as out:
             out.write(changed.replace('env!("SPINDLE_RUST")', f'"{copy}"'))
         names.append(shown)
+        due.update([shown] if wanted else [])
         modules.append(f'mod m{k} {{\n    #[path = "{source}/cones{k}.rs"]\n    pub mod cones;\n    #[path = "{source}/expected.rs"]\n    pub mod expected;\n}}\n')
         arms.append(f"        {k} => m{k}::expected::expected(call),\n")
     with open(os.path.join(source, "mutants.rs"), "w", encoding="utf-8") as out:
@@ -98,37 +119,41 @@ def harness(work, only, part):
         out.write("#![allow(dead_code)]\nuse crate::types::{Answer, Call};\n")
         out.write(f"pub const NAMES: [&str; {len(names)}] = [\n{quoted}\n];\n" + "".join(modules))
         out.write("pub fn answer(k: usize, call: &Call) -> Answer {\n    match k {\n" + "".join(arms) + "        _ => crate::expected::expected(call),\n    }\n}\n")
-    return source, len(names)
+    if not names:
+        stop(f"no change has '{only}' in its line, in part {part}")
+    return source, names, due
 
 
 def main():
-    words = argparse.ArgumentParser(description=__doc__, formatter_class=argparse.RawDescriptionHelpFormatter)
-    words.add_argument("--calls", type=int, default=1000000)
-    words.add_argument("--list", action="store_true", help="the calls of the fixed list in the place of random ones")
-    words.add_argument("--only", default="")
-    words.add_argument("--seed", default="1")
-    words.add_argument("--entry", default="")
-    words.add_argument("--part", default="1/1", help="as 2/9: every ninth change, from the second on")
-    words.add_argument("--ports", action="store_true")
+    words = argparse.ArgumentParser(description=__doc__, formatter_class=argparse.RawDescriptionHelpFormatter, usage=argparse.SUPPRESS)
+    words.add_argument("--ports", action="store_true", help="wrong ports in the place of changed Rust")
+    words.add_argument("--only", default="", metavar="WORD", help="only changes with this in their line (a wrong port: in its name)")
+    words.add_argument("--calls", type=int, default=1000000, metavar="N", help="at most so many calls (a million)")
+    words.add_argument("--list", action="store_true", help="changed Rust: the calls of the fixed list in the place of random ones")
+    words.add_argument("--part", default="1/1", metavar="I/N", help="changed Rust, as 2/9: every ninth change, from the second on")
+    words.add_argument("--seed", default="1", metavar="S", help="changed Rust: other calls")
+    words.add_argument("--entry", default="", metavar="NAME", help="changed Rust: calls of one entry alone")
     words = words.parse_args()
+    if not re.fullmatch(r"[1-9]\d*/[1-9]\d*", words.part):
+        stop(f"--part is I/N, as 2/9: {words.part}")
+    if shutil.which("rustc") is None:
+        stop("rustc is not on the PATH; install Rust first")
     with tempfile.TemporaryDirectory() as work:
         if words.ports:
-            wrong_ports(work, words.calls, words.only)
-            return
-        source, count = harness(work, words.only, words.part)
+            sys.exit(1 if wrong_ports(work, words.calls, words.only) else 0)
+        source, names, due = harness(work, words.only, words.part)
         program = os.path.join(work, "compare")
-        built = subprocess.run([os.path.join(here, "build.sh"), text, os.path.join(here, "standin.c"), program],
-                               env=dict(os.environ, SPINDLE_OPT="1", SPINDLE_HARNESS=source), capture_output=True, text=True)
-        if built.returncode:
-            sys.exit(built.stderr[-4000:])
+        build("standin.c", program, SPINDLE_OPT="1", SPINDLE_HARNESS=source)
         command = [os.path.join(root, "tools/x86"), "run", program, "--mutants", "0" if words.list else str(words.calls), "--seed", words.seed]
         ran = subprocess.run(command + (["--entry", words.entry] if words.entry else []), capture_output=True, text=True)
         print(ran.stdout, end="")
         if ran.returncode:
-            sys.exit(ran.returncode)
-        unseen = ran.stdout.count("NOT SEEN: ")
+            stop(f"the comparison ended with status {ran.returncode}: {ran.stderr[-1000:]}")
+        unseen = re.findall(r"^NOT SEEN: (.*)$", ran.stdout, re.M)
+        missed = [name for name in unseen if name in due]
         calls = "the fixed list" if words.list else f"at most {words.calls} calls"
-        print(f"{count} changes, {count - unseen} seen, {unseen} not seen, {calls}")
+        print(f"{len(names)} changes, {len(names) - len(unseen)} seen, {len(unseen)} not seen ({len(missed)} of them should be), {calls}")
+        sys.exit(1 if missed else 0)
 
 
 if __name__ == "__main__":

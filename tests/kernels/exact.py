@@ -1,5 +1,7 @@
 #!/usr/bin/env python3
-"""exact.py SAMPLE: the answers of log and exp against document 01's bounds, and a table of how accurate all were.
+"""exact.py: the answers of log and exp against document 01's bounds, and a table of how accurate all were.
+
+usage: exact.py SAMPLE      exit status 0 if every bound held, 1 if one did not, 2 for bad usage. tests/kernels/run makes the sample.
 
 SAMPLE has lines "log X ANSWER", "exp X ANSWER" and "powf X Y ANSWER" of bit patterns, as kernels.c writes them.
 The bounds are checked on whole numbers: L and the sum of forty terms are enclosed between two whole numbers of
@@ -111,9 +113,15 @@ class Tally:
 
 
 def main():
-    if len(sys.argv) != 2:
-        sys.exit(__doc__)
-    lines = open(sys.argv[1]).read().split("\n")[:-1]
+    if len(sys.argv) != 2 or sys.argv[1].startswith("-"):
+        asked = sys.argv[1:] in (["-h"], ["--help"])
+        print(__doc__.strip() if asked else "exact: it takes one file, SAMPLE (try exact.py --help)", file=sys.stdout if asked else sys.stderr)
+        sys.exit(0 if asked else 2)
+    try:
+        lines = open(sys.argv[1]).read().split("\n")[:-1]
+    except OSError as why:
+        print(f"exact: {sys.argv[1]}: {why.strerror}", file=sys.stderr)
+        sys.exit(2)
     kinds = {"log x, 1 or more in size": " relative", "log x, below 1 in size": " absolute", "exp x": " relative", "x^y, 0 < y < 1": " relative", "x^y, other y": " relative"}
     tallies = {name: Tally() for name in kinds}
     counts = {"log": 0, "exp": 0}

@@ -63,6 +63,7 @@ extern "C" {
     pub fn spindle_barrier_dual(cone: Cone, z: In, nz: usize) -> Number;
     pub fn spindle_dual_grad_h(cone: Cone, z: In, nz: usize) -> DualGrad;
     pub fn spindle_house_settings(start: f64) -> Settings;
+    pub fn spindle_house_strategy() -> u32;
     pub fn spindle_backtrack_search(
         cone: Cone, primal: bool, dq: In, ndq: usize, q: In, nq: usize, point: Out, np: usize, settings: Settings,
     ) -> FoundOut;

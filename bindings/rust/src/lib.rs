@@ -25,30 +25,44 @@
 
 mod face;
 
-/// Why a call was refused. The discriminant is the number that the C face hands back.
+/// The version of this crate, which is that of the library and its C header.
+pub const VERSION: &str = env!("CARGO_PKG_VERSION");
+
+/// Why a call was refused. [`Refusal::number`] is the number that the C face hands back. Later versions may give more.
 #[derive(Clone, Copy, Debug, PartialEq, Eq, Hash)]
-#[repr(u32)]
+#[non_exhaustive]
 pub enum Refusal {
     /// 1: the cone's kind, exponents, dims or exponent sum, or a generalized cone in a correction or combined shift.
-    BadCone = 1,
+    BadCone,
     /// 2: a lent slice has another length than needed.
-    BadLength = 2,
+    BadLength,
     /// 3: an input number is NaN or infinite.
-    NotFinite = 3,
+    NotFinite,
     /// 4: the search start, step or smallest step, or the strategy code.
-    BadSettings = 4,
+    BadSettings,
     /// 5: the record was never scaled.
-    NeverScaled = 5,
+    NeverScaled,
     /// 6: the point lies where the formula has no value, and the original code would panic.
-    OutOfRange = 6,
+    OutOfRange,
     /// 7: the finished answer holds a NaN or an infinity.
-    AnswerNotFinite = 7,
+    AnswerNotFinite,
+    /// Any other number: the archive is of a later version than this crate.
+    Unknown(u32),
 }
 
 impl Refusal {
     /// The number of the scope document's table.
     pub fn number(self) -> u32 {
-        self as u32
+        match self {
+            Refusal::BadCone => 1,
+            Refusal::BadLength => 2,
+            Refusal::NotFinite => 3,
+            Refusal::BadSettings => 4,
+            Refusal::NeverScaled => 5,
+            Refusal::OutOfRange => 6,
+            Refusal::AnswerNotFinite => 7,
+            Refusal::Unknown(number) => number,
+        }
     }
 
     /// One sentence on what was wrong.
@@ -61,6 +75,7 @@ impl Refusal {
             Refusal::NeverScaled => "the record was never scaled",
             Refusal::OutOfRange => "the point lies where the formula has no value",
             Refusal::AnswerNotFinite => "the finished answer holds a NaN or an infinity",
+            Refusal::Unknown(_) => "a number that this crate does not know",
         }
     }
 
@@ -73,7 +88,8 @@ impl Refusal {
             4 => Err(Refusal::BadSettings),
             5 => Err(Refusal::NeverScaled),
             6 => Err(Refusal::OutOfRange),
-            _ => Err(Refusal::AnswerNotFinite),
+            7 => Err(Refusal::AnswerNotFinite),
+            number => Err(Refusal::Unknown(number)),
         }
     }
 }
@@ -106,14 +122,23 @@ impl Settings {
 }
 
 /// How an update computes the scaling of a three-dimensional cone.
-#[derive(Clone, Copy, Debug, PartialEq, Eq, Default)]
+#[derive(Clone, Copy, Debug, PartialEq, Eq)]
 #[repr(u32)]
 pub enum Strategy {
     /// The dual Hessian times the caller's μ.
     Dual = 1,
-    /// The primal-dual scaling, with its fallback. The house default.
-    #[default]
+    /// The primal-dual scaling, with its fallback.
     PrimalDual = 2,
+}
+
+impl Default for Strategy {
+    /// The house's strategy, as the library names it: primal-dual.
+    fn default() -> Strategy {
+        match unsafe { face::spindle_house_strategy() } {
+            1 => Strategy::Dual,
+            _ => Strategy::PrimalDual,
+        }
+    }
 }
 
 /// What a search found.
@@ -429,4 +454,19 @@ fn yes_no(out: face::YesNo) -> Result<bool, Refusal> {
 fn number(out: face::Number) -> Result<f64, Refusal> {
     Refusal::check(out.code)?;
     Ok(out.value)
+}
+
+#[cfg(test)]
+mod tests {
+    use super::Refusal;
+
+    #[test]
+    fn every_number_is_told() {
+        assert_eq!(Refusal::check(0), Ok(()));
+        for number in (1..=12).chain([u32::MAX]) {
+            let refusal = Refusal::check(number).unwrap_err();
+            assert_eq!(refusal.number(), number);
+            assert_eq!(matches!(refusal, Refusal::Unknown(_)), number > 7);
+        }
+    }
 }

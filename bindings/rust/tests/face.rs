@@ -70,6 +70,7 @@ fn searches_hand_back_the_tested_point() {
 
     let house = cone.search_primal(&[0.0; 3], &[0.0, -1.0, 1.0], &mut point, Settings::house(1.0)).unwrap();
     assert_eq!((house.step, house.tests), (0.0, 42));
+    assert_eq!(Strategy::default(), Strategy::PrimalDual);
 
     let (mut dual, mut primal) = ([0.0; 3], [0.0; 3]);
     let z = [-1.0, 0.0, 1.0];
@@ -198,4 +199,6 @@ fn kernels_take_every_double() {
 fn refusals_speak() {
     assert_eq!(Refusal::BadLength.number(), 2);
     assert_eq!(Refusal::NotFinite.to_string(), "refused with 3: an input number is NaN or infinite");
+    assert_eq!(Refusal::Unknown(12).to_string(), "refused with 12: a number that this crate does not know");
+    assert_eq!(spindle::VERSION, "0.1.0");
 }

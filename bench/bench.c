@@ -362,7 +362,11 @@ static double port_kernel(int kernel, const double *x)
 static double own_kernel(int kernel, const double *x)
 {
     switch (kernel) {
+#ifdef NATIVE   /* see bench/native */
+    case 0: return __builtin_sqrt(x[0]);
+#else
     case 0: { double r; __asm__("sqrtsd %1, %0" : "=x"(r) : "x"(x[0])); return r; }
+#endif
     case 1: return log(x[0]);
     case 2: return exp(x[0]);
     default: return pow(x[0], x[1]);

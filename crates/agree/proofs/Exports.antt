@@ -73,10 +73,12 @@ house-strategy-agrees κs a x y s t p q = p ∙ sym q
 pub backtrack-search-agrees : OneOutcome backtrack-search.Post {A = List Float} (λ κs s. now (s .1 .1 .1 .1 .0))
 backtrack-search-agrees κs a x y s t p q = one {A = Found} (p ∙ sym q)
 
-pub step-length-agrees : OneOutcome step-length.Post {A = List Float × List Float} (λ κs s. (now (s .1 .1 .1 .1 .1 .0), now (s .1 .1 .1 .1 .1 .1 .0)))
+pub step-length-agrees :
+    OneOutcome step-length.Post {A = List Float × List Float} (λ κs s. (now (s .1 .1 .1 .1 .1 .0), now (s .1 .1 .1 .1 .1 .1 .0)))
 step-length-agrees κs a x y s t p q = two {A = Steps} (p ∙ sym q)
 
-pub unit-initialization-agrees : OneOutcome unit-initialization.Post {A = List Float × List Float} (λ κs s. (now (s .1 .0), now (s .1 .1 .0)))
+pub unit-initialization-agrees :
+    OneOutcome unit-initialization.Post {A = List Float × List Float} (λ κs s. (now (s .1 .0), now (s .1 .1 .0)))
 unit-initialization-agrees κs a x y s t p q = two {A = ℕ} (p ∙ sym q)
 
 pub rectify-equilibration-agrees : OneOutcome rectify-equilibration.Post {A = List Float} (λ κs s. now (s .1 .0))

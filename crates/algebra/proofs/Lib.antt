@@ -1,3 +1,4 @@
 pub mod Three
+pub mod Mapped
 pub mod Moved
 pub mod Agree

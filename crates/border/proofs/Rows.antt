@@ -1,6 +1,7 @@
 -- The twelve border rows of document 01, each computed from the definitions with the real kernels. Assumes nothing.
 use mathlib.Core.Path.{refl}
 use lib.Count.{trailingZeros, leadingZeros}
+use lib.ListN.{drop}
 use lib.Ieee.{add, sub, mul, div, neg, lt, le, eq, ne, isNan, ofBits, toBits, ofFields, ofInt, round, size, units, odd, span, climb}
 use Rattle.arith.specs.Turns.{iter}
 use Rattle.double.specs.Numbers.{dec}
@@ -17,11 +18,11 @@ use Rattle.wright.specs.Omega.{taylorStart, startOf, refineOf, refinedAt, refin
 use Rattle.expcone.specs.PrimalGradient.{gradientBy, gradientPrimalOf}
 use Rattle.expcone.specs.DualGradient.{gradHAt, updateDualGradHOf}
 use Rattle.powcone.specs.Feasible as powcone
-use Rattle.trials.specs.Trials.{trial}
-use Rattle.trials.specs.Search.{scan, searchOf}
 use Rattle.kinds.specs.Passes.{expPasses, powPasses, passesIn}
 use Rattle.kinds.specs.Three as three
 use Rattle.kinds.specs.Cones as cones
+use Rattle.trials.specs.Trials.{trial}
+use Rattle.trials.specs.Search.{scan, searchOf}
 use Rattle.algebra.specs.Vectors.{movedOf}
 use Rattle.cone_entries.specs.Rows.{readFaults}
 use Rattle.cone_entries.specs.Entries.{isPrimalFeasibleOf, isDualFeasibleOf, dualGradHOf}
@@ -29,8 +30,18 @@ use Rattle.search_entries.specs.Rows.{searchFaults}
 use Rattle.search_entries.specs.Entries.{backtrackSearchOf}
 use Rattle.record_entries.specs.Rows.{gradientRows}
 use Rattle.record_entries.specs.Entries as record-entries
-use Rattle.border.specs.Rows.{Border, table}
+use Rattle.border.specs.Rows.{AllRight, Border, table}
 
 pub border-rows : Border
-unfolding table isPrimalFeasibleOf isDualFeasibleOf dualGradHOf readFaults firstRow settle lastRows coneOk threeOk numelOf allOf threeFinite recordFinite freshOf noThree noWide passesIn expPasses powPasses primalFeasible primalResidue primalResidueAt dualFeasible dualResidue dualResidueAt powcone.primalFeasible powcone.primalResidue powcone.residueAt taylorStart startOf refineOf refinedAt refinedOf omegaOf omegaArg omegaAt gradientBy gradientPrimalOf gradHAt updateDualGradHOf three.updateDualGradHOf cones.dualGradHOf searchFaults backtrackSearchOf searchOf scan trial movedOf record-entries.gradientPrimalOf gradientRows three.gradientPrimalOf iter dec logOf byFieldOf positiveOf normalOf scaledOf mantissaOf shortSeriesOf ratioOf upper logarithms expOf expAt composed horner coefficient factorial rest raised placeOf gap border mag shift add sub mul div neg lt le eq ne isNan toBits ofBits ofFields ofInt round size units odd span climb trailingZeros leadingZeros
-border-rows = (refl, (refl, (refl, (refl, (refl, (refl, (refl, ((λ x y z. refl), ((refl, refl), ((λ x y z. refl), ((λ x y z. refl), ((λ x y z. refl), tt))))))))))))
+unfolding table isPrimalFeasibleOf isDualFeasibleOf dualGradHOf backtrackSearchOf record-entries.gradientPrimalOf
+    readFaults searchFaults gradientRows firstRow settle lastRows coneOk threeOk numelOf allOf threeFinite recordFinite freshOf noThree
+    noWide passesIn expPasses powPasses cones.dualGradHOf three.updateDualGradHOf three.gradientPrimalOf searchOf scan trial movedOf
+    primalFeasible primalResidue primalResidueAt dualFeasible dualResidue dualResidueAt powcone.primalFeasible powcone.primalResidue
+    powcone.residueAt taylorStart startOf refineOf refinedAt refinedOf omegaOf omegaArg omegaAt gradientBy gradientPrimalOf gradHAt
+    updateDualGradHOf iter dec logOf byFieldOf positiveOf normalOf scaledOf mantissaOf shortSeriesOf ratioOf upper logarithms expOf expAt
+    composed horner coefficient factorial rest raised placeOf gap border mag shift add sub mul div neg lt le eq ne isNan toBits ofBits
+    ofFields ofInt round size units odd span climb trailingZeros leadingZeros
+border-rows = (refl, (refl, (refl, (refl, (refl, (refl, (refl, from-h)))))))
+  where
+    from-h : AllRight (drop 7 table)
+    from-h = ((λ x y z. refl), ((refl, refl), ((λ x y z. refl), ((λ x y z. refl), ((λ x y z. refl), tt)))))

@@ -1,4 +1,5 @@
--- 01, "Points at the border": the twelve rows as one table, each a call of a public entry (row g: of omega, which is not public) and its answer. Definitions, and the one statement.
+-- 01, "Points at the border": the twelve rows as one table, each a call of a public entry (row g: of omega, which is not public) and its answer.
+-- Definitions, and the one statement.
 use Prim.Native.Nat.{ℕ}
 use mathlib.Core.Path.{_≡_}
 use mathlib.Core.Bool.{Bool, true, false}
@@ -50,10 +51,13 @@ Right (primal c s answer) = isPrimalFeasibleOf c s ≡ record { code = 0; yes = 
 Right (dual c z answer) = isDualFeasibleOf c z ≡ record { code = 0; yes = answer }
 Right (omega x w) = omegaOf x ≡ record { panics = false; w = w }
 Right (primalGradientRefused c s k) =
-    (x y z : Float) → gradientPrimalOf (freshOf c) (triple x y z) s ≡ record { answer = record { code = k; rounds = 0 }; slice = triple x y z }
+    (x y z : Float)
+    → gradientPrimalOf (freshOf c) (triple x y z) s ≡ record { answer = record { code = k; rounds = 0 }; slice = triple x y z }
 Right (dualGradient c z g) = (dualGradHOf c z .code ≡ 0) × (dualGradHOf c z .three .grad ≡ g)
 Right (search q dq how step count point) =
-    (x y z : Float) → backtrackSearchOf exponential true dq q (triple x y z) how ≡ record { answer = record { code = 0; count = count; step = step }; slice = point }
+    (x y z : Float)
+    → backtrackSearchOf exponential true dq q (triple x y z) how
+    ≡ record { answer = record { code = 0; count = count; step = step }; slice = point }
 
 -- a to l, in the paper's order and with its numbers
 unfoldable pub table : List Row

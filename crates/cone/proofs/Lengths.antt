@@ -14,7 +14,8 @@ use Rattle.double.specs.Operators.{at}
 use Rattle.double.specs.Numbers.{#tolerance}
 use Rattle.cone.specs.declared.Cone.{Cone}
 use Rattle.cone.specs.declared.Scaling.{Scaling}
-use Rattle.cone.specs.Judges.{allOf, exponentOk, sumOk, wideOk, threeOk, coneOk, numelOf, blockOf, recordFinite, threeFinite, wideFinite}
+use Rattle.cone.specs.Judges.{allOf, exponentOk, sumOk, wideOk, threeOk, coneOk, numelOf, blockOf}
+use Rattle.cone.specs.Judges.{recordFinite, threeFinite, wideFinite}
 use Rattle.cone.specs.Refusals.{badCone}
 use Rattle.cone.specs.Calls.{WideCall}
 
@@ -129,7 +130,8 @@ used-at-most n exps l e = omega (arith, ap length e ∙ length-take n exps)
 pub used-length : (n : ℕ) (exps : List Float) {α : List Float} → length exps ≡ 32 → n ≤ 32 → α ≡ take n exps → length α ≡ n
 used-length n exps l h e = cut n 32 exps h l e
 
-pub wide-fits : (c : Cone) (z : List Float) {α : List Float} → WideCall c z → c .kind ≡ 3 → length (c .exps) ≡ 32 → α ≡ take (c .dim1) (c .exps)
+pub wide-fits : (c : Cone) (z : List Float) {α : List Float} → WideCall c z → c .kind ≡ 3 → length (c .exps) ≡ 32
+    → α ≡ take (c .dim1) (c .exps)
     → (length α ≤ 32) × (length z ≤ length α + 32)
 wide-fits c z w k l e =
     let n = used-length (c .dim1) (c .exps) l (w .dims k .0) e in

@@ -40,7 +40,10 @@ sumOk α tolerance = sumOf α ⊖ #1 ≼ tolerance && neg tolerance ≼ sumOf α
 
 -- 01: "its dim1 or dim2 not 1..32"; the first dim1 exponent places are used
 unfoldable pub wideOk : ℕ → ℕ → List Float → Bool
-wideOk dim1 dim2 exps = leb 1 dim1 && leb dim1 32 && leb 1 dim2 && leb dim2 32 && allOf exponentOk (take dim1 exps) && sumOk (take dim1 exps) #tolerance
+wideOk dim1 dim2 exps =
+    leb 1 dim1 && leb dim1 32 && leb 1 dim2 && leb dim2 32
+    && allOf exponentOk (take dim1 exps)
+    && sumOk (take dim1 exps) #tolerance
 
 -- 01: "bad cone: kind is not 1 (exponential), 2 (power), 3 (generalized)". Of the kinds other than 3, which use at most one exponent
 unfoldable pub threeOk : ℕ → Float → Bool

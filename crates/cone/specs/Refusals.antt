@@ -15,7 +15,7 @@ use Rattle.cone.specs.declared.Rounds.{Rounds}
 use Rattle.cone.specs.declared.Updated.{Updated}
 use Rattle.cone.specs.declared.Attempt.{Attempt}
 use Rattle.cone.specs.declared.refusal.Faults.{Faults}
-use Rattle.cone.specs.Judges.{coneOk, allFinite, recordFinite, settingsFinite, settingsOk, strategyOk}
+use Rattle.cone.specs.Judges.{coneOk, allFinite, recordFinite, settingsOk, strategyOk}
 
 -- 01: "Only the first in this order is given." The order of the table, for what can be wrong with a call's arguments; 0 is "done".
 -- 6 and 7 are given on the way to an answer, below.

@@ -2,7 +2,8 @@
 ghost use mathlib.Core.Path.{_≡_};
 ghost use lib.ListN.{take};
 ghost use lib.Ieee.Scale.{finite};
-ghost use Rattle.cone.specs.Judges.{allOf, powerOk, exponentOk, sumOk, wideOk, threeOk, coneOk, numelOf, blockOf, settingsOk, settingsFinite, strategyOk, sidesFinite, threeFinite, wideFinite, recordFinite};
+ghost use Rattle.cone.specs.Judges.{allOf, powerOk, exponentOk, sumOk, wideOk, threeOk, coneOk, numelOf, blockOf};
+ghost use Rattle.cone.specs.Judges.{settingsOk, settingsFinite, strategyOk, sidesFinite, threeFinite, wideFinite, recordFinite};
 use crate::Cone;
 use crate::DUAL;
 use crate::PRIMAL_DUAL;
@@ -169,7 +170,16 @@ pub fn wide_finite<'a>(
     dim1: u32,
     dim2: u32,
 ) -> bool
-    ensures { λ yes. ⌜ yes ≡ wideFinite (record { z = now (z .entry); mu = mu; grad = now (grad .entry); p = now (p .entry); q = now (q .entry); r = now (r .entry); d1 = now (d1 .entry); d2 = d2 }) dim1 dim2 ⌝ }
+    ensures { λ yes. ⌜ yes ≡ wideFinite (record {
+      z = now (z .entry);
+      mu = mu;
+      grad = now (grad .entry);
+      p = now (p .entry);
+      q = now (q .entry);
+      r = now (r .entry);
+      d1 = now (d1 .entry);
+      d2 = d2;
+    }) dim1 dim2 ⌝ }
 {
     let n1 = dim1 as usize;
     let n2 = dim2 as usize;

@@ -2,7 +2,7 @@
 // and lends them to `publish`, which judges row 7 and only then writes.
 ghost use mathlib.Core.Path.{_≡_};
 ghost use lib.ListN.{length};
-ghost use Rattle.cone.specs.Refusals.{firstRow, Lent, LentTwo, publishOf, publishTwoOf, numberOf, countedOf, lastRows};
+ghost use Rattle.cone.specs.Refusals.{firstRow, publishOf, publishTwoOf, numberOf, countedOf, lastRows};
 use crate::Attempt;
 use crate::Number;
 use crate::Rounds;
@@ -67,7 +67,8 @@ pub fn publish(out: &mut [f64], ans: &[f64]) -> u32
 // Both answers go out, or number 7 and both slices stay as they were.
 pub fn publish_two(x: &mut [f64], y: &mut [f64], a: &[f64], b: &[f64]) -> u32
     requires { ⌜ (length (now a) ≡ length (now x)) × (length (now b) ≡ length (now y)) ⌝ }
-    ensures { λ r. ⌜ record { answer = r; first = now (x .exit); second = now (y .exit) } ≡ publishTwoOf (now (x .entry)) (now (y .entry)) (now (a .entry)) (now (b .entry)) ⌝ }
+    ensures { λ r. ⌜ record { answer = r; first = now (x .exit); second = now (y .exit) }
+        ≡ publishTwoOf (now (x .entry)) (now (y .entry)) (now (a .entry)) (now (b .entry)) ⌝ }
 {
     if all_finite(a) & all_finite(b) {
         store(x, a);

@@ -1,6 +1,5 @@
 // The public entries that take a cone. Each judges its arguments by the table of document 01, computes into locals, and only then writes.
 ghost use mathlib.Core.Path.{_≡_};
-ghost use Rattle.cone.specs.Refusals.{Lent, LentTwo};
 ghost use Rattle.cone_entries.specs.Entries.{freshOf, isPrimalFeasibleOf, isDualFeasibleOf, barrierDualOf, refuseGrad, dualGradHOf};
 ghost use Rattle.cone_entries.specs.Entries.{unitInitializationOf, rectifyOf, rectifyEquilibrationOf, affineDsOf, dsFromDzOffsetOf};
 

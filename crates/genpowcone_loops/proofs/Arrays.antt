@@ -2,12 +2,12 @@
 -- In order: put (from the front), putFrom (from place n on), by them narrow, wide and withTail; then arrays whose used places are a list that has a name:
 -- -x, log x, and x + a·dx.
 use Prim.Native.Nat.{ℕ, zero, suc, _+_, _≤_, _<_, min}
-use mathlib.Core.Path.{_≡_, refl, sym, subst, _∙_, ap}
+use mathlib.Core.Path.{_≡_, refl, sym, subst, _∙_}
 use mathlib.Core.List.{List, map}
 use mathlib.Core.Logic.{_⊎_, inl, inr}
 use native.Mathlib.Nat.{zero-add, not-suc-le-zero, eq-or-lt-of-le, le-of-suc-le-suc}
 use native.Mathlib.Omega.{arith}
-use lib.ListN.{length, getD, take, set, replicate, length-set, length-take, length-map, length-replicate, getD-replicate, List·getD-map}
+use lib.ListN.{length, take, set, replicate, length-set, length-take, length-map, length-replicate, getD-replicate}
 use lib.Seq.{getD-set-same, getD-set-other, getD-take, ext-getD}
 use lib.Ieee.{Float, nan, neg, isNan}
 use Rattle.arith.specs.Turns.{iter}
@@ -15,6 +15,7 @@ use Rattle.double.specs.Operators.{at}
 use Rattle.double.specs.Numbers.{#0}
 use Rattle.kernels.specs.Door.{logOf}
 use Rattle.algebra.specs.Vectors.{movedOf}
+use Rattle.algebra.proofs.Mapped.{mapped-place}
 use Rattle.algebra.proofs.Moved.{moved-length, moved-place}
 use Rattle.genpowcone_loops.specs.Places.{put, putFrom, narrow, wide, withTail, negatedAt, logAt, movedAt}
 
@@ -146,15 +147,18 @@ pub map-front
 map-front f e xs fits =
     subst (λ (n : ℕ). take n (wide (λ (i : ℕ). f (at xs i)) n) ≡ map f xs) (length-map xs f)
     (wide-front (λ (i : ℕ). f (at xs i)) (map f xs) (subst (λ (n : ℕ). n ≤ 64) (sym (length-map xs f)) fits)
-    (λ i h. sym (ap (λ (d : Float). getD (map f xs) i d) (sym e) ∙ List·getD-map f xs i nan)))
+    (λ i h. sym (mapped-place f xs (map f xs) refl e i)))
 
 pub negated-front : (xs : List Float) → length xs ≤ 64 → take (length xs) (wide (negatedAt xs) (length xs)) ≡ map neg xs
 unfolding neg
 negated-front = map-front neg refl
 
-pub logs-front : (xs : List Float) → length xs ≤ 64 → take (length xs) (wide (logAt xs) (length xs)) ≡ map logOf xs
+pub log-of-nan : logOf nan ≡ nan
 unfolding logOf isNan
-logs-front = map-front logOf refl
+log-of-nan = refl
+
+pub logs-front : (xs : List Float) → length xs ≤ 64 → take (length xs) (wide (logAt xs) (length xs)) ≡ map logOf xs
+logs-front = map-front logOf log-of-nan
 
 pub moved-front
     : (x : List Float) (a : Float) (dx : List Float)

@@ -7,7 +7,8 @@ use lib.Ieee.{Float}
 use lib.ListN.{length, take, length-take}
 
 -- two parts of at most 32 places each
-pub parts-fit : (n m : ℕ) (exps w : List Float) {α t : List Float} → n ≤ 32 → m ≤ 32 → α ≡ take n exps → t ≡ take m w → length α + length t ≤ 64
+pub parts-fit : (n m : ℕ) (exps w : List Float) {α t : List Float} → n ≤ 32 → m ≤ 32 → α ≡ take n exps → t ≡ take m w
+    → length α + length t ≤ 64
 parts-fit n m exps w hn hm e f = omega (arith, ap length e ∙ length-take n exps, ap length f ∙ length-take m w)
 
 -- a part of at most 32 places beside a count

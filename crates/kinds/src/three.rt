@@ -1,6 +1,7 @@
 // Kinds 1 and 2, whose points have three numbers: the exponential cone, and the power cone with exponent alpha, which kind 1 does not use.
 ghost use mathlib.Core.Path.{_≡_};
-ghost use Rattle.kinds.specs.Three.{plainThree, updateDualGradHOf, gradientPrimalOf, unitInitializationOf, barrierPrimalOf, computeBarrierOf, higherCorrectionOf, combinedDsShiftOf};
+ghost use Rattle.kinds.specs.Three.{plainThree, updateDualGradHOf, gradientPrimalOf, unitInitializationOf};
+ghost use Rattle.kinds.specs.Three.{barrierPrimalOf, computeBarrierOf, higherCorrectionOf, combinedDsShiftOf};
 use cone::Three;
 
 // A primal gradient, whether the Rust would panic on the way to it, and its Newton rounds.

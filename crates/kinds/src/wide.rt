@@ -51,7 +51,9 @@ pub fn compute_barrier<'a>(
     dim2: usize,
 ) -> f64
     requires { ⌜ (dim1 ≤ 32) × (dim2 ≤ 32) × (length (now s) ≤ 64) × (length (now z) ≤ 64) ⌝ }
-    ensures { λ r. ⌜ r ≡ computeBarrierOf (now (exps .entry)) dim1 (now (z .entry)) (now (s .entry)) (now (dz .entry)) (now (ds .entry)) step (now (w .entry)) dim2 ⌝ }
+    ensures { λ r. ⌜ r
+        ≡ computeBarrierOf (now (exps .entry)) dim1 (now (z .entry)) (now (s .entry)) (now (dz .entry)) (now (ds .entry)) step
+        (now (w .entry)) dim2 ⌝ }
 {
     genpowcone::compute_barrier(head(exps, dim1), z, s, dz, ds, step, head(w, dim2))
 }

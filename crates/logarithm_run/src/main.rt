@@ -1,4 +1,5 @@
-// Runs `log` on doubles by their patterns, a line for each: the pattern, and the pattern of its logarithm. The answers in stdout come from exact whole numbers outside.
+// Runs `log` on doubles by their patterns, a line for each: the pattern, and the pattern of its logarithm. The answers in stdout come from
+// exact whole numbers outside.
 
 fn show(b: u64) {
     io::print_hex(1, b, 16);

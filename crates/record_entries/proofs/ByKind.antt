@@ -17,12 +17,15 @@ use Rattle.kinds.specs.Cones.{alphaOf}
 use Rattle.record_three.specs.Entries as three
 use Rattle.record_wide.specs.Entries as wide
 use Rattle.record_entries.specs.Rows.{gradientRows, barrierRows, computeRows, blockRows, productRows, correctionRows}
-use Rattle.record_entries.specs.Entries.{gradientPrimalOf, primalBarrierOf, barrierPrimalOf, combinedBarrierOf, computeBarrierOf, getHsOf, mulHsOf, higherCorrectionOf, combinedDsShiftOf}
+use Rattle.record_entries.specs.Entries.{gradientPrimalOf, primalBarrierOf, barrierPrimalOf, combinedBarrierOf, computeBarrierOf}
+use Rattle.record_entries.specs.Entries.{getHsOf, mulHsOf, higherCorrectionOf, combinedDsShiftOf}
 
 -- ---- kinds 1 and 2
 
 module _ (r : Scaling) (k : r .cone .kind ≡ 3 → ⊥) where
-  pub gradient-primal-3D : (g s : List Float) → three.gradientPrimalOf (r .cone .kind) (alphaOf (r .cone)) (r .three) g s ≡ gradientPrimalOf r g s
+  pub gradient-primal-3D
+      : (g s : List Float)
+      → three.gradientPrimalOf (r .cone .kind) (alphaOf (r .cone)) (r .three) g s ≡ gradientPrimalOf r g s
   unfolding three.gradientPrimalOf three.rowsOf gradientPrimalOf gradientRows
   gradient-primal-3D g s = simp (ne-eqb _ _ k, cone-3D (r .cone) k, numel-3D (r .cone) k, record-3D r k)
 
@@ -55,7 +58,9 @@ module _ (r : Scaling) (k : r .cone .kind ≡ 3) where
   unfolding wide.barrierPrimalOf wide.rowsIn barrierPrimalOf primalBarrierOf barrierRows judgedOf
   barrier-primal-wide s = simp (eq-eqb _ _ k, cone-wide (r .cone) k, numel-wide (r .cone) k, record-wide r k)
 
-  pub compute-barrier-wide : (z s dz ds : List Float) (step : Float) → wide.computeBarrierOf r z s dz ds step ≡ computeBarrierOf r z s dz ds step
+  pub compute-barrier-wide
+      : (z s dz ds : List Float) (step : Float)
+      → wide.computeBarrierOf r z s dz ds step ≡ computeBarrierOf r z s dz ds step
   unfolding wide.computeBarrierOf wide.rowsIn computeBarrierOf combinedBarrierOf computeRows judgedOf
   compute-barrier-wide z s dz ds step = simp (eq-eqb _ _ k, cone-wide (r .cone) k, numel-wide (r .cone) k, record-wide r k)
 

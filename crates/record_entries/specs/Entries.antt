@@ -87,5 +87,6 @@ higherCorrectionOf r η ds v =
 unfoldable pub combinedDsShiftOf : Scaling → List Float → List Float → List Float → Float → Lent ℕ
 combinedDsShiftOf r out stepz steps σμ =
     let t = r .three in
-    let shift = three.combinedDsShiftOf (r .cone .kind) (alphaOf (r .cone)) (t .hdual) (t .z) (t .grad) (threeOf stepz) (threeOf steps) σμ in
+    let shift =
+    three.combinedDsShiftOf (r .cone .kind) (alphaOf (r .cone)) (t .hdual) (t .z) (t .grad) (threeOf stepz) (threeOf steps) σμ in
     settle (correctionRows r (length out) stepz steps (allFinite stepz && allFinite steps && finite σμ)) (publishOf out shift) (refuse out)

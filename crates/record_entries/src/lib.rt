@@ -2,8 +2,8 @@
 // disagree. What each does is chosen by the cone's kind before anything else: record_three judges, computes and writes for kinds 1 and 2,
 // record_wide for kind 3.
 ghost use mathlib.Core.Path.{_≡_};
-ghost use Rattle.cone.specs.Refusals.{Lent};
-ghost use Rattle.record_entries.specs.Entries.{gradientPrimalOf, barrierPrimalOf, computeBarrierOf, getHsOf, mulHsOf, higherCorrectionOf, combinedDsShiftOf};
+ghost use Rattle.record_entries.specs.Entries.{gradientPrimalOf, barrierPrimalOf, computeBarrierOf, getHsOf, mulHsOf};
+ghost use Rattle.record_entries.specs.Entries.{higherCorrectionOf, combinedDsShiftOf};
 use cone::Number;
 use cone::Rounds;
 use cone::Scaling;
@@ -83,7 +83,8 @@ pub fn mul_hs(scaling: Scaling, y: &mut [f64], x: &[f64]) -> u32
 // ---- kinds 1 and 2 alone: record_three refuses any other
 
 pub fn higher_correction(scaling: Scaling, eta: &mut [f64], ds: &[f64], v: &[f64]) -> u32
-    ensures { λ r. ⌜ record { answer = r; slice = now (eta .exit) } ≡ higherCorrectionOf scaling (now (eta .entry)) (now (ds .entry)) (now (v .entry)) ⌝ }
+    ensures { λ r. ⌜ record { answer = r; slice = now (eta .exit) }
+        ≡ higherCorrectionOf scaling (now (eta .entry)) (now (ds .entry)) (now (v .entry)) ⌝ }
 {
     let kind = scaling.cone.kind;
     let exps = scaling.cone.exps;
@@ -98,7 +99,8 @@ pub fn combined_ds_shift(
     steps: &[f64],
     sigmamu: f64,
 ) -> u32
-    ensures { λ r. ⌜ record { answer = r; slice = now (shifted .exit) } ≡ combinedDsShiftOf scaling (now (shifted .entry)) (now (stepz .entry)) (now (steps .entry)) sigmamu ⌝ }
+    ensures { λ r. ⌜ record { answer = r; slice = now (shifted .exit) }
+        ≡ combinedDsShiftOf scaling (now (shifted .entry)) (now (stepz .entry)) (now (steps .entry)) sigmamu ⌝ }
 {
     let kind = scaling.cone.kind;
     let exps = scaling.cone.exps;

@@ -7,7 +7,9 @@ use Rattle.cone.specs.declared.Three.{Three}
 use Rattle.cone.proofs.Settled.{no-fault}
 use Rattle.record_three.specs.Entries.{rowsOf}
 
-pub lengths-right : (kind : ℕ) (α : Float) (t : Three) (lengths unscaled finite : Bool) {k : ℕ} → k ≡ rowsOf kind α t lengths unscaled finite
+pub lengths-right
+    : (kind : ℕ) (α : Float) (t : Three) (lengths unscaled finite : Bool) {k : ℕ}
+    → k ≡ rowsOf kind α t lengths unscaled finite
     → k ≡ 0
     → lengths ≡ false
 unfolding rowsOf

@@ -2,8 +2,9 @@
 // numbers of these kinds: so none copies the rest. Each judges its arguments by the table of document 01, computes into locals, and only
 // then writes.
 ghost use mathlib.Core.Path.{_≡_};
-ghost use Rattle.cone.specs.Refusals.{Lent, judgedOf};
-ghost use Rattle.record_three.specs.Entries.{rowsOf, gradientPrimalOf, barrierPrimalOf, computeBarrierOf, getHsOf, mulHsOf, higherCorrectionOf, combinedDsShiftOf};
+ghost use Rattle.cone.specs.Refusals.{judgedOf};
+ghost use Rattle.record_three.specs.Entries.{rowsOf, gradientPrimalOf, barrierPrimalOf, computeBarrierOf, getHsOf, mulHsOf};
+ghost use Rattle.record_three.specs.Entries.{higherCorrectionOf, combinedDsShiftOf};
 use algebra::sym3::mul;
 use cone::Number;
 use cone::Rounds;
@@ -143,7 +144,8 @@ pub fn higher_correction(
     ds: &[f64],
     v: &[f64],
 ) -> u32
-    ensures { λ r. ⌜ record { answer = r; slice = now (eta .exit) } ≡ higherCorrectionOf kind alpha scaled three (now (eta .entry)) (now (ds .entry)) (now (v .entry)) ⌝ }
+    ensures { λ r. ⌜ record { answer = r; slice = now (eta .exit) }
+        ≡ higherCorrectionOf kind alpha scaled three (now (eta .entry)) (now (ds .entry)) (now (v .entry)) ⌝ }
 {
     let lengths = (eta.len() != 3) | (ds.len() != 3) | (v.len() != 3);
     let finite = all_finite(ds) & all_finite(v);
@@ -167,7 +169,8 @@ pub fn combined_ds_shift(
     steps: &[f64],
     sigmamu: f64,
 ) -> u32
-    ensures { λ r. ⌜ record { answer = r; slice = now (shifted .exit) } ≡ combinedDsShiftOf kind alpha scaled three (now (shifted .entry)) (now (stepz .entry)) (now (steps .entry)) sigmamu ⌝ }
+    ensures { λ r. ⌜ record { answer = r; slice = now (shifted .exit) }
+        ≡ combinedDsShiftOf kind alpha scaled three (now (shifted .entry)) (now (stepz .entry)) (now (steps .entry)) sigmamu ⌝ }
 {
     let lengths = (shifted.len() != 3) | (stepz.len() != 3) | (steps.len() != 3);
     let finite = all_finite(stepz) & all_finite(steps) & is_finite(sigmamu);

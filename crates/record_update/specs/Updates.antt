@@ -26,7 +26,9 @@ SameAnswer =
 -- 01: "and returns the scaling record bit for bit". A refused update hands back the record that it was given
 abbrev pub RefusedKeeps : Type 0
 RefusedKeeps =
-    (r : Scaling) (s z : List Float) (μ : Float) (k : ℕ) → (updateScalingOf r s z μ k .code ≡ 0 → ⊥) → updateScalingOf r s z μ k .scaling ≡ r
+    (r : Scaling) (s z : List Float) (μ : Float) (k : ℕ)
+    → (updateScalingOf r s z μ k .code ≡ 0 → ⊥)
+    → updateScalingOf r s z μ k .scaling ≡ r
 
 -- +0 behind the places that kind 3 uses: dim1 + dim2 of z, the gradient and p, dim1 of q and d1, dim2 of r.
 -- r holds the numbers behind the exponents in use; these are dim1, since a cone has 32 places for them.
@@ -50,4 +52,6 @@ pub record Made (old new : Scaling) (μ : Float) : Type 0 where
 
 abbrev pub CompletedMakes : Type 0
 CompletedMakes =
-    (r : Scaling) (s z : List Float) (μ : Float) (k : ℕ) → updateScalingOf r s z μ k .code ≡ 0 → Made r (updateScalingOf r s z μ k .scaling) μ
+    (r : Scaling) (s z : List Float) (μ : Float) (k : ℕ)
+    → updateScalingOf r s z μ k .code ≡ 0
+    → Made r (updateScalingOf r s z μ k .scaling) μ

@@ -10,13 +10,16 @@ use Rattle.cone.proofs.Settled.{no-fault}
 use Rattle.cone.proofs.Lengths.{dim1-at-most, dim2-at-most}
 use Rattle.record_wide.specs.Entries.{rowsIn}
 
-module _ (n m : ℕ) (e : List Float) (w : Wide) (lengths scaled finite : Bool) {k : ℕ} (r : k ≡ rowsIn n m e w lengths scaled finite) (z : k ≡ 0) where
-  pub lengths-right : lengths ≡ false
-  unfolding rowsIn
-  lengths-right = no-fault _ (sym r ∙ z) .length
+module _
+    (n m : ℕ) (e : List Float) (w : Wide) (lengths scaled finite : Bool) {k : ℕ}
+    (r : k ≡ rowsIn n m e w lengths scaled finite) (z : k ≡ 0)
+  where
+    pub lengths-right : lengths ≡ false
+    unfolding rowsIn
+    lengths-right = no-fault _ (sym r ∙ z) .length
 
-  pub small-dims : (n ≤ 32) × (m ≤ 32)
-  unfolding rowsIn
-  small-dims =
-      let ok = not-false _ (no-fault _ (sym r ∙ z) .cone) in
-      (dim1-at-most n m e ok, dim2-at-most n m e ok)
+    pub small-dims : (n ≤ 32) × (m ≤ 32)
+    unfolding rowsIn
+    small-dims =
+        let ok = not-false _ (no-fault _ (sym r ∙ z) .cone) in
+        (dim1-at-most n m e ok, dim2-at-most n m e ok)

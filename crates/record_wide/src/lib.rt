@@ -3,7 +3,7 @@
 ghost use mathlib.Core.Path.{_≡_};
 ghost use Prim.Native.Nat.{_≤_};
 ghost use lib.ListN.{length, take};
-ghost use Rattle.cone.specs.Refusals.{Lent, publishOf};
+ghost use Rattle.cone.specs.Refusals.{publishOf};
 ghost use Rattle.record_wide.specs.Entries.{rowsIn, gradientPrimalOf, barrierPrimalOf, computeBarrierOf, getHsOf, mulHsOf};
 use algebra::vector::head;
 use cone::Number;
@@ -38,7 +38,16 @@ fn rows<'a>(
     scaled: bool,
     finite: bool,
 ) -> u32
-    ensures { λ code. ⌜ code ≡ rowsIn dim1 dim2 (now (exps .entry)) (record { z = now (z .entry); mu = mu; grad = now (grad .entry); p = now (p .entry); q = now (q .entry); r = now (r .entry); d1 = now (d1 .entry); d2 = d2 }) lengths scaled finite ⌝ }
+    ensures { λ code. ⌜ code ≡ rowsIn dim1 dim2 (now (exps .entry)) (record {
+      z = now (z .entry);
+      mu = mu;
+      grad = now (grad .entry);
+      p = now (p .entry);
+      q = now (q .entry);
+      r = now (r .entry);
+      d1 = now (d1 .entry);
+      d2 = d2;
+    }) lengths scaled finite ⌝ }
 {
     first_row(Faults {
         cone: !wide_ok(dim1, dim2, exps),
@@ -52,7 +61,8 @@ fn rows<'a>(
 // As many places as the slice has.
 fn publish_wide(out: &mut [f64], ans: &[f64; 64]) -> u32
     requires { ⌜ length (now out) ≤ 64 ⌝ }
-    ensures { λ r. ⌜ record { answer = r; slice = now (out .exit) } ≡ publishOf (now (out .entry)) (take (length (now (out .entry))) (now (ans .entry))) ⌝ }
+    ensures { λ r. ⌜ record { answer = r; slice = now (out .exit) }
+        ≡ publishOf (now (out .entry)) (take (length (now (out .entry))) (now (ans .entry))) ⌝ }
 {
     let n = out.len();
     publish(out, head(ans, n))

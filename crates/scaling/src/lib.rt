@@ -2,7 +2,8 @@
 // (`update`). Blocks are packed: (0,0),(0,1),(1,1),(0,2),(1,2),(2,2).
 ghost use mathlib.Core.Path.{_≡_};
 ghost use Rattle.algebra.specs.Packed.{scaledOf};
-ghost use Rattle.scaling.specs.Scalings.{measureOf, apart, lessBoth, restAt, crossOf, axisOf, lessAt, frobeniusOf, sumAt, primalDualBlock, updateHsOf};
+ghost use Rattle.scaling.specs.Scalings.{measureOf, apart, primalDualBlock, updateHsOf};
+ghost use Rattle.scaling.specs.Scalings.{frobeniusOf, lessAt, lessBoth, restAt, crossOf, axisOf, sumAt};
 use algebra::sym3::mul;
 use algebra::sym3::norm_fro;
 use algebra::sym3::outer;

@@ -18,7 +18,6 @@ use Rattle.cone.specs.Judges.{allOf, allFinite}
 use Rattle.trials.specs.Trials.{Usable}
 use Rattle.trials.specs.Search.{Problem, Outcome, searchOf}
 use Rattle.search.specs.Points.{trialPoint, allNumbers}
-use Rattle.search.specs.Problems.{problemIn}
 use Rattle.trials.proofs.Trials.{trial-positive}
 use Rattle.trials.proofs.Walk.{trialOf, Ended, passed, failed, ended}
 use Rattle.search.proofs.Settings.{of-true}

@@ -1,6 +1,5 @@
 // The public entries that search along a direction. 01: "Feasibility and step search take a cone and no record, and never give 5, 6 or 7".
 ghost use mathlib.Core.Path.{_≡_};
-ghost use Rattle.cone.specs.Refusals.{Lent, LentTwo};
 ghost use Rattle.search_entries.specs.Entries.{backtrackSearchOf, stepLengthOf};
 
 mod rows;

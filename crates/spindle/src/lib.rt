@@ -2,11 +2,12 @@
 ghost use mathlib.Core.Path.{_≡_};
 ghost use Rattle.kernels.specs.Door.{sqrtOf, logOf, expOf, powfOf};
 ghost use Rattle.cone.specs.Fresh.{houseSettings, houseStrategy};
-ghost use Rattle.cone.specs.Refusals.{Lent, LentTwo};
-ghost use Rattle.cone_entries.specs.Entries.{freshOf, isPrimalFeasibleOf, isDualFeasibleOf, barrierDualOf, dualGradHOf, unitInitializationOf, rectifyEquilibrationOf, affineDsOf, dsFromDzOffsetOf};
+ghost use Rattle.cone_entries.specs.Entries.{freshOf, isPrimalFeasibleOf, isDualFeasibleOf, barrierDualOf, dualGradHOf};
+ghost use Rattle.cone_entries.specs.Entries.{unitInitializationOf, rectifyEquilibrationOf, affineDsOf, dsFromDzOffsetOf};
 ghost use Rattle.search_entries.specs.Entries.{backtrackSearchOf, stepLengthOf};
 ghost use Rattle.record_update.specs.Entries.{updateScalingOf};
-ghost use Rattle.record_entries.specs.Entries.{gradientPrimalOf, barrierPrimalOf, computeBarrierOf, getHsOf, mulHsOf, higherCorrectionOf, combinedDsShiftOf};
+ghost use Rattle.record_entries.specs.Entries.{gradientPrimalOf, barrierPrimalOf, computeBarrierOf, getHsOf, mulHsOf};
+ghost use Rattle.record_entries.specs.Entries.{higherCorrectionOf, combinedDsShiftOf};
 use cone::Cone;
 use cone::DualGrad;
 use cone::Found;
@@ -108,7 +109,8 @@ pub extern "C" fn spindle_backtrack_search(
     point: &mut [f64],
     settings: Settings,
 ) -> Found
-    ensures { λ r. ⌜ record { answer = r; slice = now (point .exit) } ≡ backtrackSearchOf cone primal (now (dq .entry)) (now (q .entry)) (now (point .entry)) settings ⌝ }
+    ensures { λ r. ⌜ record { answer = r; slice = now (point .exit) }
+        ≡ backtrackSearchOf cone primal (now (dq .entry)) (now (q .entry)) (now (point .entry)) settings ⌝ }
 {
     search_entries::backtrack_search(cone, primal, dq, q, point, settings)
 }
@@ -124,21 +126,25 @@ pub extern "C" fn spindle_step_length(
     primalpoint: &mut [f64],
     settings: Settings,
 ) -> Steps
-    ensures { λ r. ⌜ record { answer = r; first = now (dualpoint .exit); second = now (primalpoint .exit) } ≡ stepLengthOf cone (now (dz .entry)) (now (ds .entry)) (now (z .entry)) (now (s .entry)) (now (dualpoint .entry)) (now (primalpoint .entry)) settings ⌝ }
+    ensures { λ r. ⌜ record { answer = r; first = now (dualpoint .exit); second = now (primalpoint .exit) }
+        ≡ stepLengthOf cone (now (dz .entry)) (now (ds .entry)) (now (z .entry)) (now (s .entry)) (now (dualpoint .entry))
+        (now (primalpoint .entry)) settings ⌝ }
 {
     search_entries::step_length(cone, dz, ds, z, s, dualpoint, primalpoint, settings)
 }
 
 #[no_mangle]
 pub extern "C" fn spindle_unit_initialization(cone: Cone, z: &mut [f64], s: &mut [f64]) -> u32
-    ensures { λ r. ⌜ record { answer = r; first = now (z .exit); second = now (s .exit) } ≡ unitInitializationOf cone (now (z .entry)) (now (s .entry)) ⌝ }
+    ensures { λ r. ⌜ record { answer = r; first = now (z .exit); second = now (s .exit) }
+        ≡ unitInitializationOf cone (now (z .entry)) (now (s .entry)) ⌝ }
 {
     cone_entries::unit_initialization(cone, z, s)
 }
 
 #[no_mangle]
 pub extern "C" fn spindle_rectify_equilibration(cone: Cone, delta: &mut [f64], e: &[f64]) -> YesNo
-    ensures { λ r. ⌜ record { answer = r; slice = now (delta .exit) } ≡ rectifyEquilibrationOf cone (now (delta .entry)) (now (e .entry)) ⌝ }
+    ensures { λ r. ⌜ record { answer = r; slice = now (delta .exit) }
+        ≡ rectifyEquilibrationOf cone (now (delta .entry)) (now (e .entry)) ⌝ }
 {
     cone_entries::rectify_equilibration(cone, delta, e)
 }
@@ -157,7 +163,8 @@ pub extern "C" fn spindle_ds_from_dz_offset(
     ds: &[f64],
     z: &[f64],
 ) -> u32
-    ensures { λ r. ⌜ record { answer = r; slice = now (out .exit) } ≡ dsFromDzOffsetOf cone (now (out .entry)) (now (ds .entry)) (now (z .entry)) ⌝ }
+    ensures { λ r. ⌜ record { answer = r; slice = now (out .exit) }
+        ≡ dsFromDzOffsetOf cone (now (out .entry)) (now (ds .entry)) (now (z .entry)) ⌝ }
 {
     cone_entries::ds_from_dz_offset(cone, out, ds, z)
 }
@@ -226,7 +233,8 @@ pub extern "C" fn spindle_higher_correction(
     ds: &[f64],
     v: &[f64],
 ) -> u32
-    ensures { λ r. ⌜ record { answer = r; slice = now (eta .exit) } ≡ higherCorrectionOf scaling (now (eta .entry)) (now (ds .entry)) (now (v .entry)) ⌝ }
+    ensures { λ r. ⌜ record { answer = r; slice = now (eta .exit) }
+        ≡ higherCorrectionOf scaling (now (eta .entry)) (now (ds .entry)) (now (v .entry)) ⌝ }
 {
     record_entries::higher_correction(scaling, eta, ds, v)
 }
@@ -239,7 +247,8 @@ pub extern "C" fn spindle_combined_ds_shift(
     steps: &[f64],
     sigmamu: f64,
 ) -> u32
-    ensures { λ r. ⌜ record { answer = r; slice = now (shifted .exit) } ≡ combinedDsShiftOf scaling (now (shifted .entry)) (now (stepz .entry)) (now (steps .entry)) sigmamu ⌝ }
+    ensures { λ r. ⌜ record { answer = r; slice = now (shifted .exit) }
+        ≡ combinedDsShiftOf scaling (now (shifted .entry)) (now (stepz .entry)) (now (steps .entry)) sigmamu ⌝ }
 {
     record_entries::combined_ds_shift(scaling, shifted, stepz, steps, sigmamu)
 }

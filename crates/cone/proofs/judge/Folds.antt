@@ -1,4 +1,5 @@
--- One turn of a loop that tests every place of a slice, and its end; over any test. `all` is what the loop holds: whether the places behind it passed. Assumes nothing.
+-- One turn of a loop that tests every place of a slice, and its end; over any test. `all` is what the loop holds: whether the places
+-- behind it passed. Assumes nothing.
 use mathlib.Core.Path.{_≡_, sym}
 use mathlib.Core.Bool.{Bool, _&&_, and-assoc, and-true}
 use mathlib.Core.List.{List}

@@ -1,12 +1,13 @@
 -- `newton_raphson_genpowcone` is its definition: the rounds at this kind's equation, from x0 as computed; the ratios stand in the first places of an
 -- array. Assumes nothing.
 use Prim.Native.Nat.{_≤_}
-use mathlib.Core.Path.{_≡_, refl}
+use mathlib.Core.Path.{_≡_}
 use mathlib.Core.List.{List, map}
 use lib.ListN.{length, take}
-use lib.Ieee.{Float, ofBits, add, div}
+use lib.Ieee.{Float}
 use borrow.Author.Needs.{needs}
 use Rattle.newton.specs.Equations.{ratioOf, f0Of, f1Of}
+use Rattle.newton.proofs.Ratios.{ratio-of-nan}
 use Rattle.genpowcone_loops.specs.Places.{wide, ratioAt}
 use Rattle.genpowcone_loops.proofs.Arrays.{map-front}
 use Rattle.genpowcone.specs.PrimalGradient.{x0Of}
@@ -14,8 +15,8 @@ use Rattle.genpowcone.proofs.newton_raphson_genpowcone.Statement.{state
 use Rattle.genpowcone.proofs.newton_raphson_genpowcone.Tie as tie
 
 ratios-front : (xs : List Float) → length xs ≤ 64 → take (length xs) (wide (ratioAt xs) (length xs)) ≡ map ratioOf xs
-unfolding ratioOf ofBits add div
-ratios-front = map-front ratioOf refl
+unfolding ratioOf
+ratios-front = map-front ratioOf ratio-of-nan
 
 abbrev begun : tie.After-ratios → tie.Start
 begun c = c .before .before .before .before

@@ -4,8 +4,6 @@ use Rattle.kinds.specs.Cones.{barrierDualOf}
 use borrow.Author.Needs.{needs}
 use Rattle.kinds.proofs.barrier_dual.Statement.{statement}
 use Rattle.kinds.proofs.barrier_dual.Tie as tie
-use Rattle.genpowcone.proofs.barrier_dual.Reads as barrier-dual-reads′
-use Rattle.powcone.proofs.barrier_dual.Reads as barrier-dual-reads′′
 
 returns : tie.Need-returns
 unfolding barrierDualOf

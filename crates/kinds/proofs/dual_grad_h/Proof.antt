@@ -21,14 +21,26 @@ returns c =
     let emptied = c .before .before in
     let computed = emptied .before in
     let lent = computed .before in
-    simp (eq-eqb _ _ (of-kind-3 lent .if1 .taken), c .attempted .ensures, emptied .no-three .ensures, computed .update-dual-grad-h .ensures, lent .head .ensures)
+    simp (
+      eq-eqb _ _ (of-kind-3 lent .if1 .taken),
+      c .attempted .ensures,
+      emptied .no-three .ensures,
+      computed .update-dual-grad-h .ensures,
+      lent .head .ensures,
+    )
 
 returns-2 : tie.Need-returns-2
 unfolding dualGradHOf
 returns-2 c =
     let computed = c .before .before in
     let taken-out = computed .before in
-    simp (ne-eqb _ _ (taken-out .before .if1 .left), c .attempted2 .ensures, c .before .no-wide .ensures, computed .update-dual-grad-h2 .ensures, taken-out .three-of .ensures)
+    simp (
+      ne-eqb _ _ (taken-out .before .if1 .left),
+      c .attempted2 .ensures,
+      c .before .no-wide .ensures,
+      computed .update-dual-grad-h2 .ensures,
+      taken-out .three-of .ensures,
+    )
 
 pub dual-grad-h-spec : {M : Type 1} → statement M
 dual-grad-h-spec =

@@ -24,7 +24,8 @@ unfolding passesIn
 returns-3 c =
     let arm = c .before .before .before in
     let s = arm .before .before .args in
-    simp (arm .match .keys3) (c .genpow-passes .ensures ∙ ap (λ (α : List Float). genpowPasses α (s .primal) (now (s .point))) (c .before .head .ensures))
+    let in-use = ap (λ (α : List Float). genpowPasses α (s .primal) (now (s .point))) (c .before .head .ensures) in
+    simp (arm .match .keys3) (c .genpow-passes .ensures ∙ in-use)
 
 returns-4 : tie.Need-returns-4
 unfolding passesIn

@@ -4,8 +4,9 @@ use mathlib.Core.Path.{_≡_}
 use lib.ListN.{length}
 use Rattle.arith.specs.Turns.{iter}
 use Rattle.arith.proofs.Turns.{iter-none, iter-next, iter-end}
-use Rattle.newton.specs.Equations.{genF0At, genF0Turn}
-use Rattle.newton.proofs.Ratios.{as-long, ratio-at}
+use Rattle.algebra.proofs.Mapped.{mapped-length, mapped-place}
+use Rattle.newton.specs.Equations.{ratioOf, genF0At, genF0Turn}
+use Rattle.newton.proofs.Ratios.{ratio-of-nan}
 use borrow.Author.Needs.{needs}
 use native.Mathlib.Omega.{arith}
 use Rattle.newton.proofs.genpowcone_f0.Statement.{statement}
@@ -31,14 +32,14 @@ begun c =
 read-ratio : tie.Need-shared-slice-read-log Inv-loop μ-loop
 read-ratio c =
     let start = begun (c .before .before .before) in
-    omega (arith, as-long (start .args .alpha .now) _ (start .pre))
+    omega (arith, mapped-length ratioOf (start .args .alpha .now) _ (start .pre))
 
 loop-again : tie.Need-loop-again Inv-loop μ-loop
 loop-again c =
     let t = c .before in
     let l = t .before .before .before .before in
     let start = begun l in
-    let ratio = ratio-at (start .args .alpha .now) _ (start .pre) (l .loop .i) in
+    let ratio = mapped-place ratioOf (start .args .alpha .now) _ (start .pre) ratio-of-nan (l .loop .i) in
     (l .loop .inv .0, omega arith, rw (t .log2 .ensures, ratio) (iter-next _ _ _ (l .loop .inv .2)))
 
 returns : tie.Need-returns Inv-loop μ-loop

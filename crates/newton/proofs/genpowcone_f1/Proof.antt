@@ -4,8 +4,9 @@ use mathlib.Core.Path.{_≡_}
 use lib.ListN.{length}
 use Rattle.arith.specs.Turns.{iter}
 use Rattle.arith.proofs.Turns.{iter-none, iter-next, iter-end}
-use Rattle.newton.specs.Equations.{genF1, genF1Turn}
-use Rattle.newton.proofs.Ratios.{as-long, ratio-at}
+use Rattle.algebra.proofs.Mapped.{mapped-length, mapped-place}
+use Rattle.newton.specs.Equations.{ratioOf, genF1, genF1Turn}
+use Rattle.newton.proofs.Ratios.{ratio-of-nan}
 use native.Mathlib.Omega.{arith}
 use Rattle.newton.proofs.genpowcone_f1.Statement.{statement}
 use Rattle.newton.proofs.genpowcone_f1.Tie as tie
@@ -23,13 +24,14 @@ loop-holds c = (omega arith, iter-none _ _)
 read-ratio : tie.Need-shared-slice-read-f-2 Inv-loop μ-loop
 read-ratio c =
     let start = c .before .before .before .before in
-    omega (arith, as-long (start .args .alpha .now) _ (start .pre))
+    omega (arith, mapped-length ratioOf (start .args .alpha .now) _ (start .pre))
 
 loop-again : tie.Need-loop-again Inv-loop μ-loop
 loop-again c =
     let turn = c .before .before .before in
     let start = turn .before in
-    (omega arith, rw (ratio-at (start .args .alpha .now) _ (start .pre) (turn .loop .i)) (iter-next _ _ _ (turn .loop .inv .1)))
+    let ratio = mapped-place ratioOf (start .args .alpha .now) _ (start .pre) ratio-of-nan (turn .loop .i) in
+    (omega arith, rw ratio (iter-next _ _ _ (turn .loop .inv .1)))
 
 returns : tie.Need-returns Inv-loop μ-loop
 unfolding genF1

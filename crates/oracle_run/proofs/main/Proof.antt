@@ -1,9 +1,7 @@
 -- `main` is safe and ends: the records left are its measure. Assumes nothing.
 use borrow.Author.Needs.{needs}
-use mathlib.Core.Path.{_≡_, refl}
-use Prim.Native.Nat.{_≤_, _-_}
+use Prim.Native.Nat.{_≤_}
 use native.Mathlib.Omega.{arith}
-use lib.ListN.{length}
 use Rattle.oracle_run.proofs.main.Statement.{statement}
 use Rattle.oracle_run.proofs.main.Tie as tie
 

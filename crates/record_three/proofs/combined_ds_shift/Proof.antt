@@ -10,12 +10,20 @@ use borrow.Author.Needs.{needs}
 use Rattle.record_three.proofs.combined_ds_shift.Statement.{statement}
 use Rattle.record_three.proofs.combined_ds_shift.Tie as tie
 
+-- the call's own numbers are judged first
+abbrev to-judge : tie.After-rows → tie.After-shared-slice-known2
+to-judge c = c .before .before .before .before
+
 abbrev start : tie.After-rows → tie.Start
-start c = c .before .before .before .before .before .before .before
+start c = to-judge c .before .before .before
+
+-- the record's numbers are taken out
+abbrev taken-out : tie.After-combined-ds-shift → tie.After-grad
+taken-out c = c .before .before .before
 
 -- the rows of a call that they let through
 abbrev past : tie.After-combined-ds-shift → tie.Else1
-past c = c .before .before .before .before .before .before
+past c = taken-out c .before .before .before
 
 returns : tie.Need-returns
 unfolding combinedDsShiftOf

@@ -11,7 +11,8 @@ unfolding computeBarrierOf
 returns c =
     let judged = c .before in
     let step = judged .before in
-    refused _ _ _ _ (judged .rows .ensures ∙ ap (rowsOf _ _ _ _ _) (both (step .before .sides-finite .ensures) (step .is-finite .ensures))) (c .if1 .taken)
+    let numbers = both (step .before .sides-finite .ensures) (step .is-finite .ensures) in
+    refused _ _ _ _ (judged .rows .ensures ∙ ap (rowsOf _ _ _ _ _) numbers) (c .if1 .taken)
 
 returns-2 : tie.Need-returns-2
 unfolding computeBarrierOf
@@ -21,7 +22,8 @@ returns-2 c =
     let past = of-s .before .before in
     let judged = past .before in
     let step = judged .before in
-    through _ _ _ _ (judged .rows .ensures ∙ ap (rowsOf _ _ _ _ _) (both (step .before .sides-finite .ensures) (step .is-finite .ensures))) (past .if1 .left)
+    let numbers = both (step .before .sides-finite .ensures) (step .is-finite .ensures) in
+    through _ _ _ _ (judged .rows .ensures ∙ ap (rowsOf _ _ _ _ _) numbers) (past .if1 .left)
     (simp (
       ← of-s .before .three-of .ensures,
       ← of-s .three-of2 .ensures,

@@ -9,8 +9,8 @@ use lib.Ieee.{Float}
 use lib.ListN.{length}
 use Rattle.arith.proofs.Branches.{taken, left}
 use Rattle.cone.specs.declared.Rounds.{Rounds}
-use Rattle.cone.specs.Refusals.{Lent, refuseRounds, publishOf, countedOf, withRounds}
-use Rattle.cone.proofs.Settled.{refused, through}
+use Rattle.cone.specs.Refusals.{Lent, refuseRounds, publishOf, countedOf}
+use Rattle.cone.proofs.Settled.{refused, through, with-count}
 use Rattle.cone.proofs.Lengths.{same-2}
 use Rattle.kinds.specs.declared.three.Gradient.{Gradient}
 use Rattle.record_three.specs.Entries.{rowsOf, published, gradientPrimalOf}
@@ -29,7 +29,7 @@ module _ (old : List Float) (a : Gradient) where
       → record { answer = k; slice = out } ≡ publishOf old (a .g)
       → t ≡ countedOf k (a .rounds)
       → record { answer = t; slice = out } ≡ published old a
-  went-out {out = out} p q t = left _ p (ap (λ (n : Rounds). record { answer = n; slice = out }) t ∙ ap (withRounds (a .rounds)) q)
+  went-out p q t = left _ p (with-count (publishOf old (a .g)) (a .rounds) q t)
 
 -- the rows of a call that they let through
 abbrev past : tie.After-gradient-primal → tie.Else1
@@ -61,7 +61,8 @@ publish-requires c κs =
     let went-on = c .before .before .before .before in
     let judged = past (went-on .before) in
     let a = start (went-on .before) .args in
-    omega (arith, same-2 3 (length (a .g .now)) (length (a .s .now)) (lengths-right _ _ _ _ _ _ (judged .before .rows .ensures) (judged .if1 .left)) .0)
+    let right = lengths-right _ _ _ _ _ _ (judged .before .rows .ensures) (judged .if1 .left) in
+    omega (arith, same-2 3 (length (a .g .now)) (length (a .s .now)) right .0)
 
 returns-3 : tie.Need-returns-3
 returns-3 c =

@@ -10,8 +10,12 @@ use borrow.Author.Needs.{needs}
 use Rattle.record_three.proofs.higher_correction.Statement.{statement}
 use Rattle.record_three.proofs.higher_correction.Tie as tie
 
+-- the call's own numbers are judged first
+abbrev to-judge : tie.After-rows → tie.After-shared-slice-known2
+to-judge c = c .before .before .before
+
 abbrev start : tie.After-rows → tie.Start
-start c = c .before .before .before .before .before .before
+start c = to-judge c .before .before .before
 
 -- the rows of a call that they let through
 abbrev past : tie.After-higher-correction → tie.Else1

@@ -19,7 +19,8 @@ publish-requires c κs =
     let computed = c .before .before in
     let past = computed .before .before .before in
     let a = past .before .before .before .before .before .args in
-    omega (arith, same-2 3 (length (a .y .now)) (length (a .x .now)) (lengths-right _ _ _ _ _ _ (past .before .rows .ensures) (past .if1 .left)) .0)
+    let right = lengths-right _ _ _ _ _ _ (past .before .rows .ensures) (past .if1 .left) in
+    omega (arith, same-2 3 (length (a .y .now)) (length (a .x .now)) right .0)
 
 returns-2 : tie.Need-returns-2
 unfolding mulHsOf

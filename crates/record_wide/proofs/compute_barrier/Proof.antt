@@ -1,7 +1,5 @@
 -- A call that its rows refuse leaves with their number, one that they let through with the finished barrier. Assumes nothing.
-use mathlib.Core.Path.{_≡_, _∙_, ap}
-use mathlib.Core.List.{List}
-use Prim.Native.Nat.{_≤_}
+use mathlib.Core.Path.{_∙_, ap}
 use native.Mathlib.Omega.{arith}
 use lib.ListN.{length}
 use Rattle.cone.specs.Refusals.{numberOf}
@@ -13,9 +11,13 @@ use borrow.Author.Needs.{needs}
 use Rattle.record_wide.proofs.compute_barrier.Statement.{statement}
 use Rattle.record_wide.proofs.compute_barrier.Tie as tie
 
--- the call's own numbers, which are judged before the record is lent to the rows
+-- of the record, its exponents, z and gradient are lent to the rows so far
+abbrev lending : tie.After-rows → tie.After-rows-arg3
+lending c = c .before .before .before .before .before
+
+-- the call's own numbers, which are judged before that
 abbrev numbers : tie.After-rows → tie.After-is-finite
-numbers c = c .before .before .before .before .before .before .before .before .before
+numbers c = lending c .before .before .before .before
 
 returns : tie.Need-returns
 unfolding computeBarrierOf
@@ -28,7 +30,8 @@ compute-barrier-requires : tie.Need-compute-barrier-requires
 compute-barrier-requires c κs =
     let past = c .before .before .before in
     let judged = past .before in
-    let a = numbers judged .before .before .before .before .before .before .args in
+    let slices-known = numbers judged .before .before in
+    let a = slices-known .before .before .before .before .args in
     let small = small-dims _ _ _ _ _ _ _ (judged .rows .ensures) (past .if1 .left) in
     let right = lengths-right _ _ _ _ _ _ _ (judged .rows .ensures) (past .if1 .left) in
     let same = same-4 (dims (a .t1)) (length (a .z .now)) (length (a .s .now)) (length (a .dz .now)) (length (a .ds .now)) right in

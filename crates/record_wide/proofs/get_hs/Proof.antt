@@ -9,9 +9,12 @@ use borrow.Author.Needs.{needs}
 use Rattle.record_wide.proofs.get_hs.Statement.{statement}
 use Rattle.record_wide.proofs.get_hs.Tie as tie
 
--- the record is lent to the rows
+-- of the record, its exponents, z and gradient are lent to the rows so far
+abbrev lending : tie.After-rows → tie.After-rows-arg3
+lending c = c .before .before .before .before .before
+
 abbrev start : tie.After-rows → tie.Start
-start c = c .before .before .before .before .before .before .before .before .before .before
+start c = lending c .before .before .before .before .before
 
 returns : tie.Need-returns
 unfolding getHsOf

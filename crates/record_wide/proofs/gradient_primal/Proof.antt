@@ -1,30 +1,24 @@
 -- A call that its rows refuse leaves with their number, one that they let through publishes the gradient with its count. Assumes nothing.
-use mathlib.Core.Path.{_≡_, _∙_, ap}
-use mathlib.Core.List.{List}
-use Prim.Native.Nat.{ℕ, _≤_}
+use mathlib.Core.Path.{_∙_, ap}
+use Prim.Native.Nat.{_≤_}
 use native.Mathlib.Omega.{arith}
-use lib.Ieee.{Float}
 use lib.ListN.{length, take}
-use Rattle.cone.specs.declared.Rounds.{Rounds}
-use Rattle.cone.specs.Refusals.{publishOf, countedOf, withRounds}
-use Rattle.cone.proofs.Settled.{refused, through}
+use Rattle.cone.specs.Refusals.{publishOf}
+use Rattle.cone.proofs.Settled.{refused, through, with-count}
 use Rattle.cone.proofs.Lengths.{same-2}
-use Rattle.genpowcone.specs.declared.Gradient.{Gradient}
 use Rattle.record_wide.specs.Entries.{dims, rowsIn, gradientPrimalOf}
 use Rattle.record_wide.proofs.Judging.{lengths-right, small-dims}
 use borrow.Author.Needs.{needs}
 use Rattle.record_wide.proofs.gradient_primal.Statement.{statement}
 use Rattle.record_wide.proofs.gradient_primal.Tie as tie
 
-went-out : (old : List Float) (a : Gradient) {k : ℕ} {out : List Float} {t : Rounds}
-    → record { answer = k; slice = out } ≡ publishOf old (take (length old) (a .g))
-    → t ≡ countedOf k (a .rounds)
-    → record { answer = t; slice = out } ≡ withRounds (a .rounds) (publishOf old (take (length old) (a .g)))
-went-out old a {out = out} q t = ap (λ (n : Rounds). record { answer = n; slice = out }) t ∙ ap (withRounds (a .rounds)) q
+-- of the record, its exponents, z and gradient are lent to the rows so far
+abbrev lending : tie.After-rows → tie.After-rows-arg3
+lending c = c .before .before .before .before .before
 
--- the call's own numbers, which are judged before the record is lent to the rows
+-- the call's own numbers, which are judged before that
 abbrev numbers : tie.After-rows → tie.After-all-finite
-numbers c = c .before .before .before .before .before .before .before .before .before
+numbers c = lending c .before .before .before .before
 
 abbrev start : tie.After-rows → tie.Start
 start c = numbers c .before .before .before
@@ -54,9 +48,11 @@ returns-2 c =
     let computed = published .before .before .before .before in
     let past = computed .before .before .before .before in
     let judged = past .before in
+    let old = start judged .args .g .now in
+    let a = computed .gradient-primal .result in
     through _ _ _ _ (judged .rows .ensures ∙ ap (rowsIn _ _ _ _ _ _) (numbers judged .all-finite .ensures)) (past .if1 .left)
     (simp (← computed .gradient-primal .ensures)
-    (went-out (start judged .args .g .now) (computed .gradient-primal .result) (published .publish-wide .ensures) (c .counted .ensures)))
+    (with-count (publishOf old (take (length old) (a .g))) (a .rounds) (published .publish-wide .ensures) (c .counted .ensures)))
 
 pub gradient-primal-spec : {M : Type 1} → statement M
 gradient-primal-spec =

@@ -13,9 +13,12 @@ use Rattle.search_entries.proofs.step_length.Tie as tie
 both : {d d' p p' : Outcome} → d ≡ d' → p ≡ p' → bothFound d p ≡ bothFound d' p'
 both {d' = d'} {p = p} e f = ap (λ (o : Outcome). bothFound o p) e ∙ ap (bothFound d') f
 
--- the rows were asked
+-- the slices that are only read are known; those that are written follow, then the rows
+abbrev read : tie.After-step-rows → tie.After-shared-slice-known4
+read c = c .before .before .before
+
 abbrev start : tie.After-step-rows → tie.Start
-start c = c .before .before .before .before .before .before .before
+start c = read c .before .before .before .before
 
 -- they let the call through, and the dual search is about to begin
 abbrev let-through : tie.After-backtrack-search-arg2 → tie.Else1

@@ -22,7 +22,8 @@ loop-again : tie.Need-loop-again Inv-loop μ-loop
 loop-again c =
     let xs = c .before .before .before .before .before .args .xs .now in
     let at-i = c .before .before .before .loop in
-    (omega arith, refl, at-i .inv .2 ∙ all-next finite xs (at-i .i) (at-i .all) (omega arith) ∙ ap (λ (t : Bool). at-i .all && t && allOf finite (drop (at-i .i + 1) xs)) (sym (c .is-finite .ensures)))
+    let judged = ap (λ (t : Bool). at-i .all && t && allOf finite (drop (at-i .i + 1) xs)) (sym (c .is-finite .ensures)) in
+    (omega arith, refl, at-i .inv .2 ∙ all-next finite xs (at-i .i) (at-i .all) (omega arith) ∙ judged)
 
 returns : tie.Need-returns Inv-loop μ-loop
 returns c = sym (c .before .loop .inv .2 ∙ all-ended finite _ (c .before .loop .i) (c .before .loop .all) (omega arith))

@@ -8,8 +8,9 @@ use Rattle.cone.proofs.judge.record_finite.Tie as tie
 returns : tie.Need-returns
 unfolding recordFinite
 returns c =
-    let lent = c .before .before .before .before .before .before in
-    simp (eq-eqb _ _ (lent .before .before .if1 .taken)) (c .wide-finite .ensures)
+    let grad-lent = c .before .before .before .before .before in
+    let of-kind-3 = grad-lent .before .before .before in
+    simp (eq-eqb _ _ (of-kind-3 .if1 .taken)) (c .wide-finite .ensures)
 
 returns-2 : tie.Need-returns-2
 unfolding recordFinite

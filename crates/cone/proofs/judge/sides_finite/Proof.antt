@@ -5,9 +5,8 @@ use Rattle.cone.proofs.judge.sides_finite.Tie as tie
 
 returns : tie.Need-returns
 returns c =
-    let at-all-finite2 = c .before .before in
-    let at-all-finite = at-all-finite2 .before in
-    simp (at-all-finite .all-finite .ensures, at-all-finite2 .all-finite2 .ensures, c .before .all-finite3 .ensures, c .all-finite4 .ensures)
+    let second = c .before .before in
+    simp (second .before .all-finite .ensures, second .all-finite2 .ensures, c .before .all-finite3 .ensures, c .all-finite4 .ensures)
 
 pub sides-finite-spec : {M : Type 1} → statement M
 sides-finite-spec =

@@ -1,5 +1,4 @@
 -- `sum_ok` compares as its definition does. Assumes nothing.
-use mathlib.Core.Path.{sym}
 use borrow.Author.Needs.{needs}
 use Rattle.cone.proofs.judge.sum_ok.Statement.{statement}
 use Rattle.cone.proofs.judge.sum_ok.Tie as tie

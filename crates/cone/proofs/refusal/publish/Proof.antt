@@ -9,7 +9,11 @@ use Rattle.cone.proofs.refusal.publish.Tie as tie
 
 returns : tie.Need-returns
 unfolding publishOf
-returns c = simp (sym (c .before .before .before .before .before .all-finite .ensures) ∙ c .before .before .before .before .if1 .taken) (ap (λ (l : List Float). record { answer = 0; slice = l }) (c .before .before .store .ensures))
+returns c =
+    let stored = c .before .before in
+    let all-finite = stored .before .before in
+    simp (sym (all-finite .before .all-finite .ensures) ∙ all-finite .if1 .taken)
+    (ap (λ (l : List Float). record { answer = 0; slice = l }) (stored .store .ensures))
 
 returns-2 : tie.Need-returns-2
 unfolding publishOf

@@ -6,7 +6,16 @@ use Rattle.cone.proofs.refusal.publish_two.Tie as tie
 
 returns : tie.Need-returns
 unfolding publishTwoOf
-returns c = simp (simp (c .before .before .before .before .before .before .before .before .before .before .all-finite .ensures, c .before .before .before .before .before .before .before .before .before .all-finite2 .ensures) at (c .before .before .before .before .before .before .before .before .if1 .taken), c .before .before .before .before .before .before .store .ensures, c .before .before .store2 .ensures)
+returns c =
+    let both-stored = c .before .before in
+    let first-stored = both-stored .before .before .before .before in
+    let both-finite = first-stored .before .before in
+    let judged = both-finite .before in
+    simp (
+      simp (judged .before .all-finite .ensures, judged .all-finite2 .ensures) at (both-finite .if1 .taken),
+      first-stored .store .ensures,
+      both-stored .store2 .ensures,
+    )
 
 returns-2 : tie.Need-returns-2
 unfolding publishTwoOf

@@ -15,18 +15,22 @@ abbrev μ-loop : tie.MeasureT-loop
 μ-loop out₀ ans i₀ i-end out i = length out₀ - i
 
 loop-again : tie.Need-loop-again Inv-loop μ-loop
-loop-again c = (
-  omega arith,
-  refl,
-  simp length-set (c .before .before .loop .inv .2),
-  fill-more (c .before .before .loop .out) (c .before .before .before .args .ans .now) (c .before .before .loop .i) _ nan (omega arith) (omega arith) (c .before .before .loop .inv .3) refl,
-)
+loop-again c =
+    let ans = c .before .before .before .args .ans .now in
+    let at-i = c .before .before .loop in (
+      omega arith,
+      refl,
+      simp length-set (at-i .inv .2),
+      fill-more (at-i .out) ans (at-i .i) _ nan (omega arith) (omega arith) (at-i .inv .3) refl,
+    )
 
 same-length : tie.Need-same-length Inv-loop μ-loop
 same-length c = c .before .loop .inv .2
 
 returns : tie.Need-returns Inv-loop μ-loop
-returns c = fill-end (c .before .loop .out) (c .before .before .args .ans .now) (c .before .loop .i) (omega arith) (omega arith) (c .before .loop .inv .3)
+returns c =
+    let at-end = c .before .loop in
+    fill-end (at-end .out) (c .before .before .args .ans .now) (at-end .i) (omega arith) (omega arith) (at-end .inv .3)
 
 pub store-spec : {M : Type 1} → statement M
 store-spec =

@@ -8,9 +8,10 @@ use borrow.Author.Needs.{needs}
 use Rattle.arith.proofs.Turns.{iter-end, iter-next, iter-none}
 use Rattle.arith.specs.Turns.{iter}
 use Rattle.double.specs.Numbers.{#1}
-use Rattle.kernels.specs.Door.{powfOf}
+use Rattle.kernels.specs.Door.{logOf, powfOf}
+use Rattle.algebra.proofs.Mapped.{mapped-length, mapped-place}
 use Rattle.genpowcone_loops.specs.Folds.{primalPhi, primalPhiTurn}
-use Rattle.genpowcone_loops.proofs.Logarithms.{logs-as-long, log-at}
+use Rattle.genpowcone_loops.proofs.Arrays.{log-of-nan}
 use Rattle.genpowcone_loops.proofs.folds.primal_phi.Statement.{statement}
 use Rattle.genpowcone_loops.proofs.folds.primal_phi.Tie as tie
 
@@ -32,14 +33,14 @@ begun c = c .before .before .before .before .before
 read-log : tie.Need-shared-slice-read-power-3 Inv-loop μ-loop
 read-log c =
     let start = begun (c .before .before .before .before) in
-    omega (arith, logs-as-long (start .args .p .now) _ (start .pre))
+    omega (arith, mapped-length logOf (start .args .p .now) _ (start .pre))
 
 loop-again : tie.Need-loop-again Inv-loop μ-loop
 unfolding powfOf
 loop-again c =
     let turn = c .before .before .before .before .before in
     let start = begun turn in
-    let given = log-at (start .args .p .now) _ (start .pre) (turn .loop .i) in
+    let given = mapped-place logOf (start .args .p .now) _ (start .pre) log-of-nan (turn .loop .i) in
     (turn .loop .inv .0, omega arith, rw (c .power .ensures, given) (iter-next _ _ _ (turn .loop .inv .2)))
 
 returns : tie.Need-returns Inv-loop μ-loop

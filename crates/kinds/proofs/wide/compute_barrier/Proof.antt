@@ -7,7 +7,8 @@ use Rattle.kinds.proofs.wide.compute_barrier.Tie as tie
 
 compute-barrier-requires : tie.Need-compute-barrier-requires
 compute-barrier-requires c κs =
-    let start = c .before .before .before .before .before .before .before .before in
+    let slices-known = c .before .before .before .before in
+    let start = slices-known .before .before .before .before in
     (parts-fit _ _ _ _ (start .pre .0) (start .pre .1) (c .before .before .head .ensures) (c .head2 .ensures), start .pre .2, start .pre .3)
 
 returns : tie.Need-returns

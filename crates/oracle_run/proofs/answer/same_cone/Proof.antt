@@ -1,9 +1,7 @@
 -- `same_cone` is safe and ends: the loop's place stays at most 32, and the places left are its measure. Assumes nothing.
 use borrow.Author.Needs.{needs}
-use mathlib.Core.Path.{_≡_, refl}
 use Prim.Native.Nat.{_≤_, _-_}
 use native.Mathlib.Omega.{arith}
-use lib.ListN.{length}
 use Rattle.oracle_run.proofs.answer.same_cone.Statement.{statement}
 use Rattle.oracle_run.proofs.answer.same_cone.Tie as tie
 

@@ -8,7 +8,7 @@ use native.Mathlib.Omega.{arith}
 use lib.Ieee.{Float}
 use Rattle.cone.specs.declared.Rounds.{Rounds}
 use Rattle.cone.specs.declared.refusal.Faults.{Faults}
-use Rattle.cone.specs.Refusals.{firstRow, settle, Lent, countedOf, withRounds}
+use Rattle.cone.specs.Refusals.{firstRow, traceRow, settle, Lent, countedOf, withRounds}
 
 pub refused : {A : Type 0} (k r : ℕ) (d : A) (f : ℕ → A) → r ≡ k → (r ≡ 0 → ⊥) → f r ≡ settle k d f
 unfolding settle
@@ -56,3 +56,10 @@ no-fault f e₁ =
     let below₄ = row-off (f .setting) 4 _ (omega arith) (below₃ .1) in
     let below₅ = row-off (f .unscaled) 5 0 (omega arith) (below₄ .1) in
     record { cone = below₁ .0; length = below₂ .0; number = below₃ .0; setting = below₄ .0; unscaled = below₅ .0 }
+
+-- the same of a call on a trace
+pub trace-row-off : (broken full : Bool) → traceRow broken full ≡ 0 → (broken ≡ false) × (full ≡ false)
+unfolding traceRow
+trace-row-off broken full e =
+    let below = row-off broken 9 _ (omega arith) e in
+    (below .0, row-off full 8 0 (omega arith) (below .1) .0)

@@ -28,6 +28,11 @@ firstRow f =
     (cond (f .unscaled) 5
     0))))
 
+-- 02, Order 1: "Refusals, the only ones here: 9 a trace or record that breaks the layout; then 8 no room for record plus list plus trailer, or 4,096
+-- records already. Both follow 4."
+unfoldable pub traceRow : Bool → Bool → ℕ
+traceRow broken full = cond broken 9 (cond full 8 0)
+
 -- ---- the rows' tests
 
 -- 1: "bad cone: kind is not 1 (exponential), 2 (power), 3 (generalized)" and what follows there

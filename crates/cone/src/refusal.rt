@@ -2,7 +2,7 @@
 // and lends them to `publish`, which judges row 7 and only then writes.
 ghost use mathlib.Core.Path.{_≡_};
 ghost use lib.ListN.{length};
-ghost use Rattle.cone.specs.Refusals.{firstRow, publishOf, publishTwoOf, numberOf, countedOf, lastRows};
+ghost use Rattle.cone.specs.Refusals.{firstRow, traceRow, publishOf, publishTwoOf, numberOf, countedOf, lastRows};
 use crate::Attempt;
 use crate::Number;
 use crate::Rounds;
@@ -38,6 +38,19 @@ pub fn first_row(faults: Faults) -> u32
     }
     if faults.unscaled {
         return 5;
+    }
+    0
+}
+
+// The table for a call on a trace, which these two rows alone can refuse: what breaks the layout, and then what has no room.
+pub fn trace_row(broken: bool, full: bool) -> u32
+    ensures { λ r. ⌜ r ≡ traceRow broken full ⌝ }
+{
+    if broken {
+        return 9;
+    }
+    if full {
+        return 8;
     }
     0
 }

@@ -1,0 +1,32 @@
+-- A record that is laid out with the shape that was read is laid out. Assumes nothing.
+use mathlib.Core.Path.{_≡_, sym, ap, _∙_}
+use Prim.Native.Nat.{ℕ}
+use mathlib.Core.Bool.{Bool, true, false}
+use mathlib.Core.List.{List}
+use native.Mathlib.Omega.{arith}
+use lib.Dec.{leb}
+use borrow.Author.Tests.{le-leb}
+use Rattle.trace.specs.declared.Shape.{Shape}
+use Rattle.trace.specs.declared.Found.the-variants.{Record, Broken}
+use Rattle.trace_layout.specs.Records.{kindAt, dim1At, dim2At, flagAt, sizeAt, laidAt}
+use Rattle.trace.specs.Shapes.{shapeAt, laidWith, foundAt}
+use Rattle.trace_layout.proofs.Records.{size-least}
+
+pub laid-with-shape : (e : ℕ) (t : List ℕ) → laidWith t (shapeAt e t) ≡ laidAt e t
+unfolding laidWith shapeAt laidAt
+laid-with-shape e t =
+    let long : leb 24 (sizeAt e t) ≡ true =
+    le-leb 24 (sizeAt e t) (omega (arith, size-least e (kindAt t) (dim1At t) (dim2At t) (flagAt e t))) in
+    rw long
+
+module _ (e : ℕ) (t : List ℕ) (shape : Shape) (read : shape ≡ shapeAt e t) (laid : Bool) (tested : laid ≡ laidWith t shape) where
+  tested-laid : laid ≡ laidAt e t
+  tested-laid = tested ∙ ap (laidWith t) read ∙ laid-with-shape e t
+
+  pub found-record : laid ≡ true → Record shape ≡ foundAt e t
+  unfolding foundAt
+  found-record h = rw (sym tested-laid ∙ h, read)
+
+  pub found-broken : laid ≡ false → Broken ≡ foundAt e t
+  unfolding foundAt
+  found-broken h = rw (sym tested-laid ∙ h)

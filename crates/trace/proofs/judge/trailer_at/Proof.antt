@@ -1,0 +1,27 @@
+-- `trailer_at` meets its contract: each number is read once. Assumes nothing.
+use Rattle.trace.specs.Opening.{trailerAt}
+use borrow.Author.Needs.{needs}
+use Rattle.trace.proofs.judge.trailer_at.Statement.{statement}
+use Rattle.trace.proofs.judge.trailer_at.Tie as tie
+
+returns : tie.Need-returns
+unfolding trailerAt
+returns c =
+    rw (
+      c .u32-at3 .ensures,
+      c .before .less4 .ensures,
+      c .before .before .u32-at2 .ensures,
+      c .before .before .before .less3 .ensures,
+      c .before .before .before .before .u32-at .ensures,
+      c .before .before .before .before .before .less2 .ensures,
+      c .before .before .before .before .before .before .u64-at .ensures,
+      c .before .before .before .before .before .before .before .less .ensures,
+    )
+
+pub trailer-at-spec : {M : Type 1} → statement M
+trailer-at-spec =
+    tie.close
+    (tie.spec
+    (λ c κs. search needs) (λ c κs. search needs) (λ c κs. search needs) (λ c κs. search needs) (λ c κs. search needs)
+    (λ c κs. search needs) (λ c κs. search needs) (λ c κs. search needs)
+    returns)

@@ -1,0 +1,49 @@
+-- `flag_place` meets its contract: no sum wraps, since a dim has 32 bits. Assumes nothing.
+use Prim.Native.Nat.{_^_}
+use native.Mathlib.Omega.{arith}
+use Rattle.trace_layout.specs.Records.{flagPlace}
+use Rattle.trace_layout.proofs.Records.{rules-most, exponents-most}
+use borrow.Author.Needs.{needs}
+use Rattle.trace.proofs.layout.flag_place.Statement.{statement}
+use Rattle.trace.proofs.layout.flag_place.Tie as tie
+
+mul-result : tie.Need-mul-result
+mul-result c = omega (arith, c .rules-in .ensures, rules-most (c .before .args .edition))
+
+add-result : tie.Need-add-result
+add-result c = omega (arith, c .rules-in .ensures, rules-most (c .before .args .edition))
+
+mul-result-2 : tie.Need-mul-result-2
+mul-result-2 c =
+    omega (
+      arith,
+      c .exponents .ensures,
+      exponents-most (c .before .before .args .kind) (c .before .before .args .dim1) (2 ^ 32)
+          (search needs) (search needs),
+    )
+
+add-result-2 : tie.Need-add-result-2
+add-result-2 c =
+    omega (
+      arith,
+      c .before .rules-in .ensures,
+      rules-most (c .before .before .args .edition),
+      c .exponents .ensures,
+      exponents-most (c .before .before .args .kind) (c .before .before .args .dim1) (2 ^ 32) (search needs) (search needs),
+    )
+
+returns : tie.Need-returns
+unfolding flagPlace
+returns c = omega (arith, c .exponents .ensures, c .before .rules-in .ensures)
+
+pub flag-place-spec : {M : Type 1} → statement M
+flag-place-spec =
+    tie.close
+    (tie.spec
+    (λ c κs. search needs)
+    mul-result
+    add-result
+    (λ c κs. search needs)
+    mul-result-2
+    add-result-2
+    returns)

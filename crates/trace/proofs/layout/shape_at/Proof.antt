@@ -1,0 +1,25 @@
+-- `shape_at` meets its contract: each number is read once. Assumes nothing.
+use Rattle.trace.specs.Shapes.{shapeAt}
+use borrow.Author.Needs.{needs}
+use Rattle.trace.proofs.layout.shape_at.Statement.{statement}
+use Rattle.trace.proofs.layout.shape_at.Tie as tie
+
+returns : tie.Need-returns
+unfolding shapeAt
+returns c =
+    rw (
+      c .size-for .ensures,
+      c .before .u32-at4 .ensures,
+      c .before .before .flag-place .ensures,
+      c .before .before .before .u32-at3 .ensures,
+      c .before .before .before .before .u32-at2 .ensures,
+      c .before .before .before .before .before .u32-at .ensures,
+    )
+
+pub shape-at-spec : {M : Type 1} → statement M
+shape-at-spec =
+    tie.close
+    (tie.spec
+    (λ c κs. search needs) (λ c κs. search needs) (λ c κs. search needs) (λ c κs. search needs) (λ c κs. search needs)
+    (λ c κs. search needs)
+    returns)

@@ -1,0 +1,84 @@
+-- `size_for` meets its contract: no sum wraps, since a dim has 32 bits. Assumes nothing.
+use Prim.Native.Nat.{_^_}
+use native.Mathlib.Omega.{arith}
+use Rattle.words.specs.Runs.{runsSize}
+use Rattle.trace_layout.specs.Records.{runsFor}
+use Rattle.trace_layout.proofs.Records.{rules-most, exponents-most, settings-most}
+use borrow.Author.Needs.{needs}
+use Rattle.trace.proofs.layout.size_for.Statement.{statement}
+use Rattle.trace.proofs.layout.size_for.Tie as tie
+
+mul-result : tie.Need-mul-result
+mul-result c = omega (arith, c .rules-in .ensures, rules-most (c .before .args .edition))
+
+add-result : tie.Need-add-result
+add-result c = omega (arith, c .rules-in .ensures, rules-most (c .before .args .edition))
+
+mul-result-2 : tie.Need-mul-result-2
+mul-result-2 c =
+    omega (
+      arith,
+      c .exponents .ensures,
+      exponents-most (c .before .before .args .kind) (c .before .before .args .dim1) (2 ^ 32)
+          (search needs) (search needs),
+    )
+
+add-result-2 : tie.Need-add-result-2
+add-result-2 c =
+    omega (
+      arith,
+      c .before .rules-in .ensures,
+      rules-most (c .before .before .args .edition),
+      c .exponents .ensures,
+      exponents-most (c .before .before .args .kind) (c .before .before .args .dim1) (2 ^ 32) (search needs) (search needs),
+    )
+
+mul-result-3 : tie.Need-mul-result-3
+mul-result-3 c = omega (arith, c .settings-in .ensures, settings-most (c .before .before .before .args .flag))
+
+add-result-3 : tie.Need-add-result-3
+add-result-3 c =
+    omega (
+      arith,
+      c .before .before .rules-in .ensures,
+      rules-most (c .before .before .before .args .edition),
+      c .before .exponents .ensures,
+      exponents-most (c .before .before .before .args .kind) (c .before .before .before .args .dim1) (2 ^ 32)
+          (search needs) (search needs),
+      c .settings-in .ensures,
+      settings-most (c .before .before .before .args .flag),
+    )
+
+add-result-5 : tie.Need-add-result-5
+add-result-5 c =
+    omega (
+      arith,
+      c .before .before .rules-in .ensures,
+      rules-most (c .before .before .before .args .edition),
+      c .before .exponents .ensures,
+      exponents-most (c .before .before .before .args .kind) (c .before .before .before .args .dim1) (2 ^ 32)
+          (search needs) (search needs),
+      c .settings-in .ensures,
+      settings-most (c .before .before .before .args .flag),
+    )
+
+returns : tie.Need-returns
+unfolding runsFor runsSize
+returns c = omega (arith, c .settings-in .ensures, c .before .exponents .ensures, c .before .before .rules-in .ensures)
+
+pub size-for-spec : {M : Type 1} → statement M
+size-for-spec =
+    tie.close
+    (tie.spec
+    (λ c κs. search needs)
+    mul-result
+    add-result
+    (λ c κs. search needs)
+    mul-result-2
+    add-result-2
+    (λ c κs. search needs)
+    mul-result-3
+    add-result-3
+    (λ c. search needs) (λ c. search needs)
+    add-result-5
+    returns)

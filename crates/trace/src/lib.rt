@@ -1,0 +1,45 @@
+// A trace of step searches: records from byte 0, the list of their offsets, and a trailer that points back to the list. 02, Order 1.
+pub mod judge;
+pub mod layout;
+
+// `STEP` and `BACK`, as numbers of four bytes.
+pub const STEP_MARK: u32 = 0x50455453;
+
+pub const BACK_MARK: u32 = 0x4b434142;
+
+// 02: "edition (u32, now 1)"
+pub const NEWEST_EDITION: u32 = 1;
+
+// 02: "At most 4,096 records"
+pub const MOST_RECORDS: u32 = 4096;
+
+// The numbers that a record's parts depend on, and its whole length.
+pub struct Shape {
+    pub kind: u32,
+    pub dim1: u32,
+    pub dim2: u32,
+    pub flag: u32,
+    pub size: usize,
+}
+
+// What stands at a place.
+pub enum Found {
+    Record(Shape),
+    Broken,
+}
+
+// What the last twenty bytes say.
+pub struct Trailer {
+    pub list: u64,
+    pub count: u32,
+    pub edition: u32,
+    pub mark: u32,
+}
+
+// A trace that was judged: 0 or 9, its edition and count, and where its records end.
+pub struct Opened {
+    pub code: u32,
+    pub edition: u32,
+    pub count: u32,
+    pub list: u64,
+}

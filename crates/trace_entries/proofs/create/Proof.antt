@@ -1,0 +1,29 @@
+use Rattle.words.specs.Words.{le}
+use Rattle.words.specs.Runs.{runsBytes}
+use Prim.Native.Nat.{ℕ}
+use mathlib.Core.List.{List}
+use lib.ListN.{length}
+use Rattle.trace_entries.specs.Writing.{createOf}
+use Rattle.words.specs.Words.{rowBytes}
+use Rattle.trace_layout.specs.Traces.{newestEdition, recordsBytes, offsetsFrom, traceOf, trailerOf}
+use lib.Seq.{sets-eq}
+use mathlib.Core.Path.{ap, _∙_}
+use borrow.Author.Tests.{lt-ltb, le-ltb}
+use borrow.Author.Needs.{needs}
+use Rattle.trace_entries.proofs.create.Statement.{statement}
+use Rattle.trace_entries.proofs.create.Tie as tie
+
+returns : tie.Need-returns
+unfolding createOf
+returns c = rw (lt-ltb _ _ (c .if1 .taken))
+
+returns-2 : tie.Need-returns-2
+unfolding createOf traceOf recordsBytes offsetsFrom rowBytes trailerOf runsBytes le
+returns-2 c =
+    let bs = c .before .before .before .before .before .before .args .trace .now in
+    rw (le-ltb _ _ (c .before .before .before .before .if1 .left))
+    (ap (λ (l : List ℕ). record { answer = record { code = 0; length = 20 }; bytes = l })
+    (c .before .before .put-trailer .ensures ∙ sets-eq (trailerOf 0 0 newestEdition) bs 0 (c .before .before .before .before .if1 .left)))
+
+pub create-spec : {M : Type 1} → statement M
+create-spec = tie.close (tie.spec returns (λ c κs. search needs) (λ c. search needs) returns-2)

@@ -1,0 +1,5 @@
+pub mod Opened
+pub mod Given
+pub mod Writing
+pub mod Places
+pub mod Values

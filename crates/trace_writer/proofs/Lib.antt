@@ -1,0 +1,4 @@
+-- Laws of the writer.
+pub mod Bits
+pub mod Parts
+pub mod Agree

@@ -1,0 +1,80 @@
+-- What is handed to the writer, as a record. Definitions only.
+use Prim.Native.Nat.{ℕ, _+_, _*_}
+use mathlib.Core.List.{List, [], _∷_, _++_, map}
+use lib.ListN.{take, drop, replicate}
+use lib.Seq.{sets}
+use lib.Ieee.{Float, binary64, toBits}
+use Rattle.words.specs.Words.{le, rowBytes}
+use Rattle.trace_layout.specs.Records.{Record, stepMark, rulesIn, settingsIn, runsFor}
+use Rattle.words.specs.Runs.{runsSize}
+use Rattle.trace_layout.specs.Traces.{trailerOf}
+use Rattle.trace_writer.specs.declared.Entry.{Entry}
+use Rattle.trace_writer.specs.declared.Place.{Place}
+
+-- a vector as numbers: the bits of each double
+abbrev pub bitsOf : List Float → List ℕ
+bitsOf xs = map (toBits binary64) xs
+
+-- "the four bytes `STEP`, whole record length, kind, dim1, dim2"
+abbrev pub headRow : ℕ → Entry → List ℕ
+headRow size x = stepMark ∷ size ∷ x .kind ∷ x .dim1 ∷ x .dim2 ∷ []
+
+abbrev pub ruleRow : ℕ → ℕ → List ℕ
+ruleRow edition rule = replicate (rulesIn edition) rule
+
+-- the settings that follow the flag
+abbrev pub settingsRow : Entry → List ℕ
+settingsRow x = take (settingsIn (x .flag)) (x .step ∷ x .smallest ∷ [])
+
+abbrev pub searchBytes : Entry → List ℕ
+searchBytes x = le 8 (x .start) ++ (le 4 (x .flag) ++ rowBytes 8 (settingsRow x))
+
+abbrev pub answerBytes : ℕ → ℕ → List ℕ
+answerBytes step count = le 8 step ++ le 4 count
+
+-- "dual step, dual count, primal step, primal count"
+abbrev pub resultBytes : Entry → List ℕ
+resultBytes x = answerBytes (x .dualstep) (x .dualcount) ++ answerBytes (x .primalstep) (x .primalcount)
+
+-- "dz, ds, z, s"
+unfoldable pub vectorBytes : List Float → List Float → List Float → List Float → List ℕ
+vectorBytes dz ds z s = ((rowBytes 8 (bitsOf dz) ++ rowBytes 8 (bitsOf ds)) ++ rowBytes 8 (bitsOf z)) ++ rowBytes 8 (bitsOf s)
+
+unfoldable pub recordOf : Entry → List Float → List Float → List Float → List Float → List Float → Record
+recordOf x exps dz ds z s = record {
+  kind = x .kind;
+  dim1 = x .dim1;
+  dim2 = x .dim2;
+  rule = x .rule;
+  exps = bitsOf exps;
+  start = x .start;
+  flag = x .flag;
+  settings = settingsRow x;
+  dz = bitsOf dz;
+  ds = bitsOf ds;
+  z = bitsOf z;
+  s = bitsOf s;
+  dualstep = x .dualstep;
+  dualcount = x .dualcount;
+  primalstep = x .primalstep;
+  primalcount = x .primalcount;
+}
+
+-- the record's bytes as the writer puts them down, part by part
+unfoldable pub entryBytes : ℕ → Entry → List Float → List Float → List Float → List Float → List Float → List ℕ
+entryBytes e x exps dz ds z s =
+    ((((rowBytes 4 (headRow (runsSize (runsFor e (x .kind) (x .dim1) (x .dim2) (x .flag))) x) ++ rowBytes 4 (ruleRow e (x .rule)))
+    ++ rowBytes 8 (bitsOf exps)) ++ searchBytes x) ++ vectorBytes dz ds z s) ++ resultBytes x
+
+-- the entry of the record at an offset, and the trailer
+abbrev pub endBytes : ℕ → ℕ → ℕ → ℕ → List ℕ
+endBytes at list count e = le 8 at ++ trailerOf list count e
+
+-- one record more: the list moved up, the record's bytes in its old place, its entry and the trailer behind the list
+unfoldable pub insertOf : List ℕ → Place → List ℕ → List ℕ
+insertOf bs place new =
+    let list = place .list in
+    let entries = 8 * place .count in
+    let next = list + place .size in
+    sets (sets (sets bs (list + place .size) (take entries (drop list bs))) list new) (next + entries)
+    (endBytes list next (place .count + 1) (place .edition))

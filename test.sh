@@ -3,7 +3,7 @@
 #
 #   sh test.sh            everything, from nothing
 #   sh test.sh --quick    only the checks of files: layout, listed crates, silent answers, lemmas of agreement, versions, paths
-#   sh test.sh --outside  only what runs over the archive: the C example, the kernels, the comparison with the Rust, the Rust crate
+#   sh test.sh --outside  only what runs over the archive: the C example, the kernels, the traces, the comparison with the Rust, the Rust crate
 #   sh test.sh --help     this text
 #
 # Exit status 0 only if everything passed; 2: bad usage, or a command is missing.
@@ -43,6 +43,9 @@ outside() {
 
     say "the kernels from outside (a short run of tests/kernels/run)"
     tests/kernels/run --short
+
+    say "traces written and read, against two other readings of their layout (tests/traces/run)"
+    tests/traces/run
 
     say "the port against the Rust, call by call (a short run of oracle/compare.sh)"
     oracle/compare.sh --calls 300000

@@ -1,4 +1,4 @@
-/* One cone's work in a round of a plan, from C: make a record, scale it, take the Hessian block, search a step, and see a refusal.
+/* One cone's work in a round of a plan, from C: make a record, scale it, take the Hessian block, search a step, keep the search in a trace, and see a refusal.
    Built and run by `sh build.sh`; on x86-64 also by
 
        cc -Iinclude examples/plan.c target/staticlib/libspindle.a && ./a.out */
@@ -29,12 +29,26 @@ int main(void) {
     row("  block =", block, 6);
 
     double dz[3] = {0.5, -2.0, 0.25}, ds[3] = {0.25, -4.0, 0.5}, dual_point[3], primal_point[3];
-    Steps steps = spindle_step_length(cone, dz, 3, ds, 3, z, 3, s, 3, dual_point, 3, primal_point, 3, spindle_house_settings(1.0));
+    Settings settings = spindle_house_settings(1.0);
+    Steps steps = spindle_step_length(cone, dz, 3, ds, 3, z, 3, s, 3, dual_point, 3, primal_point, 3, settings);
     say("step_length", steps.code);
     printf("  dual step %.17g after %u tests, primal step %.17g after %u tests\n", steps.dual_step, (unsigned)steps.dual_count,
            steps.primal_step, (unsigned)steps.primal_count);
     row("  tested dual point =", dual_point, 3);
     row("  tested primal point =", primal_point, 3);
+
+    /* what a search was given and what it answered, as bytes for a file; flag 1: it ran with the house's settings */
+    uint8_t bytes[400];
+    Written trace = spindle_trace_create(bytes, sizeof bytes);
+    say("trace_create", trace.code);
+    trace = spindle_trace_append(bytes, sizeof bytes, trace.length, cone, 1, settings, dz, 3, ds, 3, z, 3, s, 3, steps);
+    say("trace_append", trace.code);
+    Opened opened = spindle_trace_open(bytes, trace.length);
+    printf("  %u bytes, edition %u, records: %u\n", (unsigned)trace.length, (unsigned)opened.edition, (unsigned)opened.records);
+    Recorded recorded = spindle_trace_record(bytes, trace.length, 0);
+    say("trace_record", recorded.code);
+    row("  recorded dz =", recorded.dz, 3);
+    printf("  recorded dual step %.17g, primal step %.17g\n", recorded.steps.dual_step, recorded.steps.primal_step);
 
     /* a refusal changes nothing: the block below keeps what it held */
     double kept[6] = {1, 2, 3, 4, 5, 6};

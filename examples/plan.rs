@@ -1,5 +1,5 @@
-//! One cone's work in a round of a plan: scale, take the Hessian block, search both steps, and see a refusal.
-use spindle::{Cone, Refusal, Settings, Strategy};
+//! One cone's work in a round of a plan: scale, take the Hessian block, search both steps and record the search, and see a refusal.
+use spindle::{Cone, Recorder, Refusal, Strategy, Trace};
 
 fn main() -> Result<(), Refusal> {
     let cone = Cone::generalized(&[0.25, 0.75], 2)?;
@@ -15,9 +15,16 @@ fn main() -> Result<(), Refusal> {
 
     let (dz, ds) = (vec![-0.5, 0.25, 0.75, -0.5], vec![-2.0, 0.0, 1.0, 0.5]);
     let (mut dual, mut primal) = (vec![0.0; n], vec![0.0; n]);
-    let (d, p) = cone.step_length(&dz, &ds, &z, &s, &mut dual, &mut primal, Settings::house(1.0))?;
+    let mut bytes = vec![0; 1000];
+    let mut recorder = Recorder::create(&mut bytes)?;
+    let (d, p) = recorder.step_length(&cone, &dz, &ds, &z, &s, &mut dual, &mut primal, 1.0)?;
     println!("dual step {} after {} tests, at {dual:?}", d.step, d.tests);
     println!("primal step {} after {} tests, at {primal:?}", p.step, p.tests);
+
+    // what was recorded are bytes: they go into a file, and whoever reads that sees the search
+    for record in Trace::open(recorder.bytes())? {
+        println!("recorded at {}: z {:?}, dz {:?}, dual step {}", record.offset(), record.z(), record.dz(), record.dual().step);
+    }
 
     // a refusal says why, and changes nothing
     match record.get_hs(&mut diagonal[..n - 1]) {

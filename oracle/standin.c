@@ -8,7 +8,12 @@
 
 #ifndef KERNELS_OF_THE_ARCHIVE
 static double nan_(void) { union { uint64_t b; double d; } u = { 0x7FF8000000000000 }; return u.d; }
-double spindle_sqrt(double x) { if (x != x || x < 0) return nan_(); double r; __asm__("sqrtsd %1, %0" : "=x"(r) : "x"(x)); return r; }
+#ifdef __x86_64__
+static double root(double x) { double r; __asm__("sqrtsd %1, %0" : "=x"(r) : "x"(x)); return r; }
+#else
+static double root(double x) { return __builtin_sqrt(x); }
+#endif
+double spindle_sqrt(double x) { return x != x || x < 0 ? nan_() : root(x); }
 double spindle_log(double x) { return x != x ? nan_() : x <= 0 ? -INF : x == INF ? x : log(x); }
 double spindle_exp(double x) { return x != x ? nan_() : x > 709 ? INF : x < -708 ? 0 : exp(x); }
 double spindle_powf(double x, double y)
@@ -277,6 +282,7 @@ DualGrad spindle_dual_grad_h(Cone c, const double *z, size_t n)
     return r;
 }
 Settings spindle_house_settings(double start) { Settings s = { start, 0.8, 0.0001 }; return s; }
+uint32_t spindle_house_strategy(void) { return 2; }
 Found spindle_backtrack_search(Cone c, bool primal, const double *dq, size_t ndq, const double *q, size_t nq, double *point, size_t np, Settings s)
 {
     size_t n = bad_cone(&c) ? 0 : len(&c);

@@ -9,12 +9,12 @@ fn stop(why: String) -> ! {
 
 fn main() {
     println!("cargo:rerun-if-env-changed=SPINDLE_ARCHIVE");
-    if env::var("CARGO_CFG_TARGET_ARCH").as_deref() != Ok("x86_64") {
-        println!("cargo:warning=libspindle.a is an x86-64 archive: build this crate for x86-64");
-    }
     let folder = match env::var_os("SPINDLE_ARCHIVE") {
         Some(folder) => PathBuf::from(folder),
         None => {
+            if env::var("CARGO_CFG_TARGET_ARCH").as_deref() != Ok("x86_64") {
+                println!("cargo:warning=libspindle.a is an x86-64 archive: build this crate for x86-64");
+            }
             let root = PathBuf::from(env::var_os("CARGO_MANIFEST_DIR").unwrap()).join("../..");
             for part in ["crates.txt", "crates", "build.sh", "target/staticlib/libspindle.a"] {
                 println!("cargo:rerun-if-changed={}", root.join(part).display());

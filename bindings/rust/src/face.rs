@@ -1,5 +1,5 @@
 //! include/spindle.h, word for word in Rust.
-use crate::{Cone, Scaling, Settings, Three, Wide};
+use crate::{Cone, Recorded, Scaling, Settings, Three, Wide};
 
 #[repr(C)]
 pub struct YesNo {
@@ -26,6 +26,7 @@ pub struct FoundOut {
     pub step: f64,
 }
 
+#[derive(Clone, Copy)]
 #[repr(C)]
 pub struct Steps {
     pub code: u32,
@@ -46,6 +47,19 @@ pub struct DualGrad {
 pub struct Updated {
     pub code: u32,
     pub record: Scaling,
+}
+
+#[repr(C)]
+pub struct Written {
+    pub code: u32,
+    pub length: u64,
+}
+
+#[repr(C)]
+pub struct Opened {
+    pub code: u32,
+    pub edition: u32,
+    pub records: u32,
 }
 
 type In = *const f64;
@@ -88,4 +102,12 @@ extern "C" {
     pub fn spindle_combined_ds_shift(
         record: Scaling, shift: Out, nsh: usize, step_z: In, nsz: usize, step_s: In, nss: usize, sigma_mu: f64,
     ) -> u32;
+
+    pub fn spindle_trace_create(trace: *mut u8, room: usize) -> Written;
+    pub fn spindle_trace_append(
+        trace: *mut u8, room: usize, used: usize, cone: Cone, flag: u32, settings: Settings, dz: In, ndz: usize, ds: In, nds: usize, z: In,
+        nz: usize, s: In, ns: usize, steps: Steps,
+    ) -> Written;
+    pub fn spindle_trace_open(trace: *const u8, n: usize) -> Opened;
+    pub fn spindle_trace_record(trace: *const u8, n: usize, i: u32) -> Recorded;
 }

@@ -12,6 +12,8 @@
 //! # Ok::<(), spindle::Refusal>(())
 //! ```
 //!
+//! A [`Recorder`] makes the same searches and keeps each in a trace, bytes that a [`Trace`] reads again.
+//!
 //! A call that is refused changes nothing that it was lent: slices keep their contents, a record stays as it was. The numbers of a
 //! [`Refusal`] are those of the library's scope document. No call allocates, and none panics.
 //!
@@ -24,6 +26,9 @@
 #![deny(missing_docs)]
 
 mod face;
+mod trace;
+
+pub use trace::{Recorded, Recorder, Records, Trace, TraceBuffer, MOST_RECORDS};
 
 /// The version of this crate, which is that of the library and its C header.
 pub const VERSION: &str = env!("CARGO_PKG_VERSION");
@@ -46,6 +51,10 @@ pub enum Refusal {
     OutOfRange,
     /// 7: the finished answer holds a NaN or an infinity.
     AnswerNotFinite,
+    /// 8: a trace has no room for what would be written, or 4,096 records already.
+    NoRoom,
+    /// 9: the bytes are no trace, or a record breaks a trace's layout. It comes before 8.
+    BadTrace,
     /// Any other number: the archive is of a later version than this crate.
     Unknown(u32),
 }
@@ -61,6 +70,8 @@ impl Refusal {
             Refusal::NeverScaled => 5,
             Refusal::OutOfRange => 6,
             Refusal::AnswerNotFinite => 7,
+            Refusal::NoRoom => 8,
+            Refusal::BadTrace => 9,
             Refusal::Unknown(number) => number,
         }
     }
@@ -75,6 +86,8 @@ impl Refusal {
             Refusal::NeverScaled => "the record was never scaled",
             Refusal::OutOfRange => "the point lies where the formula has no value",
             Refusal::AnswerNotFinite => "the finished answer holds a NaN or an infinity",
+            Refusal::NoRoom => "the trace has no room for this, or 4,096 records already",
+            Refusal::BadTrace => "the bytes are no trace, or the record breaks a trace's layout",
             Refusal::Unknown(_) => "a number that this crate does not know",
         }
     }
@@ -89,6 +102,8 @@ impl Refusal {
             5 => Err(Refusal::NeverScaled),
             6 => Err(Refusal::OutOfRange),
             7 => Err(Refusal::AnswerNotFinite),
+            8 => Err(Refusal::NoRoom),
+            9 => Err(Refusal::BadTrace),
             number => Err(Refusal::Unknown(number)),
         }
     }
@@ -255,6 +270,20 @@ impl Cone {
         primal_point: &mut [f64],
         settings: Settings,
     ) -> Result<(Found, Found), Refusal> {
+        self.steps(dz, ds, z, s, dual_point, primal_point, settings).map(|steps| steps.found())
+    }
+
+    #[allow(clippy::too_many_arguments)]
+    fn steps(
+        &self,
+        dz: &[f64],
+        ds: &[f64],
+        z: &[f64],
+        s: &[f64],
+        dual_point: &mut [f64],
+        primal_point: &mut [f64],
+        settings: Settings,
+    ) -> Result<face::Steps, Refusal> {
         let out = unsafe {
             face::spindle_step_length(
                 *self, dz.as_ptr(), dz.len(), ds.as_ptr(), ds.len(), z.as_ptr(), z.len(), s.as_ptr(), s.len(),
@@ -262,7 +291,7 @@ impl Cone {
             )
         };
         Refusal::check(out.code)?;
-        Ok((Found { step: out.dual_step, tests: out.dual_count }, Found { step: out.primal_step, tests: out.primal_count }))
+        Ok(out)
     }
 
     /// Writes the starting points, z and s.
@@ -446,6 +475,13 @@ pub mod kernels {
     }
 }
 
+impl face::Steps {
+    /// The dual and the primal answer.
+    fn found(&self) -> (Found, Found) {
+        (Found { step: self.dual_step, tests: self.dual_count }, Found { step: self.primal_step, tests: self.primal_count })
+    }
+}
+
 fn yes_no(out: face::YesNo) -> Result<bool, Refusal> {
     Refusal::check(out.code)?;
     Ok(out.yes)
@@ -466,7 +502,7 @@ mod tests {
         for number in (1..=12).chain([u32::MAX]) {
             let refusal = Refusal::check(number).unwrap_err();
             assert_eq!(refusal.number(), number);
-            assert_eq!(matches!(refusal, Refusal::Unknown(_)), number > 7);
+            assert_eq!(matches!(refusal, Refusal::Unknown(_)), number > 9);
         }
     }
 }

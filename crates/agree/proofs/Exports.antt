@@ -11,6 +11,7 @@ use Rattle.cone.specs.declared.Found.{Found}
 use Rattle.cone.specs.declared.Steps.{Steps}
 use Rattle.cone.specs.declared.Rounds.{Rounds}
 use Rattle.cone.proofs.Outcomes.{one, two}
+use Rattle.trace_entries.proofs.Agree.{left}
 use Rattle.spindle.proofs.spindle_sqrt.Reads as sqrt
 use Rattle.spindle.proofs.spindle_log.Reads as log
 use Rattle.spindle.proofs.spindle_exp.Reads as exp
@@ -36,6 +37,10 @@ use Rattle.spindle.proofs.spindle_get_hs.Reads as get-hs
 use Rattle.spindle.proofs.spindle_mul_hs.Reads as mul-hs
 use Rattle.spindle.proofs.spindle_higher_correction.Reads as higher-correction
 use Rattle.spindle.proofs.spindle_combined_ds_shift.Reads as combined-ds-shift
+use Rattle.spindle.proofs.spindle_trace_create.Reads as trace-create
+use Rattle.spindle.proofs.spindle_trace_append.Reads as trace-append
+use Rattle.spindle.proofs.spindle_trace_open.Reads as trace-open
+use Rattle.spindle.proofs.spindle_trace_record.Reads as trace-record
 
 pub sqrt-agrees : OneAnswer sqrt.Post
 sqrt-agrees κs a x y s t p q = p ∙ sym q
@@ -113,3 +118,15 @@ higher-correction-agrees κs a x y s t p q = one {A = ℕ} (p ∙ sym q)
 
 pub combined-ds-shift-agrees : OneOutcome combined-ds-shift.Post {A = List Float} (λ κs s. now (s .1 .0))
 combined-ds-shift-agrees κs a x y s t p q = one {A = ℕ} (p ∙ sym q)
+
+pub trace-create-agrees : OneOutcome trace-create.Post {A = List ℕ} (λ κs s. now (s .0))
+trace-create-agrees κs a x y s t p q = left (p ∙ sym q)
+
+pub trace-append-agrees : OneOutcome trace-append.Post {A = List ℕ} (λ κs s. now (s .0))
+trace-append-agrees κs a x y s t p q = left (p ∙ sym q)
+
+pub trace-open-agrees : OneAnswer trace-open.Post
+trace-open-agrees κs a x y s t p q = p ∙ sym q
+
+pub trace-record-agrees : OneAnswer trace-record.Post
+trace-record-agrees κs a x y s t p q = p ∙ sym q

@@ -8,6 +8,9 @@ ghost use Rattle.search_entries.specs.Entries.{backtrackSearchOf, stepLengthOf}
 ghost use Rattle.record_update.specs.Entries.{updateScalingOf};
 ghost use Rattle.record_entries.specs.Entries.{gradientPrimalOf, barrierPrimalOf, computeBarrierOf, getHsOf, mulHsOf};
 ghost use Rattle.record_entries.specs.Entries.{higherCorrectionOf, combinedDsShiftOf};
+ghost use Rattle.trace_entries.specs.Writing.{createOf, appendOf};
+ghost use Rattle.trace_entries.specs.Opened.{openedOf};
+ghost use Rattle.recorded.specs.Recorded.{recordedIn};
 use cone::Cone;
 use cone::DualGrad;
 use cone::Found;
@@ -18,6 +21,9 @@ use cone::Settings;
 use cone::Steps;
 use cone::Updated;
 use cone::YesNo;
+use recorded::Recorded;
+use trace_entries::Opened;
+use trace_entries::Written;
 
 // The four kernels. Every double is taken, nothing refused.
 
@@ -251,4 +257,45 @@ pub extern "C" fn spindle_combined_ds_shift(
         ≡ combinedDsShiftOf scaling (now (shifted .entry)) (now (stepz .entry)) (now (steps .entry)) sigmamu ⌝ }
 {
     record_entries::combined_ds_shift(scaling, shifted, stepz, steps, sigmamu)
+}
+
+// ---- 02, Order 1: traces of step searches
+
+#[no_mangle]
+pub extern "C" fn spindle_trace_create(trace: &mut [u8]) -> Written
+    ensures { λ r. ⌜ record { answer = r; bytes = now (trace .exit) } ≡ createOf (now (trace .entry)) ⌝ }
+{
+    trace_entries::create(trace)
+}
+
+#[no_mangle]
+pub extern "C" fn spindle_trace_append(
+    trace: &mut [u8],
+    used: usize,
+    cone: Cone,
+    flag: u32,
+    settings: Settings,
+    dz: &[f64],
+    ds: &[f64],
+    z: &[f64],
+    s: &[f64],
+    steps: Steps,
+) -> Written
+    ensures { λ r. ⌜ record { answer = r; bytes = now (trace .exit) } ≡ appendOf (now (trace .entry)) used cone flag settings (now (dz .entry)) (now (ds .entry)) (now (z .entry)) (now (s .entry)) steps ⌝ }
+{
+    trace_entries::append(trace, used, cone, flag, settings, dz, ds, z, s, steps)
+}
+
+#[no_mangle]
+pub extern "C" fn spindle_trace_open(trace: &[u8]) -> Opened
+    ensures { λ r. ⌜ r ≡ openedOf (now (trace .entry)) ⌝ }
+{
+    trace_entries::open(trace)
+}
+
+#[no_mangle]
+pub extern "C" fn spindle_trace_record(trace: &[u8], i: u32) -> Recorded
+    ensures { λ r. ⌜ r ≡ recordedIn (now (trace .entry)) i ⌝ }
+{
+    recorded::record(trace, i)
 }

@@ -1,0 +1,378 @@
+//! Traces of step searches: document 02's Order 1. A [`Trace`] reads bytes, a [`TraceBuffer`] writes into them, a [`Recorder`] searches and writes.
+use crate::{face, Cone, Found, Refusal, Settings};
+
+/// The most records that a trace can hold.
+pub const MOST_RECORDS: usize = 4096;
+
+/// Bytes that are a trace: step searches, in the order in which they were recorded.
+///
+/// ```
+/// use spindle::{Cone, Recorder, Trace};
+///
+/// let mut bytes = [0; 400];
+/// let mut recorder = Recorder::create(&mut bytes)?;
+/// let (mut dual, mut primal) = ([0.0; 3], [0.0; 3]);
+/// let (dz, ds, z, s) = ([0.5, -2.0, 0.25], [0.25, -4.0, 0.5], [-1.0, 0.5, 1.0], [-1.0, 0.5, 1.0]);
+/// let (_, found) = recorder.step_length(&Cone::exponential(), &dz, &ds, &z, &s, &mut dual, &mut primal, 1.0)?;
+///
+/// // these bytes go into a file, and come back from there
+/// let trace = Trace::open(recorder.bytes())?;
+/// for record in trace {
+///     assert_eq!((record.z(), record.ds(), record.primal()), (&z[..], &ds[..], found));
+/// }
+/// # Ok::<(), spindle::Refusal>(())
+/// ```
+///
+/// Reading a record walks over the heads of all records of the trace: all N of them take N² steps of that walk.
+#[derive(Clone, Copy, Debug)]
+pub struct Trace<'a> {
+    bytes: &'a [u8],
+    edition: u32,
+    records: u32,
+}
+
+impl<'a> Trace<'a> {
+    /// Judges all of the bytes. [`Refusal::BadTrace`] if they are no trace, whatever they are.
+    pub fn open(bytes: &'a [u8]) -> Result<Trace<'a>, Refusal> {
+        let out = unsafe { face::spindle_trace_open(bytes.as_ptr(), bytes.len()) };
+        Refusal::check(out.code)?;
+        Ok(Trace { bytes, edition: out.edition, records: out.records })
+    }
+
+    /// Which layout and which default settings the trace has.
+    pub fn edition(&self) -> u32 {
+        self.edition
+    }
+
+    /// How many records there are, at most [`MOST_RECORDS`].
+    pub fn len(&self) -> usize {
+        self.records as usize
+    }
+
+    /// Whether there is none.
+    pub fn is_empty(&self) -> bool {
+        self.records == 0
+    }
+
+    /// The bytes of the trace.
+    pub fn bytes(&self) -> &'a [u8] {
+        self.bytes
+    }
+
+    /// Record i, counted from 0; none from [`Trace::len`] on.
+    pub fn get(&self, i: usize) -> Option<Recorded> {
+        let i = u32::try_from(i).ok()?;
+        let out = unsafe { face::spindle_trace_record(self.bytes.as_ptr(), self.bytes.len(), i) };
+        (out.code == 0).then_some(out)
+    }
+
+    /// The records in their order.
+    pub fn iter(&self) -> Records<'a> {
+        Records { trace: *self, next: 0, end: self.len() }
+    }
+}
+
+impl<'a> IntoIterator for Trace<'a> {
+    type Item = Recorded;
+    type IntoIter = Records<'a>;
+
+    fn into_iter(self) -> Records<'a> {
+        self.iter()
+    }
+}
+
+impl<'a> IntoIterator for &Trace<'a> {
+    type Item = Recorded;
+    type IntoIter = Records<'a>;
+
+    fn into_iter(self) -> Records<'a> {
+        self.iter()
+    }
+}
+
+/// The records of a [`Trace`], one by one, from either end.
+#[derive(Clone, Debug)]
+pub struct Records<'a> {
+    trace: Trace<'a>,
+    next: usize,
+    end: usize,
+}
+
+impl Iterator for Records<'_> {
+    type Item = Recorded;
+
+    fn next(&mut self) -> Option<Recorded> {
+        if self.next == self.end {
+            return None;
+        }
+        self.next += 1;
+        self.trace.get(self.next - 1)
+    }
+
+    fn nth(&mut self, n: usize) -> Option<Recorded> {
+        self.next = self.next.saturating_add(n).min(self.end);
+        self.next()
+    }
+
+    fn size_hint(&self) -> (usize, Option<usize>) {
+        (self.end - self.next, Some(self.end - self.next))
+    }
+}
+
+impl DoubleEndedIterator for Records<'_> {
+    fn next_back(&mut self) -> Option<Recorded> {
+        if self.next == self.end {
+            return None;
+        }
+        self.end -= 1;
+        self.trace.get(self.end)
+    }
+}
+
+impl ExactSizeIterator for Records<'_> {}
+
+impl core::iter::FusedIterator for Records<'_> {}
+
+/// A record of a trace: what a step search was given, and what it answered. Numbers that a search would refuse may stand in it.
+#[derive(Clone, Copy)]
+#[repr(C)]
+pub struct Recorded {
+    code: u32,
+    flag: u32,
+    at: u64,
+    cone: Cone,
+    settings: Settings,
+    dz: [f64; 64],
+    ds: [f64; 64],
+    z: [f64; 64],
+    s: [f64; 64],
+    steps: face::Steps,
+}
+
+// the C struct's size
+const _: () = assert!(core::mem::size_of::<Recorded>() == 2392);
+
+impl Recorded {
+    /// The byte of the trace at which the record begins.
+    pub fn offset(&self) -> u64 {
+        self.at
+    }
+
+    /// The cone of the search, judged: [`Refusal::BadCone`] where its exponents are none of a cone.
+    pub fn cone(&self) -> Result<Cone, Refusal> {
+        match self.cone.kind {
+            1 => Ok(Cone::exponential()),
+            2 => Cone::power(self.cone.exps[0]),
+            _ => Cone::generalized(self.exponents(), self.cone.dim2 as usize),
+        }
+    }
+
+    /// The cone's kind: 1 exponential, 2 power, 3 generalized.
+    pub fn kind(&self) -> u32 {
+        self.cone.kind
+    }
+
+    /// The cone's exponents, whatever they are: none, one, or as many as the first dim.
+    pub fn exponents(&self) -> &[f64] {
+        let n = match self.cone.kind {
+            2 => 1,
+            3 => self.cone.dim1 as usize,
+            _ => 0,
+        };
+        &self.cone.exps[..n]
+    }
+
+    /// Whether the search ran with the default settings of the trace's edition, so that only its start was kept.
+    pub fn by_default(&self) -> bool {
+        self.flag == 1
+    }
+
+    /// The settings of the search, those that [`Recorded::by_default`] stands for included.
+    pub fn settings(&self) -> Settings {
+        self.settings
+    }
+
+    /// The direction of z.
+    pub fn dz(&self) -> &[f64] {
+        &self.dz[..self.cone.numel()]
+    }
+
+    /// The direction of s.
+    pub fn ds(&self) -> &[f64] {
+        &self.ds[..self.cone.numel()]
+    }
+
+    /// The point of the dual side.
+    pub fn z(&self) -> &[f64] {
+        &self.z[..self.cone.numel()]
+    }
+
+    /// The point of the primal side.
+    pub fn s(&self) -> &[f64] {
+        &self.s[..self.cone.numel()]
+    }
+
+    /// What the search of the dual side found.
+    pub fn dual(&self) -> Found {
+        self.steps.found().0
+    }
+
+    /// What the search of the primal side found.
+    pub fn primal(&self) -> Found {
+        self.steps.found().1
+    }
+}
+
+impl core::fmt::Debug for Recorded {
+    fn fmt(&self, f: &mut core::fmt::Formatter<'_>) -> core::fmt::Result {
+        f.debug_struct("Recorded")
+            .field("offset", &self.offset())
+            .field("kind", &self.kind())
+            .field("exponents", &self.exponents())
+            .field("by_default", &self.by_default())
+            .field("settings", &self.settings())
+            .field("dz", &self.dz())
+            .field("ds", &self.ds())
+            .field("z", &self.z())
+            .field("s", &self.s())
+            .field("dual", &self.dual())
+            .field("primal", &self.primal())
+            .finish()
+    }
+}
+
+/// A trace at the front of a lent buffer, to which records can be appended. Bytes behind the trace stay as they were.
+#[derive(Debug)]
+pub struct TraceBuffer<'a> {
+    bytes: &'a mut [u8],
+    used: usize,
+    edition: u32,
+    records: u32,
+}
+
+impl<'a> TraceBuffer<'a> {
+    /// Writes the trace with no record, 20 bytes. [`Refusal::NoRoom`] where the buffer has fewer.
+    pub fn create(bytes: &'a mut [u8]) -> Result<TraceBuffer<'a>, Refusal> {
+        let out = unsafe { face::spindle_trace_create(bytes.as_mut_ptr(), bytes.len()) };
+        Refusal::check(out.code)?;
+        TraceBuffer::open(bytes, out.length as usize)
+    }
+
+    /// Goes on with the trace that the first `used` bytes are. [`Refusal::BadTrace`] if they are none, or the buffer is shorter.
+    pub fn open(bytes: &'a mut [u8], used: usize) -> Result<TraceBuffer<'a>, Refusal> {
+        let Trace { edition, records, .. } = Trace::open(bytes.get(..used).ok_or(Refusal::BadTrace)?)?;
+        Ok(TraceBuffer { bytes, used, edition, records })
+    }
+
+    /// Appends a record of another trace; every NaN of it is written as 7FF8000000000000. [`Refusal::NoRoom`] where the buffer has no room for it, or
+    /// [`MOST_RECORDS`] are there.
+    pub fn append(&mut self, record: &Recorded) -> Result<(), Refusal> {
+        self.put(&record.cone, record.flag, record.settings, [record.dz(), record.ds(), record.z(), record.s()], record.steps)
+    }
+
+    fn put(&mut self, cone: &Cone, flag: u32, settings: Settings, [dz, ds, z, s]: [&[f64]; 4], steps: face::Steps) -> Result<(), Refusal> {
+        let out = unsafe {
+            face::spindle_trace_append(
+                self.bytes.as_mut_ptr(), self.bytes.len(), self.used, *cone, flag, settings, dz.as_ptr(), dz.len(), ds.as_ptr(), ds.len(),
+                z.as_ptr(), z.len(), s.as_ptr(), s.len(), steps,
+            )
+        };
+        Refusal::check(out.code)?;
+        self.used = out.length as usize;
+        self.records += 1;
+        Ok(())
+    }
+
+    /// The bytes of the trace: what goes into a file. Their count is the `used` of [`TraceBuffer::open`].
+    pub fn bytes(&self) -> &[u8] {
+        &self.bytes[..self.used]
+    }
+
+    /// The trace as it stands now.
+    pub fn trace(&self) -> Trace<'_> {
+        Trace { bytes: self.bytes(), edition: self.edition, records: self.records }
+    }
+}
+
+/// Searches steps, and records each search that was done in a trace: the very arguments and the very answer, since nobody but the recorder holds them in
+/// between. A search that is refused is not recorded.
+#[derive(Debug)]
+pub struct Recorder<'a> {
+    buffer: TraceBuffer<'a>,
+}
+
+impl<'a> Recorder<'a> {
+    /// A recorder into a new trace: see [`TraceBuffer::create`].
+    pub fn create(bytes: &'a mut [u8]) -> Result<Recorder<'a>, Refusal> {
+        Ok(Recorder { buffer: TraceBuffer::create(bytes)? })
+    }
+
+    /// A recorder that goes on with the trace of the first `used` bytes: see [`TraceBuffer::open`].
+    pub fn open(bytes: &'a mut [u8], used: usize) -> Result<Recorder<'a>, Refusal> {
+        Ok(Recorder { buffer: TraceBuffer::open(bytes, used)? })
+    }
+
+    /// [`Cone::step_length`] with the house's settings, [`Settings::house`] of `start`, recorded as a search by default.
+    ///
+    /// [`Refusal::NoRoom`] where the search could be made and not recorded: then as at every refusal nothing that was lent has changed, and
+    /// [`Cone::step_length`] makes the search without a record.
+    #[allow(clippy::too_many_arguments)]
+    pub fn step_length(
+        &mut self,
+        cone: &Cone,
+        dz: &[f64],
+        ds: &[f64],
+        z: &[f64],
+        s: &[f64],
+        dual_point: &mut [f64],
+        primal_point: &mut [f64],
+        start: f64,
+    ) -> Result<(Found, Found), Refusal> {
+        self.search(cone, 1, Settings::house(start), [dz, ds, z, s], dual_point, primal_point)
+    }
+
+    /// The same with settings that are told outright, and recorded so.
+    #[allow(clippy::too_many_arguments)]
+    pub fn step_length_with(
+        &mut self,
+        cone: &Cone,
+        dz: &[f64],
+        ds: &[f64],
+        z: &[f64],
+        s: &[f64],
+        dual_point: &mut [f64],
+        primal_point: &mut [f64],
+        settings: Settings,
+    ) -> Result<(Found, Found), Refusal> {
+        self.search(cone, 0, settings, [dz, ds, z, s], dual_point, primal_point)
+    }
+
+    fn search(
+        &mut self,
+        cone: &Cone,
+        flag: u32,
+        settings: Settings,
+        [dz, ds, z, s]: [&[f64]; 4],
+        dual_point: &mut [f64],
+        primal_point: &mut [f64],
+    ) -> Result<(Found, Found), Refusal> {
+        // The points are tried out aside, since the trace may have no room. No cone has 65 numbers: a longer slice is refused as one of 65 is.
+        let (mut dual, mut primal) = ([0.0; 65], [0.0; 65]);
+        let (dual, primal) = (&mut dual[..dual_point.len().min(65)], &mut primal[..primal_point.len().min(65)]);
+        let steps = cone.steps(dz, ds, z, s, dual, primal, settings)?;
+        self.buffer.put(cone, flag, settings, [dz, ds, z, s], steps)?;
+        dual_point.copy_from_slice(dual);
+        primal_point.copy_from_slice(primal);
+        Ok(steps.found())
+    }
+
+    /// The bytes of the trace: see [`TraceBuffer::bytes`].
+    pub fn bytes(&self) -> &[u8] {
+        self.buffer.bytes()
+    }
+
+    /// The trace as it stands now.
+    pub fn trace(&self) -> Trace<'_> {
+        self.buffer.trace()
+    }
+}

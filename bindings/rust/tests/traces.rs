@@ -1,0 +1,211 @@
+//! Traces: what a recorder searched is what a trace reads, for every kind and both ways to give settings; every refusal, and bytes that stay.
+use spindle::{Cone, Found, Recorded, Recorder, Refusal, Settings, Trace, TraceBuffer, MOST_RECORDS};
+
+/// A cone with directions and points for a search.
+struct Search {
+    cone: Cone,
+    dz: Vec<f64>,
+    ds: Vec<f64>,
+    z: Vec<f64>,
+    s: Vec<f64>,
+}
+
+fn searches() -> Vec<Search> {
+    [Cone::exponential(), Cone::power(0.3).unwrap(), Cone::generalized(&[0.25, 0.75], 2).unwrap()]
+        .into_iter()
+        .map(|cone| {
+            let n = cone.numel();
+            let (mut z, mut s) = (vec![0.0; n], vec![0.0; n]);
+            cone.unit_initialization(&mut z, &mut s).unwrap();
+            let row = |by: f64| (0..n).map(|i| by * (i as f64 - 1.5)).collect::<Vec<_>>();
+            Search { cone, dz: row(-2.0), ds: row(3.0), z, s }
+        })
+        .collect()
+}
+
+/// What a call left: its answer, the dual point, the primal point.
+type Left = (Result<(Found, Found), Refusal>, Vec<f64>, Vec<f64>);
+
+const OUTRIGHT: Settings = Settings { start: 0.9, step: 0.7, smallest: 1e-5 };
+
+impl Search {
+    /// The search without a record.
+    fn plain(&self, settings: Settings) -> Left {
+        let n = self.cone.numel();
+        let (mut dual, mut primal) = (vec![0.0; n], vec![0.0; n]);
+        let found = self.cone.step_length(&self.dz, &self.ds, &self.z, &self.s, &mut dual, &mut primal, settings);
+        (found, dual, primal)
+    }
+
+    /// The same through a recorder: with the house's settings for this start, or with OUTRIGHT.
+    fn recorded(&self, to: &mut Recorder, start: Option<f64>) -> Left {
+        let n = self.cone.numel();
+        let (mut dual, mut primal) = (vec![7.0; n], vec![8.0; n]);
+        let (cone, dz, ds, z, s) = (&self.cone, &self.dz, &self.ds, &self.z, &self.s);
+        let found = match start {
+            Some(start) => to.step_length(cone, dz, ds, z, s, &mut dual, &mut primal, start),
+            None => to.step_length_with(cone, dz, ds, z, s, &mut dual, &mut primal, OUTRIGHT),
+        };
+        (found, dual, primal)
+    }
+
+    fn is(&self, record: &Recorded, by_default: bool, settings: Settings) {
+        assert_eq!(record.cone(), Ok(self.cone));
+        assert_eq!((record.by_default(), record.settings()), (by_default, settings));
+        assert_eq!((record.dz(), record.ds(), record.z(), record.s()), (&self.dz[..], &self.ds[..], &self.z[..], &self.s[..]));
+        assert_eq!(Ok((record.dual(), record.primal())), self.plain(settings).0);
+    }
+}
+
+/// A trace of each search, twice: by default and outright.
+fn bytes_of_all() -> Vec<u8> {
+    let mut bytes = vec![0; 4000];
+    let mut recorder = Recorder::create(&mut bytes).unwrap();
+    for search in searches() {
+        search.recorded(&mut recorder, Some(1.0)).0.unwrap();
+        search.recorded(&mut recorder, None).0.unwrap();
+    }
+    recorder.bytes().to_vec()
+}
+
+#[test]
+fn what_was_searched_is_what_is_read() {
+    let mut bytes = vec![0xA5; 4000];
+    let mut recorder = Recorder::create(&mut bytes).unwrap();
+    assert_eq!((recorder.bytes().len(), recorder.trace().len(), recorder.trace().is_empty()), (20, 0, true));
+    for search in searches() {
+        assert_eq!(search.recorded(&mut recorder, Some(0.5)), search.plain(Settings::house(0.5)));
+        assert_eq!(search.recorded(&mut recorder, None), search.plain(OUTRIGHT));
+    }
+    let used = recorder.bytes().len();
+    let trace = recorder.trace();
+    assert_eq!((trace.len(), trace.edition(), trace.bytes().len()), (6, 1, used));
+    for (i, record) in trace.iter().enumerate() {
+        let settings = if i % 2 == 0 { Settings::house(0.5) } else { OUTRIGHT };
+        searches()[i / 2].is(&record, i % 2 == 0, settings);
+    }
+    assert!(bytes[used..].iter().all(|&b| b == 0xA5), "bytes behind the trace");
+
+    // and goes on with it later
+    let mut recorder = Recorder::open(&mut bytes, used).unwrap();
+    searches()[1].recorded(&mut recorder, Some(0.25)).0.unwrap();
+    let last = recorder.trace().iter().next_back().unwrap();
+    searches()[1].is(&last, true, Settings::house(0.25));
+    assert_eq!(recorder.trace().len(), 7);
+}
+
+#[test]
+fn records_by_number_and_one_by_one() {
+    let bytes = bytes_of_all();
+    let trace = Trace::open(&bytes).unwrap();
+    let offsets: Vec<_> = trace.iter().map(|r| r.offset()).collect();
+    assert_eq!(offsets, [0, 152, 320, 480, 656, 856]);
+    assert_eq!((0..6).map(|i| trace.get(i).unwrap().offset()).collect::<Vec<_>>(), offsets);
+    assert!(trace.get(6).is_none() && trace.get(usize::MAX).is_none() && trace.get(1 << 32).is_none());
+    assert_eq!(trace.iter().map(|r| r.kind()).collect::<Vec<_>>(), [1, 1, 2, 2, 3, 3]);
+    assert_eq!(trace.iter().map(|r| r.exponents().len()).collect::<Vec<_>>(), [0, 0, 1, 1, 2, 2]);
+
+    let mut records = trace.iter();
+    assert_eq!(records.len(), 6);
+    assert_eq!(records.nth(1).unwrap().offset(), 152);
+    assert_eq!(records.next_back().unwrap().offset(), 856);
+    assert_eq!(records.by_ref().rev().map(|r| r.offset()).collect::<Vec<_>>(), [656, 480, 320]);
+    assert!(records.next().is_none() && records.next_back().is_none() && trace.iter().nth(6).is_none());
+    assert_eq!((trace.into_iter().count(), (&trace).into_iter().count()), (6, 6));
+}
+
+#[test]
+fn records_are_copied() {
+    let bytes = bytes_of_all();
+    let mut copy = vec![0; bytes.len()];
+    let mut buffer = TraceBuffer::create(&mut copy).unwrap();
+    for record in Trace::open(&bytes).unwrap() {
+        buffer.append(&record).unwrap();
+    }
+    assert_eq!(buffer.trace().len(), 6);
+    assert_eq!(buffer.bytes(), bytes);
+    let record = buffer.trace().get(0).unwrap();
+    assert_eq!(buffer.append(&record), Err(Refusal::NoRoom));
+    assert_eq!(buffer.bytes(), bytes);
+}
+
+#[test]
+fn a_refused_search_is_not_recorded() {
+    let mut bytes = vec![0; 400];
+    let mut recorder = Recorder::create(&mut bytes).unwrap();
+    let mut all = searches();
+    let exponential = &mut all[0];
+    let untouched = |why| (Err(why), vec![7.0; 3], vec![8.0; 3]);
+    assert_eq!(exponential.recorded(&mut recorder, Some(0.0)), untouched(Refusal::BadSettings));
+    assert_eq!(exponential.recorded(&mut recorder, Some(f64::NAN)), untouched(Refusal::NotFinite));
+    exponential.ds[1] = f64::INFINITY;
+    assert_eq!(exponential.recorded(&mut recorder, None), untouched(Refusal::NotFinite));
+    exponential.ds.pop();
+    assert_eq!(exponential.recorded(&mut recorder, None), untouched(Refusal::BadLength));
+    assert_eq!(recorder.bytes().len(), 20);
+
+    // the points' lengths are judged as the search judges them, however long
+    let power = &all[1];
+    for n in [0, 2, 4, 64, 65, 66, 1000] {
+        let (mut dual, mut primal) = (vec![7.0; n], vec![8.0; 3]);
+        let refused = recorder.step_length(&power.cone, &power.dz, &power.ds, &power.z, &power.s, &mut dual, &mut primal, 1.0);
+        assert_eq!((refused, dual, primal), (Err(Refusal::BadLength), vec![7.0; n], vec![8.0; 3]));
+        let (mut dual, mut primal) = (vec![7.0; 3], vec![8.0; n]);
+        let refused = recorder.step_length(&power.cone, &power.dz, &power.ds, &power.z, &power.s, &mut dual, &mut primal, 1.0);
+        assert_eq!((refused, dual, primal), (Err(Refusal::BadLength), vec![7.0; 3], vec![8.0; n]));
+    }
+}
+
+#[test]
+fn without_room_nothing_changes() {
+    let search = &searches()[0];
+    for room in [20, 27, 28, 179] {
+        let mut bytes = vec![0xA5; room];
+        let mut recorder = Recorder::create(&mut bytes).unwrap();
+        assert_eq!(search.recorded(&mut recorder, Some(1.0)), (Err(Refusal::NoRoom), vec![7.0; 3], vec![8.0; 3]));
+        assert_eq!((recorder.bytes().len(), recorder.trace().len()), (20, 0));
+        assert!(bytes[20..].iter().all(|&b| b == 0xA5));
+    }
+    let mut bytes = vec![0xA5; 180];
+    let mut recorder = Recorder::create(&mut bytes).unwrap();
+    search.recorded(&mut recorder, Some(1.0)).0.unwrap();
+    assert_eq!(recorder.bytes().len(), 180);
+    assert_eq!(TraceBuffer::create(&mut [0xA5; 19]).map(|_| ()), Err(Refusal::NoRoom));
+}
+
+#[test]
+fn broken_bytes_are_refused() {
+    let bytes = bytes_of_all();
+    for n in 0..bytes.len() {
+        assert_eq!(Trace::open(&bytes[..n]).map(|_| ()), Err(Refusal::BadTrace));
+    }
+    let mut lent = bytes.clone();
+    for used in [0, 19, 20, bytes.len() - 1, bytes.len() + 1, usize::MAX] {
+        assert_eq!(TraceBuffer::open(&mut lent, used).map(|_| ()), Err(Refusal::BadTrace));
+        assert_eq!(Recorder::open(&mut lent, used).map(|_| ()), Err(Refusal::BadTrace));
+    }
+    assert_eq!(lent, bytes);
+    // a record's mark, length, kind, dims and flag; the list; the trailer
+    for place in [0, 3, 4, 8, 12, 16, 28, 1072, bytes.len() - 68, bytes.len() - 20, bytes.len() - 12, bytes.len() - 8, bytes.len() - 1] {
+        let mut broken = bytes.clone();
+        broken[place] ^= 2;
+        assert_eq!(Trace::open(&broken).map(|_| ()), Err(Refusal::BadTrace), "byte {place}");
+    }
+    let mut count = bytes.clone();
+    count[bytes.len() - 12..bytes.len() - 8].copy_from_slice(&(MOST_RECORDS as u32 + 1).to_le_bytes());
+    assert_eq!(Trace::open(&count).map(|_| ()), Err(Refusal::BadTrace));
+}
+
+#[test]
+fn a_record_may_hold_what_a_search_refuses() {
+    let mut bytes = bytes_of_all();
+    // the power cone's exponent, a NaN with a payload; and the start before the flag of the search by default
+    bytes[320 + 20..320 + 28].copy_from_slice(&0xfff0_0000_0000_0001u64.to_le_bytes());
+    bytes[320 + 28..320 + 36].copy_from_slice(&f64::NEG_INFINITY.to_le_bytes());
+    let record = Trace::open(&bytes).unwrap().get(2).unwrap();
+    assert_eq!(record.cone(), Err(Refusal::BadCone));
+    assert_eq!((record.kind(), record.exponents()[0].to_bits()), (2, 0x7ff8_0000_0000_0000));
+    assert_eq!((record.settings().start, record.settings().step), (f64::NEG_INFINITY, Settings::house(1.0).step));
+    let shown = format!("{record:?}");
+    assert!(shown.starts_with("Recorded { offset: 320, kind: 2, exponents: [NaN]") && shown.len() < 600, "{shown}");
+}

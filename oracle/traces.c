@@ -1,0 +1,225 @@
+/* The four trace calls a second time, in C, from the words of document 02's Order 1 alone: tests/traces holds the library to it, and the Rust crate can be
+   tested over it and standin.c on any machine (tools/rust-tests --standin). It shares nothing with the library but spindle.h. It goes the slow way: it reads
+   every number of every record, one behind the other, and lays a new record out beside the trace before it asks for its length. */
+#include "spindle.h"
+#include <string.h>
+
+#define MOST 4096     /* "At most 4,096 records" */
+#define TRAILER 20    /* "a 20-byte trailer" */
+#define LONGEST 2376  /* a record of kind 3 with both dims 32 and flag 0 */
+
+/* The logic has one NaN (docs/DECISIONS.md): every NaN is read and written as this one. */
+static uint64_t bits_of(double x)
+{
+    uint64_t bits;
+    memcpy(&bits, &x, 8);
+    return x == x ? bits : UINT64_C(0x7FF8000000000000);
+}
+static double double_of(uint64_t bits)
+{
+    double x;
+    memcpy(&x, &bits, 8);
+    bits = bits_of(x);
+    memcpy(&x, &bits, 8);
+    return x;
+}
+
+/* ---- reading, number by number, up to an end */
+
+typedef struct { const uint8_t *bytes; size_t at, end; bool cut; } In;
+
+static uint64_t whole(In *in, size_t n)
+{
+    if (in->end - in->at < n) {
+        in->cut = true;
+        in->at = in->end;
+        return 0;
+    }
+    in->at += n;
+    uint64_t x = 0;
+    for (size_t k = 1; k <= n; k++) x = x << 8 | in->bytes[in->at - k]; /* "All numbers are little-endian" */
+    return x;
+}
+static bool mark(In *in, const char *four)
+{
+    size_t at = in->at;
+    whole(in, 4);
+    return !in->cut && !memcmp(in->bytes + at, four, 4);
+}
+static void row(In *in, double *to, size_t n)
+{
+    for (size_t i = 0; i < n; i++) to[i] = double_of(whole(in, 8));
+}
+
+/* "kind, dim1, dim2 (u32 each; 3 and 0 for kinds 1 and 2)"; document 01: dims of kind 3 are 1 to 32 */
+static bool shaped(const Cone *c)
+{
+    if (c->kind == 3) return c->dim1 - 1 < 32 && c->dim2 - 1 < 32;
+    return (c->kind == 1 || c->kind == 2) && c->dim1 == 3 && c->dim2 == 0;
+}
+/* "exponents (none, one or dim1)" */
+static size_t exponents(const Cone *c) { return c->kind == 3 ? c->dim1 : c->kind - 1; }
+/* "a step is +0 or positive and finite" */
+static bool stepped(double x) { return !__builtin_signbit(x) && x - x == 0; }
+
+static bool record(In *in, Recorded *r)
+{
+    static const Recorded none;
+    *r = none;
+    r->at = in->at;
+    if (!mark(in, "STEP")) return false;
+    uint64_t length = whole(in, 4);
+    r->cone.kind = (uint32_t)whole(in, 4);
+    r->cone.dim1 = (uint32_t)whole(in, 4);
+    r->cone.dim2 = (uint32_t)whole(in, 4);
+    if (!shaped(&r->cone)) return false;
+    size_t n = r->cone.dim1 + r->cone.dim2;
+    row(in, r->cone.exps, exponents(&r->cone));
+    row(in, &r->settings.start, 1);
+    r->flag = (uint32_t)whole(in, 4);
+    if (r->flag > 1) return false;
+    r->settings.step = 0.8; /* "1 means default settings; at 0 step and smallest step follow" */
+    r->settings.smallest = 0.0001;
+    if (r->flag == 0) {
+        row(in, &r->settings.step, 1);
+        row(in, &r->settings.smallest, 1);
+    }
+    row(in, r->dz, n);
+    row(in, r->ds, n);
+    row(in, r->z, n);
+    row(in, r->s, n);
+    row(in, &r->steps.dual_step, 1);
+    r->steps.dual_count = (uint32_t)whole(in, 4);
+    row(in, &r->steps.primal_step, 1);
+    r->steps.primal_count = (uint32_t)whole(in, 4);
+    return !in->cut && in->at - r->at == length && stepped(r->steps.dual_step) && stepped(r->steps.primal_step);
+}
+
+/* Whether the bytes are a trace; if so its edition and count, where its list stands, and record i where there is one. */
+static bool judge(const uint8_t *bytes, size_t n, uint32_t i, uint32_t *edition, uint32_t *count, size_t *list, Recorded *kept)
+{
+    if (n < TRAILER) return false;
+    In trailer = { bytes, n - TRAILER, n, false };
+    uint64_t at = whole(&trailer, 8);
+    *count = (uint32_t)whole(&trailer, 4);
+    *edition = (uint32_t)whole(&trailer, 4);
+    if (!mark(&trailer, "BACK") || *edition != 1 || *count > MOST) return false;
+    if (8 * (size_t)*count > n - TRAILER || at != n - TRAILER - 8 * (size_t)*count) return false;
+    *list = (size_t)at;
+    In records = { bytes, 0, *list, false }, entries = { bytes, *list, n - TRAILER, false };
+    for (uint32_t k = 0; k < *count; k++) {
+        Recorded r;
+        if (whole(&entries, 8) != records.at || !record(&records, &r)) return false;
+        if (k == i) *kept = r;
+    }
+    return records.at == *list;
+}
+
+/* ---- writing, number by number */
+
+typedef struct { uint8_t *bytes; size_t at; } Out;
+
+static void put(Out *out, size_t n, uint64_t x)
+{
+    for (size_t k = 0; k < n; k++) out->bytes[out->at++] = (uint8_t)(x >> 8 * k);
+}
+static void put_mark(Out *out, const char *four)
+{
+    memcpy(out->bytes + out->at, four, 4);
+    out->at += 4;
+}
+static void put_row(Out *out, const double *x, size_t n)
+{
+    for (size_t i = 0; i < n; i++) put(out, 8, bits_of(x[i]));
+}
+/* "offset of that list (u64), record count (u32), edition (u32, now 1), four bytes `BACK`" */
+static void put_trailer(Out *out, uint64_t list, uint32_t count)
+{
+    put(out, 8, list);
+    put(out, 4, count);
+    put(out, 4, 1);
+    put_mark(out, "BACK");
+}
+
+/* ---- the calls */
+
+Written spindle_trace_create(uint8_t *trace, size_t room)
+{
+    Out out = { trace, 0 };
+    Written w = { room < TRAILER ? 8 : 0, 0 };
+    if (w.code) return w;
+    put_trailer(&out, 0, 0);
+    w.length = out.at;
+    return w;
+}
+
+Written spindle_trace_append(uint8_t *trace, size_t room, size_t used, Cone cone, uint32_t flag, Settings settings, const double *dz, size_t ndz,
+                             const double *ds, size_t nds, const double *z, size_t nz, const double *s, size_t ns, Steps steps)
+{
+    static const Written refused_8 = { 8, 0 }, refused_9 = { 9, 0 };
+    uint32_t edition, count;
+    size_t list;
+    Recorded none;
+    if (used > room || !judge(trace, used, MOST, &edition, &count, &list, &none)) return refused_9;
+    if (cone.kind == 1 || cone.kind == 2) {
+        cone.dim1 = 3;
+        cone.dim2 = 0;
+    }
+    if (!shaped(&cone) || flag > 1 || !stepped(steps.dual_step) || !stepped(steps.primal_step)) return refused_9;
+    size_t n = cone.dim1 + cone.dim2;
+    if (ndz != n || nds != n || nz != n || ns != n) return refused_9;
+
+    uint8_t laid[LONGEST];
+    Out out = { laid, 0 };
+    put_mark(&out, "STEP");
+    put(&out, 4, 0); /* the length, once it is known */
+    put(&out, 4, cone.kind);
+    put(&out, 4, cone.dim1);
+    put(&out, 4, cone.dim2);
+    put_row(&out, cone.exps, exponents(&cone));
+    put_row(&out, &settings.start, 1);
+    put(&out, 4, flag);
+    if (flag == 0) {
+        put_row(&out, &settings.step, 1);
+        put_row(&out, &settings.smallest, 1);
+    }
+    put_row(&out, dz, n);
+    put_row(&out, ds, n);
+    put_row(&out, z, n);
+    put_row(&out, s, n);
+    put_row(&out, &steps.dual_step, 1);
+    put(&out, 4, steps.dual_count);
+    put_row(&out, &steps.primal_step, 1);
+    put(&out, 4, steps.primal_count);
+    size_t length = out.at;
+    out.at = 4;
+    put(&out, 4, length);
+
+    if (count == MOST || room - used < length + 8) return refused_8;
+    memmove(trace + list + length, trace + list, 8 * (size_t)count);
+    memcpy(trace + list, laid, length);
+    Out end = { trace, list + length + 8 * (size_t)count };
+    put(&end, 8, list);
+    put_trailer(&end, list + length, count + 1);
+    Written w = { 0, end.at };
+    return w;
+}
+
+Opened spindle_trace_open(const uint8_t *trace, size_t n)
+{
+    uint32_t edition, count;
+    size_t list;
+    Recorded none;
+    Opened refused = { 9, 0, 0 };
+    if (!judge(trace, n, MOST, &edition, &count, &list, &none)) return refused;
+    Opened o = { 0, edition, count };
+    return o;
+}
+
+Recorded spindle_trace_record(const uint8_t *trace, size_t n, uint32_t i)
+{
+    uint32_t edition, count;
+    size_t list;
+    Recorded r, refused = { .code = 9 };
+    return judge(trace, n, i, &edition, &count, &list, &r) && i < count ? r : refused;
+}

@@ -1,0 +1,277 @@
+#!/usr/bin/env python3
+"""A second reading and writing of traces, made from the words of document 02's Order 1 alone, to hold libspindle.a to.
+
+usage: layout.py rows FILE      writes FILE, some hundred rows of calls for `traces play`, and prints what it must print
+       layout.py strings FILE   writes FILE, byte strings for `traces judge`, and prints what it must print of each of them, and of small traces also
+                                for every truncation and every single-byte change
+       layout.py --help         this text
+
+A row of words is told as the number that it spells, modulo 2^61 - 1. Exit status 2: bad usage.
+"""
+import random
+import struct
+import sys
+
+MOST = 4096
+NAN = 0x7FF8000000000000
+INFINITE = 0x7FF0000000000000
+DEFAULT = [struct.unpack("<Q", struct.pack("<d", x))[0] for x in (0.8, 0.0001)]  # step and smallest step of edition 1
+
+
+def value(pattern):
+    """A pattern as a double has it: there is one NaN."""
+    return NAN if pattern & (2**63 - 1) > INFINITE else pattern
+
+
+def told(words):
+    return "%x" % (int.from_bytes(struct.pack(">%dQ" % len(words), *words), "big") % (2**61 - 1))
+
+
+# ---- what document 02 says
+
+
+def exponents(kind, dim1):
+    return dim1 if kind == 3 else kind - 1
+
+
+def shape_ok(kind, dim1, dim2):
+    if kind == 3:
+        return 1 <= dim1 <= 32 and 1 <= dim2 <= 32
+    return kind in (1, 2) and (dim1, dim2) == (3, 0)
+
+
+def step_ok(pattern):
+    """+0, or positive and finite"""
+    return pattern < INFINITE
+
+
+class Broken(Exception):
+    pass
+
+
+def read_record(data, place, end):
+    """The words that are compared, and the place behind the record."""
+
+    def take(form):
+        nonlocal at
+        size = struct.calcsize("<" + form)
+        if at + size > end:
+            raise Broken
+        at += size
+        return struct.unpack_from("<" + form, data, at - size)
+
+    at = place
+    mark, size, kind, dim1, dim2 = take("4s4I")
+    if mark != b"STEP" or not shape_ok(kind, dim1, dim2):
+        raise Broken
+    *numbers, flag = take("%dQI" % (exponents(kind, dim1) + 1))
+    if flag > 1:
+        raise Broken
+    numbers += take("2Q") if flag == 0 else DEFAULT
+    numbers += take("%dQ" % (4 * (dim1 + dim2)))
+    dual_step, dual_count, primal_step, primal_count = take("QIQI")
+    if at - place != size or not step_ok(dual_step) or not step_ok(primal_step):
+        raise Broken
+    return [kind, dim1, dim2, flag, *map(value, numbers), dual_step, dual_count, primal_step, primal_count], at
+
+
+def judge(data):
+    """The line that `traces judge` must print of a byte string."""
+    try:
+        if len(data) < 20:
+            raise Broken
+        list_at, count, edition, mark = struct.unpack("<QII4s", data[-20:])
+        if mark != b"BACK" or edition != 1 or count > MOST or list_at + 8 * count + 20 != len(data):
+            raise Broken
+        line, place = ["%d %d" % (edition, count)], 0
+        for entry in struct.unpack_from("<%dQ" % count, data, list_at):
+            words, behind = read_record(data, place, list_at)
+            if entry != place:
+                raise Broken
+            line.append("%d %s" % (place, told(words)))
+            place = behind
+        if place != list_at:
+            raise Broken
+        return " ".join(line)
+    except Broken:
+        return "9"
+
+
+def record_bytes(call):
+    """The record of a call, or none where it cannot be laid out."""
+    kind, dim1, dim2 = call["kind"], call["dim1"], call["dim2"]
+    if kind in (1, 2):
+        dim1, dim2 = 3, 0
+    n = dim1 + dim2
+    if not shape_ok(kind, dim1, dim2) or call["flag"] > 1 or any(len(row) != n for row in call["rows"]):
+        return None
+    dual_step, dual_count, primal_step, primal_count = call["steps"]
+    if not step_ok(value(dual_step)) or not step_ok(value(primal_step)):
+        return None
+    start, *others = map(value, call["settings"])
+    body = struct.pack("<3I", kind, dim1, dim2)
+    for pattern in call["exps"][: exponents(kind, dim1)]:
+        body += struct.pack("<Q", value(pattern))
+    body += struct.pack("<QI", start, call["flag"])
+    if call["flag"] == 0:
+        body += struct.pack("<2Q", *others)
+    for row in call["rows"]:
+        body += struct.pack("<%dQ" % n, *map(value, row))
+    body += struct.pack("<QIQI", dual_step, dual_count, primal_step, primal_count)
+    return b"STEP" + struct.pack("<I", len(body) + 8) + body
+
+
+def closed(body, offsets):
+    """Some bytes, and behind them a list of these offsets and its trailer."""
+    return body + struct.pack("<%dQ" % len(offsets), *offsets) + struct.pack("<QII4s", len(body), len(offsets), 1, b"BACK")
+
+
+def trace_bytes(records):
+    offsets, place = [], 0
+    for r in records:
+        offsets.append(place)
+        place += len(r)
+    return closed(b"".join(records), offsets)
+
+
+# ---- rows of calls
+
+ODD = [0, 1 << 63, INFINITE, INFINITE | 1 << 63, NAN, NAN | 5, INFINITE + 1, 1, 0x3FF0000000000000, 0x3FE999999999999A, 0xBFF0000000000000]
+
+
+def pattern(rng):
+    return rng.choice(ODD) if rng.random() < 0.3 else rng.getrandbits(64)
+
+
+def step(rng):
+    return rng.choice(ODD) if rng.random() < 0.1 else rng.getrandbits(63) % INFINITE
+
+
+def made_call(rng, kind, dim1, dim2, flag, lengths, steps):
+    return {
+        "kind": kind, "dim1": dim1, "dim2": dim2, "flag": flag, "exps": [pattern(rng) for _ in range(32)],
+        "settings": [pattern(rng) for _ in range(3)], "rows": [[pattern(rng) for _ in range(m)] for m in lengths], "steps": steps,
+    }
+
+
+def some_call(rng):
+    kind = rng.choice([1, 2, 3, 3, 3, rng.choice([0, 4, 2**32 - 1])] if rng.random() < 0.2 else [1, 2, 3])
+    small = [1, 2, 3, 5, 32]
+    dim1, dim2 = (rng.choice([0, 33, 2**32 - 1] if rng.random() < 0.05 else small) for _ in range(2))
+    n = dim1 + dim2 if kind == 3 and dim1 + dim2 <= 64 else 3
+    lengths = [n + rng.choice([-1, 1]) if rng.random() < 0.02 else n for _ in range(4)]
+    flag = rng.choice([2, 256, 2**32 - 1]) if rng.random() < 0.04 else rng.choice([0, 1])
+    return made_call(rng, kind, dim1, dim2, flag, lengths, [step(rng), rng.getrandbits(32), step(rng), rng.getrandbits(32)])
+
+
+def played(room, row):
+    """The line that `traces play` must print of a row of calls."""
+    buffer = bytearray(b"\xa5" * room)
+    if room < 20:
+        return "8 0" + " 9 0" * len(row) + " " + told(buffer)
+    records, line = [], ["0 20"]
+    buffer[:20] = trace_bytes([])
+    for used, call in row:
+        record = record_bytes(call)
+        if used is not None and used != len(trace_bytes(records)) or record is None:
+            line.append("9 0")
+        elif len(records) == MOST or len(trace_bytes(records + [record])) > room:
+            line.append("8 0")
+        else:
+            records.append(record)
+            grown = trace_bytes(records)
+            buffer[: len(grown)] = grown
+            line.append("0 %d" % len(grown))
+    return " ".join(line) + " " + told(buffer)
+
+
+def rows(path):
+    rng = random.Random(1)
+    with open(path, "wb") as out:
+        for _ in range(600):
+            room = rng.choice([0, 19, 20, 187, 196, 400, 1000, 4000, 9000])
+            row = [(rng.choice([0, 19, 21, 2**63, 2**64 - 2]) if rng.random() < 0.05 else None, some_call(rng)) for _ in range(rng.randrange(6))]
+            words = [room, len(row)]
+            for used, call in row:
+                words += [2**64 - 1 if used is None else used, call["kind"], call["dim1"], call["dim2"], *call["exps"], call["flag"], *call["settings"]]
+                for numbers in call["rows"]:
+                    words += [len(numbers), *numbers]
+                words += call["steps"]
+            out.write(struct.pack("<%dQ" % len(words), *words))
+            print(played(room, row))
+
+
+# ---- byte strings
+
+
+def one_record(rng, kind, dim1, dim2, flag):
+    n = dim1 + dim2 if kind == 3 else 3
+    return record_bytes(made_call(rng, kind, dim1, dim2, flag, [n] * 4, [rng.getrandbits(63) % INFINITE, rng.getrandbits(32), 0, 4]))
+
+
+def small_traces(rng):
+    """Traces of the three kinds and both flags, to be changed in every byte, and trailers that no one-byte change of theirs is near."""
+    first, second, third, fourth = (one_record(rng, *shape) for shape in ((1, 0, 0, 1), (2, 9, 9, 0), (3, 1, 1, 1), (3, 2, 1, 0)))
+    yield trace_bytes([])
+    yield trace_bytes([first, third])
+    yield trace_bytes([second, fourth])
+    # trailers whose numbers make the length only where a sum wraps, or point nowhere
+    yield struct.pack("<QII4s", 2**64 - 8, 1, 1, b"BACK")
+    yield struct.pack("<QII4s", 2**64 - 8 * 4096, 4096, 1, b"BACK")
+    yield struct.pack("<QII4s", 2**64 - 1, 0, 1, b"BACK")
+    # as many records as there may be, and one more, where the bytes for them are not there
+    yield struct.pack("<QII4s", 0, 4096, 1, b"BACK")
+    yield struct.pack("<QII4s", 0, 4097, 1, b"BACK")
+
+
+def near_traces(rng):
+    """What more than one byte keeps from a trace, and traces at a limit."""
+    one, two = one_record(rng, 1, 0, 0, 0), one_record(rng, 3, 32, 32, 1)
+    yield trace_bytes([two, one])
+    for stray in (b"\0", b"\0" * 8, b"STEP", one[:-8], one):
+        yield closed(stray, [])
+        yield closed(stray + one, [len(stray)])
+        yield closed(one + stray, [0])
+        yield closed(one + stray + two, [0, len(one) + len(stray)])
+    for offsets in ([len(one), 0], [0, 0], [0], [len(one)], [0, len(one), len(one) + len(two)], [0, len(one), 0]):
+        yield closed(one + two, offsets)
+    for pattern in ODD + [INFINITE - 1, 2**63 - 1, 2**64 - 1, 1 << 63 | 1]:
+        for behind in (24, 12):
+            at = len(one) - behind
+            yield closed(one[:at] + struct.pack("<Q", pattern) + one[at + 8 :], [0])
+    for kind, dim1, dim2 in ((3, 3, 0), (3, 0, 3), (3, 33, 1), (3, 1, 33), (1, 1, 2), (2, 3, 1), (2, 2, 1), (0, 3, 0), (4, 3, 0)):
+        n = dim1 + dim2
+        body = struct.pack("<3I", kind, dim1, dim2) + bytes(8 * exponents(max(kind, 1), dim1)) + bytes(8) + struct.pack("<I", 1) + bytes(32 * n + 24)
+        yield closed(b"STEP" + struct.pack("<I", len(body) + 8) + body, [0])
+
+
+def strings(path):
+    rng = random.Random(2)
+    with open(path, "wb") as out:
+        for data in near_traces(rng):
+            out.write(struct.pack("<2Q", len(data), 0) + data)
+            print(judge(data))
+        for data in small_traces(rng):
+            out.write(struct.pack("<2Q", len(data), 1) + data)
+            print(judge(data))
+            for n in range(len(data)):
+                print(judge(data[:n]))
+            print(judge(data + b"\0"))
+            for i in range(len(data)):
+                for by in range(1, 256):
+                    print(judge(data[:i] + bytes([data[i] ^ by]) + data[i + 1 :]))
+
+
+def main(words):
+    if words in (["-h"], ["--help"]):
+        print(__doc__.strip())
+    elif len(words) == 2 and words[0] in ("rows", "strings"):
+        (rows if words[0] == "rows" else strings)(words[1])
+    else:
+        print("layout: no such words: %s (try --help)" % " ".join(words), file=sys.stderr)
+        return 2
+    return 0
+
+
+if __name__ == "__main__":
+    sys.exit(main(sys.argv[1:]))

@@ -1,0 +1,447 @@
+/* Traces through include/spindle.h, over libspindle.a or over oracle/traces.c. See run.
+   traces calls        records of the three kinds written and read back, every refusal, the limit of 4,096 records, and bytes that must not move
+   traces play FILE    plays the rows of calls of FILE, and prints each answer and what the whole buffer then holds
+   traces judge FILE   opens each byte string of FILE, where it asks for them also all truncations and all single-byte changes of it, and reads the records: a
+                       line for each
+   traces measure      4,096 records of 64 numbers appended and read, with the times; and the stack of each call
+   Exit status 1: something did not hold; 2: bad usage or a bad file. */
+#include <inttypes.h>
+#include <math.h>
+#include <stdio.h>
+#include <stdlib.h>
+#include <string.h>
+#include <time.h>
+#include <ucontext.h>
+#include "spindle.h"
+
+enum { PLACES = 64, CANARY = 0xA5, MOST = 4096 };
+
+static uint64_t bits(double x) { uint64_t b; memcpy(&b, &x, 8); return b; }
+static int same(const double *a, const double *b, size_t n) { return !memcmp(a, b, 8 * n); }
+static int zeros(const double *a, size_t n)
+{
+    for (size_t i = 0; i < n; i++) if (bits(a[i])) return 0;
+    return 1;
+}
+static size_t exponents(const Cone *c) { return c->kind == 3 ? c->dim1 : c->kind == 2; }
+
+/* Every place that the record's kind does not use is +0. */
+static int padded(const Recorded *r)
+{
+    size_t n = r->cone.dim1 + r->cone.dim2, e = exponents(&r->cone);
+    return zeros(r->cone.exps + e, 32 - e) && zeros(r->dz + n, PLACES - n) && zeros(r->ds + n, PLACES - n) && zeros(r->z + n, PLACES - n)
+           && zeros(r->s + n, PLACES - n);
+}
+
+/* ---- a fixed course of calls */
+
+static long failures, checks;
+static void expect(int ok, const char *what)
+{
+    checks++;
+    if (!ok && failures++ < 10) printf("FAILED %s\n", what);
+}
+
+/* the trace stands between two rows of canaries */
+enum { ROOM = 4000, GUARD = 64 };
+static uint8_t lent[GUARD + ROOM + GUARD], old[sizeof lent];
+static uint8_t *const trace = lent + GUARD;
+static size_t used;
+static double dz[PLACES], ds[PLACES], z[PLACES], s[PLACES];
+
+static Written append(Cone cone, uint32_t flag, Settings settings, size_t n, Steps steps)
+{
+    return spindle_trace_append(trace, ROOM, used, cone, flag, settings, dz, n, ds, n, z, n, s, n, steps);
+}
+static void refused(Written w, uint32_t code, const char *what) { expect(w.code == code && w.length == 0 && !memcmp(lent, old, sizeof lent), what); }
+static int untouched(size_t from)
+{
+    for (size_t i = 0; i < sizeof lent; i++) if ((i < GUARD || i >= GUARD + from) && lent[i] != CANARY) return 0;
+    return 1;
+}
+
+static void read_back(uint32_t i, size_t at, const Cone *cone, uint32_t flag, const Settings *settings, size_t n, const Steps *steps)
+{
+    Recorded r = spindle_trace_record(trace, used, i);
+    expect(r.code == 0 && r.flag == flag && r.at == at && r.cone.kind == cone->kind, "a record's head");
+    expect(r.cone.dim1 == (cone->kind == 3 ? cone->dim1 : 3) && r.cone.dim2 == (cone->kind == 3 ? cone->dim2 : 0), "a record's dims");
+    expect(same(r.cone.exps, cone->exps, exponents(cone)), "a record's exponents");
+    expect(bits(r.settings.start) == bits(settings->start), "a record's start");
+    expect(bits(r.settings.step) == bits(flag ? 0.8 : settings->step), "a record's step setting");
+    expect(bits(r.settings.smallest) == bits(flag ? 0.0001 : settings->smallest), "a record's smallest step");
+    expect(same(r.dz, dz, n) && same(r.ds, ds, n) && same(r.z, z, n) && same(r.s, s, n), "a record's vectors");
+    expect(padded(&r), "places that the kind does not use");
+    expect(r.steps.code == 0 && r.steps.dual_count == steps->dual_count && r.steps.primal_count == steps->primal_count, "a record's counts");
+    expect(bits(r.steps.dual_step) == bits(steps->dual_step) && bits(r.steps.primal_step) == bits(steps->primal_step), "a record's steps");
+}
+
+static const Cone cones[3] = {{1, 7, 9, {0}}, {2, 0, 0, {0.3, 4.0}}, {3, 2, 3, {0.25, 0.75, 9.0}}};
+static const Settings settings = {1.0, 0.7, 1e-5};
+static const Steps steps[3] = {{99, 1, 2, 0.8, 0.0}, {0, 3, 4, 5e-324, 1.5}, {0, UINT32_MAX, 0, 1.7976931348623157e308, 0.64}};
+
+static void written_and_read(void)
+{
+    memset(lent, CANARY, sizeof lent);
+    memcpy(old, lent, sizeof lent);
+    refused(spindle_trace_create(trace, 0), 8, "create in no byte");
+    refused(spindle_trace_create(trace, 19), 8, "create in 19 bytes");
+    expect(spindle_trace_create(trace, 20).code == 0 && untouched(20), "create in 20 bytes");
+    memset(lent, CANARY, sizeof lent);
+    Written w = spindle_trace_create(trace, ROOM);
+    used = w.length;
+    expect(w.code == 0 && used == 20 && untouched(20), "create");
+    expect(spindle_trace_record(trace, used, 0).code == 9, "no record in the empty trace");
+
+    for (int i = 0; i < PLACES; i++) {
+        dz[i] = -1.0 - i;
+        ds[i] = i == 0 ? INFINITY : 0.5 * i;
+        z[i] = i == 1 ? (double)NAN : 1e300 * i;
+        s[i] = i == 2 ? -0.0 : 3.25 - i;
+    }
+    const uint32_t flags[6] = {0, 1, 0, 1, 0, 1};
+    const size_t numbers[3] = {3, 3, 5}, sizes[6] = {168, 160, 248, 152, 176, 232};
+    size_t at[6], where = 0;
+    for (int k = 0; k < 6; k++) {
+        w = append(cones[k % 3], flags[k], settings, numbers[k % 3], steps[k % 3]);
+        at[k] = where;
+        where += sizes[k];
+        expect(w.code == 0 && w.length == where + 8 * (k + 1) + 20 && untouched(w.length), "append");
+        used = w.length;
+        for (int j = 0; j <= k; j++) read_back(j, at[j], &cones[j % 3], flags[j], &settings, numbers[j % 3], &steps[j % 3]);
+    }
+    Opened o = spindle_trace_open(trace, used);
+    expect(o.code == 0 && o.edition == 1 && o.records == 6, "open");
+    Recorded none = spindle_trace_record(trace, used, 6);
+    expect(none.code == 9 && none.at == 0 && none.flag == 0 && none.cone.kind == 0 && none.cone.dim1 == 0 && none.cone.dim2 == 0, "no record 6");
+    expect(padded(&none) && zeros(&none.settings.start, 3), "no record 6: zeros");
+    expect(none.steps.dual_count == 0 && none.steps.primal_count == 0 && zeros(&none.steps.dual_step, 2), "no record 6: no steps");
+    expect(spindle_trace_record(trace, used, UINT32_MAX).code == 9, "no record of the largest number");
+    memcpy(old, lent, sizeof lent);
+    spindle_trace_open(trace, used);
+    expect(!memcmp(lent, old, sizeof lent), "reading changes nothing");
+}
+
+static void refusals(void)
+{
+    memcpy(old, lent, sizeof lent);
+    const uint32_t kinds[3] = {0, 4, UINT32_MAX}, dims[3] = {0, 33, UINT32_MAX};
+    for (int i = 0; i < 3; i++) {
+        Cone c = cones[0];
+        c.kind = kinds[i];
+        refused(append(c, 0, settings, 3, steps[1]), 9, "a kind");
+        c = cones[2];
+        c.dim1 = dims[i];
+        refused(append(c, 0, settings, 5, steps[1]), 9, "dim1");
+        c = cones[2];
+        c.dim2 = dims[i];
+        refused(append(c, 0, settings, 5, steps[1]), 9, "dim2");
+    }
+    Cone wraps = cones[2];
+    wraps.dim1 = UINT32_MAX;
+    wraps.dim2 = 4;
+    refused(append(wraps, 0, settings, 3, steps[1]), 9, "dims whose sum wraps to 3");
+    refused(append(cones[0], 2, settings, 3, steps[1]), 9, "flag 2");
+    refused(append(cones[0], 256, settings, 3, steps[1]), 9, "flag 256");
+    for (int k = 0; k < 4; k++) {
+        size_t n[4] = {3, 3, 3, 3};
+        n[k] = 4;
+        refused(spindle_trace_append(trace, ROOM, used, cones[0], 0, settings, dz, n[0], ds, n[1], z, n[2], s, n[3], steps[1]), 9, "one vector of 4 for 3");
+        n[k] = 0;
+        refused(spindle_trace_append(trace, ROOM, used, cones[0], 0, settings, dz, n[0], ds, n[1], z, n[2], s, n[3], steps[1]), 9, "one vector of none for 3");
+    }
+    refused(append(cones[2], 0, settings, 3, steps[1]), 9, "vectors of 3 for 5");
+    const double odd[5] = {NAN, -0.0, -1.0, INFINITY, -INFINITY};
+    for (int i = 0; i < 5; i++) {
+        Steps t = steps[1];
+        t.dual_step = odd[i];
+        refused(append(cones[0], 0, settings, 3, t), 9, "a dual step");
+        t = steps[1];
+        t.primal_step = odd[i];
+        refused(append(cones[0], 0, settings, 3, t), 9, "a primal step");
+    }
+    const size_t lengths[8] = {0, 19, 20, used - 1, used + 1, ROOM + 1, SIZE_MAX - 7, SIZE_MAX};
+    for (int i = 0; i < 8; i++) {
+        refused(spindle_trace_append(trace, ROOM, lengths[i], cones[0], 0, settings, dz, 3, ds, 3, z, 3, s, 3, steps[0]), 9, "another length than the trace's");
+    }
+    size_t need = used + 168 + 8;
+    refused(spindle_trace_append(trace, used - 1, used, cones[0], 0, settings, dz, 3, ds, 3, z, 3, s, 3, steps[0]), 9, "used above the slice");
+    refused(spindle_trace_append(trace, used, used, cones[0], 2, settings, dz, 3, ds, 3, z, 3, s, 3, steps[0]), 9, "9 before 8");
+    for (size_t room = used; room < need; room++) {
+        refused(spindle_trace_append(trace, room, used, cones[0], 0, settings, dz, 3, ds, 3, z, 3, s, 3, steps[0]), 8, "too little room");
+    }
+    Written w = spindle_trace_append(trace, need, used, cones[0], 0, settings, dz, 3, ds, 3, z, 3, s, 3, steps[0]);
+    expect(w.code == 0 && w.length == need && spindle_trace_open(trace, need).records == 7 && untouched(need), "exactly the room");
+
+    /* a list at 2^64 - 1, and one that a wrapping sum would take for good */
+    const uint8_t far[20] = {255, 255, 255, 255, 255, 255, 255, 255, 0, 0, 0, 0, 1, 0, 0, 0, 'B', 'A', 'C', 'K'};
+    const uint8_t wrapping[20] = {248, 255, 255, 255, 255, 255, 255, 255, 1, 0, 0, 0, 1, 0, 0, 0, 'B', 'A', 'C', 'K'};
+    memcpy(trace, far, 20);
+    expect(spindle_trace_open(trace, 20).code == 9, "a list at 2^64 - 1");
+    memcpy(trace, wrapping, 20);
+    expect(spindle_trace_open(trace, 20).code == 9, "a list and a count whose sum wraps");
+    memcpy(old, lent, sizeof lent);
+    used = 20;
+    refused(append(cones[0], 0, settings, 3, steps[0]), 9, "an append to it");
+}
+
+/* A trace of so many equal records, made from one: 4,096 appends would take most of the test's time. */
+static size_t many(uint8_t *to, const uint8_t *record, size_t size, uint32_t count)
+{
+    for (uint32_t i = 0; i < count; i++) {
+        memcpy(to + i * size, record, size);
+        uint64_t at = i * size;
+        memcpy(to + count * size + 8 * i, &at, 8); /* little-endian as the machine */
+    }
+    uint64_t list = count * size;
+    uint32_t edition = 1;
+    uint8_t *trailer = to + (size + 8) * count;
+    memcpy(trailer, &list, 8);
+    memcpy(trailer + 8, &count, 4);
+    memcpy(trailer + 12, &edition, 4);
+    memcpy(trailer + 16, "BACK", 4);
+    return (size + 8) * count + 20;
+}
+
+static void the_limit(void)
+{
+    used = spindle_trace_create(trace, ROOM).length;
+    Written w = append(cones[1], 1, settings, 3, steps[1]);
+    const size_t size = 160, room = 4100 * (size + 8);
+    uint8_t *big = malloc(room), *before = malloc(room);
+    expect(w.code == 0 && w.length == size + 28, "one record");
+    memset(big, CANARY, room);
+    size_t n = many(big, trace, size, MOST - 1);
+    Opened o = spindle_trace_open(big, n);
+    expect(o.code == 0 && o.records == MOST - 1, "4,095 records");
+    w = spindle_trace_append(big, room, n, cones[1], 1, settings, dz, 3, ds, 3, z, 3, s, 3, steps[1]);
+    many(before, trace, size, MOST);
+    expect(w.code == 0 && w.length == MOST * (size + 8) + 20 && !memcmp(big, before, w.length) && big[w.length] == CANARY, "4,096 records");
+    n = w.length;
+    memcpy(before, big, room);
+    w = spindle_trace_append(big, room, n, cones[1], 1, settings, dz, 3, ds, 3, z, 3, s, 3, steps[1]);
+    expect(w.code == 8 && w.length == 0 && !memcmp(big, before, room), "4,096 records already");
+    w = spindle_trace_append(big, room, n, cones[1], 2, settings, dz, 3, ds, 3, z, 3, s, 3, steps[1]);
+    expect(w.code == 9 && w.length == 0 && !memcmp(big, before, room), "9 before 4,096 records already");
+    Recorded r = spindle_trace_record(big, n, MOST - 1);
+    expect(r.code == 0 && r.at == (MOST - 1) * size && r.cone.kind == 2, "record 4,095");
+    expect(spindle_trace_record(big, n, MOST).code == 9, "no record 4,096");
+    n = many(big, trace, size, MOST + 1);
+    expect(spindle_trace_open(big, n).code == 9 && spindle_trace_record(big, n, 0).code == 9, "4,097 records");
+    free(big);
+    free(before);
+}
+
+/* ---- files: 64-bit words, and bytes */
+
+static FILE *file;
+static int word(uint64_t *w) { return fread(w, 8, 1, file) == 1; }
+static void early(void) { fprintf(stderr, "traces: the file ends too early\n"); exit(2); }
+static uint64_t next(void)
+{
+    uint64_t w;
+    if (!word(&w)) early();
+    return w;
+}
+static double number(void) { uint64_t b = next(); double x; memcpy(&x, &b, 8); return x; }
+
+/* A row of words as the number that it spells, modulo 2^61 - 1: 2^64 is 8 there. */
+#define MODULUS ((UINT64_C(1) << 61) - 1)
+static uint64_t rest(uint64_t x) { x = (x & MODULUS) + (x >> 61); return x >= MODULUS ? x - MODULUS : x; }
+static uint64_t more(uint64_t told, uint64_t w) { return rest((((told << 3) & MODULUS) | told >> 58) + rest(w)); }
+static uint64_t more_row(uint64_t told, const double *row, size_t n)
+{
+    for (size_t i = 0; i < n; i++) told = more(told, bits(row[i]));
+    return told;
+}
+
+/* A row is the room and its calls; of each: used (all ones for the trace's own length), cone, flag, settings, four lengths and vectors, steps. */
+static void play(void)
+{
+    uint64_t room;
+    while (word(&room)) {
+        uint8_t *b = malloc(room + GUARD);
+        memset(b, CANARY, room + GUARD);
+        Written w = spindle_trace_create(b, room);
+        uint64_t length = w.length;
+        printf("%" PRIu32 " %" PRIu64, w.code, w.length);
+        for (uint64_t left = next(); left; left--) {
+            uint64_t front = next();
+            Cone c;
+            c.kind = (uint32_t)next();
+            c.dim1 = (uint32_t)next();
+            c.dim2 = (uint32_t)next();
+            for (int i = 0; i < 32; i++) c.exps[i] = number();
+            uint32_t flag = (uint32_t)next();
+            Settings t;
+            t.start = number();
+            t.step = number();
+            t.smallest = number();
+            double row[4][PLACES + 8];
+            uint64_t n[4];
+            for (int k = 0; k < 4; k++) {
+                n[k] = next();
+                for (uint64_t i = 0; i < n[k]; i++) row[k][i] = number();
+            }
+            Steps a = {.code = 7};
+            a.dual_step = number();
+            a.dual_count = (uint32_t)next();
+            a.primal_step = number();
+            a.primal_count = (uint32_t)next();
+            w = spindle_trace_append(b, room, front == UINT64_MAX ? length : front, c, flag, t, row[0], n[0], row[1], n[1], row[2], n[2], row[3], n[3], a);
+            if (w.code == 0) length = w.length;
+            printf(" %" PRIu32 " %" PRIu64, w.code, w.length);
+        }
+        uint64_t told = 0;
+        for (uint64_t i = 0; i < room; i++) told = more(told, b[i]);
+        for (uint64_t i = room; i < room + GUARD; i++) if (b[i] != CANARY) printf(" (a byte behind the slice was written)");
+        printf(" %" PRIx64 "\n", told);
+        free(b);
+    }
+}
+
+static void judge(const uint8_t *bytes, size_t n)
+{
+    Opened o = spindle_trace_open(bytes, n);
+    if (o.code) {
+        Recorded r = spindle_trace_record(bytes, n, 0);
+        printf("%s\n", o.code == 9 && o.edition == 0 && o.records == 0 && r.code == 9 ? "9" : "neither 0 nor 9");
+        return;
+    }
+    printf("%" PRIu32 " %" PRIu32, o.edition, o.records);
+    for (uint32_t i = 0; i < o.records; i++) {
+        Recorded r = spindle_trace_record(bytes, n, i);
+        size_t m = r.cone.dim1 + r.cone.dim2;
+        uint64_t told = more(more(more(more(0, r.cone.kind), r.cone.dim1), r.cone.dim2), r.flag);
+        told = more_row(more_row(told, r.cone.exps, exponents(&r.cone)), &r.settings.start, 3);
+        told = more_row(more_row(more_row(more_row(told, r.dz, m), r.ds, m), r.z, m), r.s, m);
+        told = more(more(told, bits(r.steps.dual_step)), r.steps.dual_count);
+        told = more(more(told, bits(r.steps.primal_step)), r.steps.primal_count);
+        printf(" %" PRIu64 " %" PRIx64 "%s", r.at, told, r.code == 0 && padded(&r) ? "" : " (places that the kind does not use are not zero)");
+    }
+    printf("%s\n", spindle_trace_record(bytes, n, o.records).code == 9 ? "" : " (one record more than there are)");
+}
+
+/* A string is its length, 1 if it is to be cut and changed, too, and its bytes. */
+static void judge_all(void)
+{
+    uint64_t n;
+    while (word(&n)) {
+        uint64_t changed = next();
+        uint8_t *b = malloc(n + 1);
+        if (fread(b, 1, n, file) != n) early();
+        judge(b, n);
+        for (uint64_t m = 0; changed && m < n; m++) judge(b, m);
+        b[n] = 0;
+        if (changed) judge(b, n + 1);
+        for (uint64_t i = 0; changed && i < n; i++) {
+            for (int by = 1; by < 256; by++) {
+                b[i] ^= (uint8_t)by;
+                judge(b, n);
+                b[i] ^= (uint8_t)by;
+            }
+        }
+        free(b);
+    }
+}
+
+/* ---- a full trace */
+
+static double seconds(clock_t from) { return (double)(clock() - from) / CLOCKS_PER_SEC; }
+
+static void fill(void)
+{
+    Cone c = {3, 32, 32, {0}};
+    for (int i = 0; i < 32; i++) c.exps[i] = 1.0 / 32;
+    const size_t room = MOST * (size_t)2384 + 20;
+    uint8_t *b = malloc(room);
+    size_t n = spindle_trace_create(b, room).length;
+    clock_t from = clock();
+    for (int i = 0; i < MOST; i++) {
+        Written w = spindle_trace_append(b, room, n, c, 0, settings, dz, 64, ds, 64, z, 64, s, 64, steps[1]);
+        if (w.code) break;
+        n = w.length;
+    }
+    double filled = seconds(from);
+    from = clock();
+    uint32_t records = spindle_trace_open(b, n).records;
+    double opened = seconds(from);
+    from = clock();
+    long wrong = 0;
+    for (uint32_t i = 0; i < records; i++) wrong += spindle_trace_record(b, n, i).at != i * (uint64_t)2376;
+    double read = seconds(from);
+    expect(records == MOST && n == room && wrong == 0, "a full trace");
+    printf("full: %" PRIu32 " records of 64 numbers, %zu bytes: appended one by one in %.3f s, ", records, n, filled);
+    printf("opened in %.6f s, all read one by one in %.3f s\n", opened, read);
+    free(b);
+}
+
+/* ---- the stack of a call, arguments and answer included: a painted one of its own */
+
+enum { STACK = 1 << 16, CALLS = 4 };
+static uint8_t painted[STACK] __attribute__((aligned(64)));
+static ucontext_t outside, inside;
+static int chosen;
+static const Cone widest = {3, 32, 32, {0}};
+static Written written;
+static Opened opened;
+
+__attribute__((noinline)) static void create_once(void) { written = spindle_trace_create(trace, ROOM); }
+__attribute__((noinline)) static void append_once(void) { written = append(widest, 0, settings, 64, steps[1]); }
+__attribute__((noinline)) static void open_once(void) { opened = spindle_trace_open(trace, used); }
+__attribute__((noinline)) static void record_once(void) { if (spindle_trace_record(trace, used, 0).code) failures++; }
+
+static void chosen_call(void)
+{
+    static void (*const once[CALLS])(void) = {create_once, append_once, open_once, record_once};
+    if (chosen < CALLS) once[chosen]();
+}
+static size_t stack_of(int call)
+{
+    chosen = call;
+    memset(painted, CANARY, STACK);
+    getcontext(&inside);
+    inside.uc_stack.ss_sp = painted;
+    inside.uc_stack.ss_size = STACK;
+    inside.uc_link = &outside;
+    makecontext(&inside, chosen_call, 0);
+    swapcontext(&outside, &inside);
+    size_t i = 0;
+    while (i < STACK && painted[i] == CANARY) i++;
+    return STACK - i;
+}
+
+static void stacks(void)
+{
+    size_t empty = stack_of(CALLS), bytes[CALLS];
+    for (int call = 0; call < CALLS; call++) {
+        bytes[call] = stack_of(call) - empty;
+        used = written.length;
+    }
+    expect(written.code == 0 && opened.code == 0 && opened.records == 1, "the measured calls");
+    printf("stack bytes of a call: create %zu, append %zu, open %zu, record %zu\n", bytes[0], bytes[1], bytes[2], bytes[3]);
+}
+
+int main(int argc, char **argv)
+{
+    const char *job = argc > 1 ? argv[1] : "";
+    if (argc == 2 && !strcmp(job, "calls")) {
+        written_and_read();
+        refusals();
+        the_limit();
+        printf("%ld\n", checks);
+        return failures != 0;
+    }
+    if (argc == 2 && !strcmp(job, "measure")) {
+        stacks();
+        fill();
+        return failures != 0;
+    }
+    if (argc == 3 && (!strcmp(job, "play") || !strcmp(job, "judge"))) {
+        file = fopen(argv[2], "rb");
+        if (!file) { fprintf(stderr, "traces: cannot read %s\n", argv[2]); return 2; }
+        if (job[0] == 'p') play(); else judge_all();
+        return 0;
+    }
+    fprintf(stderr, "usage: traces calls | play FILE | judge FILE | measure\n");
+    return 2;
+}

@@ -95,7 +95,7 @@ roots='opt|tmp|root|home|mnt|srv|work|Users'
 if git rev-parse --git-dir >/dev/null 2>&1; then
     found=$(git grep -nIE "(^|[^A-Za-z0-9._/-])/($roots)/[A-Za-z]" -- . ':!docs/src' ':!test.sh' || true)
 else
-    found=$(grep -rnIE "(^|[^A-Za-z0-9._/-])/($roots)/[A-Za-z]" --exclude-dir=target --exclude-dir=src --exclude=test.sh . || true)
+    found=$(grep -rnIE "(^|[^A-Za-z0-9._/-])/($roots)/[A-Za-z]" --exclude-dir=target --exclude=test.sh . | grep -v '^\./docs/src/' || true)
 fi
 [ -z "$found" ] || die "paths of a machine:
 $found"

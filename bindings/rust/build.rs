@@ -34,6 +34,8 @@ fn main() {
     if !folder.join("libspindle.a").is_file() {
         stop(format!("there is no libspindle.a in {}", folder.display()));
     }
+    // cargo does not look at the archive by itself, and would go on with the one it linked before
+    println!("cargo:rerun-if-changed={}", folder.join("libspindle.a").display());
     println!("cargo:rustc-link-search=native={}", folder.display());
     println!("cargo:rustc-link-lib=static=spindle");
 }

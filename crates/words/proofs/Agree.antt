@@ -1,5 +1,5 @@
--- 01: "For each, show that any two outcomes allowed by it agree". Not here: `front` and `behind`, which hand back a part of the slice that they were lent; their contracts fix
--- what the part holds, not where it lies. Assumes nothing.
+-- 01: "For each, show that any two outcomes allowed by it agree". Not here: `front` and `behind`, which hand back a part of
+-- the slice that they were lent; their contracts fix what the part holds, not where it lies. Assumes nothing.
 use mathlib.Core.Path.{refl, sym, _∙_}
 use mathlib.Core.List.{List}
 use Prim.Native.Nat.{ℕ}

@@ -7,7 +7,8 @@ use lib.ListN.{length, take, drop, getD, length-append, length-drop}
 use lib.Seq.{drop-at, take-add, drop-drop}
 use Rattle.words.specs.Words.{spelled, wordAt, rowBytes, rowOf, AllBelow}
 use Rattle.words.specs.Runs.{Run, runsSize, runsBytes, runsOf, Suits}
-use Rattle.words.proofs.Words.{length-rowBytes, length-rowOf, rowOf-rowBytes, rowBytes-rowOf, rowOf-below, below-drop, below-append, rowBytes-below}
+use Rattle.words.proofs.Words.{length-rowBytes, length-rowOf, rowOf-rowBytes, rowBytes-rowOf, rowOf-below, below-drop, below-append}
+use Rattle.words.proofs.Words.{rowBytes-below}
 
 pub length-runsBytes : (runs : List Run) (rows : List (List ℕ)) → Suits runs rows → length (runsBytes runs rows) ≡ runsSize runs
 unfolding runsBytes runsSize Suits

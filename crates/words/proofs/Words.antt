@@ -1,4 +1,5 @@
--- Reading what was written gives it back, and what is read was written so: of one number over its count of bytes, of a row over its count of numbers. Assumes nothing.
+-- Reading what was written gives it back, and what is read was written so: of one number over
+-- its count of bytes, of a row over its count of numbers. Assumes nothing.
 use mathlib.Core.Path.{_≡_, refl, sym, ap, _∙_}
 use Prim.Native.Nat.{ℕ, zero, suc, _+_, _*_, _/_, _%_, _^_, _<_, _≤_}
 use mathlib.Core.List.{List, [], _∷_, _++_, append-assoc}

@@ -1,4 +1,5 @@
--- `put` meets its contract. The loop's invariant: writing the bytes that are left gives what the call is to leave. The measure is their number. Assumes nothing.
+-- `put` meets its contract. The loop's invariant: writing the bytes that are left gives
+-- what the call is to leave. The measure is their number. Assumes nothing.
 use mathlib.Core.Path.{_≡_, refl, _∙_}
 use Prim.Native.Nat.{_≤_, _+_, _-_}
 use native.Mathlib.Omega.{arith}

@@ -1,4 +1,5 @@
--- `put_words` meets its contract. The loop's invariant: writing the numbers that are left gives what the call is to leave. The measure is their count. Assumes nothing.
+-- `put_words` meets its contract. The loop's invariant: writing the numbers that are left
+-- gives what the call is to leave. The measure is their count. Assumes nothing.
 use mathlib.Core.Path.{_≡_, refl, sym, ap, _∙_}
 use mathlib.Core.List.{List}
 use Prim.Native.Nat.{ℕ, _+_, _*_, _-_, _≤_, _<_}

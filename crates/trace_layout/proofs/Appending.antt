@@ -1,6 +1,6 @@
 -- One record more: what is written behind the records, and that the bytes stored in place are the longer trace. Assumes nothing.
 use mathlib.Core.Path.{_≡_, refl, sym, ap, _∙_}
-use Prim.Native.Nat.{ℕ, _+_, _-_, _≤_}
+use Prim.Native.Nat.{ℕ, _+_, _≤_}
 use mathlib.Core.List.{List, [], _∷_, _++_, append-assoc, append-nil}
 use native.Mathlib.Omega.{arith}
 use lib.ListN.{length, take, drop, length-append}
@@ -81,7 +81,8 @@ module _ (e : ℕ) (rs : List Record) (r : Record) (laid : AllLaid e rs) (sized 
     old-entries : take (length entries) (drop (length body) bs) ≡ entries
     old-entries = rw (drop-at body (entries ++ tail) (length body) refl) (take-at entries tail (length entries) refl)
 
-    -- the list is moved up, the record put in its old place, and behind the list the new entry and the trailer: the bytes are the longer trace, and those behind it stay
+    -- the list is moved up, the record put in its old place, and behind the list the new entry
+    -- and the trailer: the bytes are the longer trace, and those behind it stay
     pub stored : length body + length added ≤ length bs
         → sets (sets (sets bs (length body + length (bytesOf e r)) (take (length entries) (drop (length body) bs))) (length body)
         (bytesOf e r)) (length body + length (bytesOf e r ++ entries)) (le 8 (length body) ++ last)

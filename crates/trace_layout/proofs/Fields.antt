@@ -7,7 +7,8 @@ use lib.ListN.{take, drop, getD}
 use Rattle.words.specs.Words.{wordAt, rowOf}
 use Rattle.words.specs.Runs.{Run, runsSize}
 use Rattle.words.proofs.Runs.{number-at, row-at}
-use Rattle.trace_layout.specs.Records.{Record, rulesIn, exponents, settingsIn, runsFor, flagPlace, kindAt, dim1At, dim2At, flagAt, runsAt, sizeAt, ofRows, recordAt}
+use Rattle.trace_layout.specs.Records.{Record, rulesIn, exponents, settingsIn, runsFor, flagPlace, kindAt, dim1At, dim2At, flagAt}
+use Rattle.trace_layout.specs.Records.{runsAt, sizeAt, ofRows, recordAt}
 
 module _ (e : ℕ) (t : List ℕ) where
   abbrev R : List Run

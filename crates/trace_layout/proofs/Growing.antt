@@ -1,6 +1,6 @@
 -- A slice that begins with a good trace: how long the trace with one record more is, and how it is stored in the slice. Assumes nothing.
 use mathlib.Core.Path.{_≡_, sym, ap, _∙_}
-use Prim.Native.Nat.{ℕ, _+_, _*_, _-_, _≤_}
+use Prim.Native.Nat.{ℕ, _+_, _*_, _≤_}
 use mathlib.Core.Bool.{true}
 use mathlib.Core.List.{List, _++_, append-assoc}
 use native.Mathlib.Omega.{arith}
@@ -9,8 +9,10 @@ use lib.Seq.{sets, length-take-le}
 use Rattle.words.specs.Words.{le, rowBytes, AllBelow}
 use Rattle.words.proofs.Words.{length-le, length-rowBytes, below-take}
 use Rattle.trace_layout.specs.Records.{Record, bytesOf, sizeIn}
-use Rattle.trace_layout.specs.Traces.{mostRecords, recordsBytes, offsetsFrom, trailerOf, traceOf, listAt, countAt, editionAt, goodTrace, recordsOf, AllLaid}
-use Rattle.trace_layout.proofs.Traces.{Ends, good-ends, good-laid, good-count, good-is-written, list-written, length-offsets, length-trailer}
+use Rattle.trace_layout.specs.Traces.{mostRecords, recordsBytes, offsetsFrom, trailerOf, traceOf, listAt, countAt, editionAt}
+use Rattle.trace_layout.specs.Traces.{goodTrace, recordsOf, AllLaid}
+use Rattle.trace_layout.proofs.Traces.{Ends, good-ends, good-laid, good-count, good-is-written, list-written, length-offsets}
+use Rattle.trace_layout.proofs.Traces.{length-trailer}
 use Rattle.trace_layout.proofs.Appending.{single, appended, stored}
 
 -- the pieces of the longer trace, in numbers

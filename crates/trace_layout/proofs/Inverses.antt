@@ -12,7 +12,8 @@ use Rattle.trace_layout.specs.Records.{Record, bytesOf, sizeIn}
 use Rattle.trace_layout.specs.Traces.{recordsBytes, offsetsFrom, trailerOf, traceOf, AllLaid, editionAt, offsetAt, recordsOf}
 use Rattle.trace_layout.specs.Inverses.{OfRecords, Makes, OfTraces, OfAppending}
 use Rattle.trace_layout.proofs.Records.{laid-back, record-back, length-bytesOf, bytes-read, laid-read, sized-read}
-use Rattle.trace_layout.proofs.Traces.{good-written, edition-written, read-written, list-written, length-offsets, body-fits, good-is-written, good-ends, good-count, good-laid}
+use Rattle.trace_layout.proofs.Traces.{good-written, edition-written, read-written, list-written, length-offsets, body-fits}
+use Rattle.trace_layout.proofs.Traces.{good-is-written, good-ends, good-count, good-laid}
 use Rattle.trace_layout.proofs.Appending.{single}
 
 pub records-inverse : OfRecords
@@ -25,7 +26,8 @@ records-inverse = record {
 
 -- ---- the list's entries
 
-offsets-fit : (e at : ℕ) (rs : List Record) → AllLaid e rs → at + length (recordsBytes e rs) < 256 ^ 8 → AllBelow (256 ^ 8) (offsetsFrom e at rs)
+offsets-fit : (e at : ℕ) (rs : List Record) → AllLaid e rs → at + length (recordsBytes e rs) < 256 ^ 8
+    → AllBelow (256 ^ 8) (offsetsFrom e at rs)
 unfolding offsetsFrom recordsBytes AllLaid AllBelow
 offsets-fit e at [] h g = tt
 offsets-fit e at (r ∷ rs) h g =

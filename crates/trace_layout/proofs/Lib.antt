@@ -1,4 +1,5 @@
--- Laws of records (Fields, Records) and of traces (Traces), of one record more (Appending, Growing), of the list's entries (Entries), and the theorems (Inverses).
+-- Laws of records (Fields, Records) and of traces (Traces), of one record more (Appending,
+-- Growing), of the list's entries (Entries), and the theorems (Inverses).
 pub mod Fields
 pub mod Records
 pub mod Traces

@@ -9,10 +9,13 @@ use lib.ListN.{length, take, drop, getD, replicate, length-append, length-replic
 use borrow.Author.Tests.{eq-eqb, eqb-true, leb-true, le-leb, ltb-true}
 use mathlib.Core.Logic.{_⊎_, inl, inr, ⊎-elim}
 use Rattle.arith.proofs.Branches.{and-left, and-right, false-not-true}
-use Rattle.words.specs.Words.{le, wordAt, rowOf, AllBelow}
+use Rattle.words.specs.Words.{wordAt, rowOf, AllBelow}
 use Rattle.words.specs.Runs.{Run, runsSize, runsOf, Suits}
-use Rattle.words.proofs.Runs.{noRun, number-at, RowSuits, suits-at, only-below, length-runsBytes, runsOf-runsBytes, runsBytes-runsOf, runsOf-suits}
-use Rattle.trace_layout.specs.Records.{Record, Laid, Sized, stepMark, rulesIn, exponents, settingsIn, run, runsFor, runsIn, sizeIn, one, rowsIn, bytesOf, dimsOk, stepOk, shapeOk, kindAt, dim1At, dim2At, flagPlace, flagAt, runsAt, sizeAt, laidAt, only, row, ofRows, recordAt}
+use Rattle.words.proofs.Runs.{noRun, number-at, RowSuits, suits-at, only-below, length-runsBytes, runsOf-runsBytes, runsBytes-runsOf}
+use Rattle.words.proofs.Runs.{runsOf-suits}
+use Rattle.trace_layout.specs.Records.{Record, Laid, Sized, stepMark, rulesIn, exponents, settingsIn, run, runsFor, runsIn, sizeIn}
+use Rattle.trace_layout.specs.Records.{one, rowsIn, bytesOf, dimsOk, stepOk, shapeOk, kindAt, dim1At, dim2At, flagPlace, flagAt}
+use Rattle.trace_layout.specs.Records.{runsAt, sizeAt, laidAt, only, row, ofRows, recordAt}
 use Rattle.trace_layout.proofs.Fields.{kind-of, dim1-of, dim2-of, flag-of, dualstep-of, primalstep-of}
 
 -- the rows of a record are taken back to the record

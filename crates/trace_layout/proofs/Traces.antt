@@ -14,8 +14,10 @@ use Rattle.words.specs.Runs.{runsSize, runsBytes, runsOf, Suits}
 use Rattle.words.proofs.Words.{length-le, spelled-le, le-spelled, length-rowBytes, rowBytes-below, below-append, below-take, below-drop}
 use Rattle.words.proofs.Runs.{number-at, runsBytes-below, runsOf-runsBytes, runsBytes-runsOf, word-behind}
 use Rattle.trace_layout.specs.Records.{Record, sizeIn, one, bytesOf, only, sizeAt, laidAt}
-use Rattle.trace_layout.specs.Traces.{backMark, mostRecords, newestEdition, known, recordsBytes, offsetsFrom, trailerRuns, trailerOf, traceOf, AllLaid, listAt, countAt, editionAt, trailerOk, walks, goodTrace, recordsIn, recordsOf}
-use Rattle.trace_layout.proofs.Records.{bounds, size-most, size-back, record-back, laid-back, length-bytesOf, bytes-read, laid-read, sized-read, size-read}
+use Rattle.trace_layout.specs.Traces.{backMark, mostRecords, newestEdition, known, recordsBytes, offsetsFrom, trailerRuns, trailerOf}
+use Rattle.trace_layout.specs.Traces.{traceOf, AllLaid, listAt, countAt, editionAt, trailerOk, walks, goodTrace, recordsIn, recordsOf}
+use Rattle.trace_layout.proofs.Records.{bounds, size-most, size-back, record-back, laid-back, length-bytesOf, bytes-read, laid-read}
+use Rattle.trace_layout.proofs.Records.{sized-read, size-read}
 
 -- ---- the walk over records that were written
 
@@ -79,7 +81,9 @@ records-below e (r ∷ rs) = below-append 256 (bytesOf e r) (recordsBytes e rs) 
 
 pub trace-below : (e : ℕ) (rs : List Record) → AllBelow 256 (traceOf e rs)
 unfolding traceOf trailerOf
-trace-below e rs = below-append 256 _ _ (records-below e rs) (below-append 256 _ _ (rowBytes-below 8 (offsetsFrom e 0 rs)) (runsBytes-below trailerRuns _))
+trace-below e rs =
+    below-append 256 _ _ (records-below e rs)
+    (below-append 256 _ _ (rowBytes-below 8 (offsetsFrom e 0 rs)) (runsBytes-below trailerRuns _))
 
 -- ---- the trailer that was written
 

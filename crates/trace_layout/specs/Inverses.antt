@@ -1,12 +1,13 @@
 -- 02: "what one writes the other reads back the same". Statements of the theorems on records and traces; proofs/Inverses has the proofs.
-use Prim.Native.Nat.{ℕ, _+_, _≤_, _<_}
+use Prim.Native.Nat.{ℕ, _≤_, _<_}
 use mathlib.Core.Path.{_≡_}
 use mathlib.Core.Bool.{true}
 use mathlib.Core.List.{List, [], _∷_, _++_}
 use lib.ListN.{length, take, getD}
 use Rattle.words.specs.Words.{AllBelow}
 use Rattle.trace_layout.specs.Records.{Record, Laid, Sized, bytesOf, laidAt, sizeAt, recordAt}
-use Rattle.trace_layout.specs.Traces.{mostRecords, known, recordsBytes, offsetsFrom, traceOf, AllLaid, editionAt, offsetAt, goodTrace, recordsOf}
+use Rattle.trace_layout.specs.Traces.{mostRecords, known, recordsBytes, offsetsFrom, traceOf, AllLaid, editionAt, offsetAt, goodTrace}
+use Rattle.trace_layout.specs.Traces.{recordsOf}
 
 -- of one record, whatever lies behind it
 pub record OfRecords : Type 0 where

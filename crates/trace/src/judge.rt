@@ -2,8 +2,7 @@
 ghost use mathlib.Core.Path.{_≡_};
 ghost use Prim.Native.Nat.{_+_, _*_, _-_, _≤_};
 ghost use lib.Dec.{eqb};
-ghost use lib.ListN.{length};
-ghost use Rattle.trace_layout.specs.Traces.{known, trailerOk, walks};
+ghost use Rattle.trace_layout.specs.Traces.{known, walks};
 ghost use Rattle.trace.specs.Opening.{trailerAt, trailerOkWith, goodWith, openOf};
 use super::BACK_MARK;
 use super::Found;

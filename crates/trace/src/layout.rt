@@ -2,7 +2,7 @@
 ghost use mathlib.Core.Path.{_≡_};
 ghost use lib.ListN.{take, drop};
 ghost use Rattle.words.specs.Runs.{runsSize};
-ghost use Rattle.trace_layout.specs.Records.{rulesIn, exponents, settingsIn, runsFor, flagPlace, dimsOk, stepOk, shapeOk, laidAt};
+ghost use Rattle.trace_layout.specs.Records.{rulesIn, exponents, settingsIn, runsFor, flagPlace, dimsOk, stepOk, shapeOk};
 ghost use Rattle.trace.specs.Shapes.{shapeAt, laidWith, foundAt};
 use super::Found;
 use super::STEP_MARK;

@@ -7,15 +7,18 @@ use Rattle.trace.proofs.judge.trailer_at.Tie as tie
 returns : tie.Need-returns
 unfolding trailerAt
 returns c =
+    let edition = c .before .before in
+    let count = edition .before .before in
+    let list = count .before .before in
     rw (
       c .u32-at3 .ensures,
       c .before .less4 .ensures,
-      c .before .before .u32-at2 .ensures,
-      c .before .before .before .less3 .ensures,
-      c .before .before .before .before .u32-at .ensures,
-      c .before .before .before .before .before .less2 .ensures,
-      c .before .before .before .before .before .before .u64-at .ensures,
-      c .before .before .before .before .before .before .before .less .ensures,
+      edition .u32-at2 .ensures,
+      edition .before .less3 .ensures,
+      count .u32-at .ensures,
+      count .before .less2 .ensures,
+      list .u64-at .ensures,
+      list .before .less .ensures,
     )
 
 pub trailer-at-spec : {M : Type 1} → statement M

@@ -1,4 +1,5 @@
--- `walk` meets its contract. The loop's invariant: what is left to walk decides the whole walk, and the place is in the body. The measure is the count of records left. Assumes nothing.
+-- `walk` meets its contract. The loop's invariant: what is left to walk decides the whole walk, and the
+-- place is in the body. The measure is the count of records left. Assumes nothing.
 use borrow.Author.Needs.{needs}
 use Rattle.trace.proofs.Walking.{record-is-laid, broken-is-not, not-laid, other-entry, walked-on, lies-inside, walked-all}
 use mathlib.Core.Path.{_≡_, sym, ap, _∙_}
@@ -22,31 +23,44 @@ Inv-loop edition body entries count at₀ i₀ at i =
 abbrev μ-loop : tie.MeasureT-loop
 μ-loop edition body entries count at₀ i₀ at i = count - i
 
+-- the places of the code: what was found at the loop's place, the loop's turn, and the call's own
+abbrev searched : tie.After-shape Inv-loop μ-loop → tie.After-found-at Inv-loop μ-loop
+searched c = c .before .before
+
+abbrev turn : tie.After-found-at Inv-loop μ-loop → tie.At-loop Inv-loop μ-loop
+turn f = f .before .before .before
+
+abbrev given : tie.At-loop Inv-loop μ-loop → tie.Start Inv-loop μ-loop
+given l = l .before .before .before
+
+abbrev rest : tie.At-loop Inv-loop μ-loop → List ℕ
+rest l = drop (l .loop .at) (given l .args .body .now)
+
+found : (f : tie.After-found-at Inv-loop μ-loop) → f .found-at .result ≡ foundAt (given (turn f) .args .edition) (rest (turn f))
+found f = f .found-at .ensures ∙ ap (foundAt (given (turn f) .args .edition)) (f .before .behind .ensures)
+
 -- what the record that was found says of the bytes
-abbrev at-loop : tie.After-shape Inv-loop μ-loop → tie.At-loop Inv-loop μ-loop
-at-loop c = c .before .before .before .before .before
+module _ (c : tie.After-shape Inv-loop μ-loop) where
+  abbrev l : tie.At-loop Inv-loop μ-loop
+  l = turn (searched c)
 
-abbrev given : tie.After-shape Inv-loop μ-loop → tie.Start Inv-loop μ-loop
-given c = at-loop c .before .before .before
+  abbrev e : ℕ
+  e = given l .args .edition
 
-abbrev rest : tie.After-shape Inv-loop μ-loop → List ℕ
-rest c = drop (at-loop c .loop .at) (given c .args .body .now)
+  abbrev shape : Shape
+  shape = c .shape .given .0 .0
 
-laid : (c : tie.After-shape Inv-loop μ-loop) → (laidAt (given c .args .edition) (rest c) ≡ true)
-    × (c .shape .given .0 .0 ≡ shapeAt (given c .args .edition) (rest c))
-laid c =
-    record-is-laid (given c .args .edition) (rest c) (c .shape .given .0 .0)
-    (sym (c .before .before .found-at .ensures ∙ ap (foundAt (given c .args .edition)) (c .before .before .before .behind .ensures))
-    ∙ c .shape .given .1)
+  laid : (laidAt e (rest l) ≡ true) × (shape ≡ shapeAt e (rest l))
+  laid = record-is-laid e (rest l) shape (sym (found (searched c)) ∙ c .shape .given .1)
 
-size : (c : tie.After-shape Inv-loop μ-loop) → c .shape .given .0 .0 .size ≡ sizeAt (given c .args .edition) (rest c)
-unfolding shapeAt
-size c = ap (λ (x : Shape). x .size) (laid c .1)
+  size : shape .size ≡ sizeAt e (rest l)
+  unfolding shapeAt
+  size = ap (λ (x : Shape). x .size) (laid .1)
 
-fits-body : (c : tie.After-shape Inv-loop μ-loop) → at-loop c .loop .at + c .shape .given .0 .0 .size ≤ length (given c .args .body .now)
-fits-body c =
-    lies-inside (given c .args .edition) (given c .args .count) (at-loop c .loop .at) (at-loop c .loop .i) (given c .args .body .now)
-    (given c .args .entries .now) (omega arith) _ (laid c .0) (size c) (at-loop c .loop .inv .1)
+  fits-body : l .loop .at + shape .size ≤ length (given l .args .body .now)
+  fits-body =
+      lies-inside e (given l .args .count) (l .loop .at) (l .loop .i) (given l .args .body .now) (given l .args .entries .now)
+      (omega arith) _ (laid .0) size (l .loop .inv .1)
 
 loop-holds : tie.Need-loop-holds Inv-loop μ-loop
 loop-holds c =
@@ -60,14 +74,11 @@ found-at-requires c κs = tt
 
 returns : tie.Need-returns Inv-loop μ-loop
 returns c =
-    let a = c .before .before .before .before .before .before .before .before .args in
-    let at = c .before .before .before .before .before .loop .at in
-    let none =
-    broken-is-not (a .edition) (drop at (a .body .now))
-    (sym (c .before .before .found-at .ensures ∙ ap (foundAt (a .edition)) (c .before .before .before .behind .ensures))
-    ∙ c .enum-told .given .1) in
-    not-laid (a .edition) (a .count) at (c .before .before .before .before .before .loop .i) (a .body .now) (a .entries .now)
-    (omega arith) none ∙ c .before .before .before .before .before .loop .inv .2
+    let f = c .before .before in
+    let l = turn f in
+    let a = given l .args in
+    not-laid (a .edition) (a .count) (l .loop .at) (l .loop .i) (a .body .now) (a .entries .now) (omega arith)
+    (broken-is-not (a .edition) (rest l) (sym (found f) ∙ c .enum-told .given .1)) ∙ l .loop .inv .2
 
 u64-at-requires : tie.Need-u64-at-requires Inv-loop μ-loop
 u64-at-requires c κs = tt
@@ -75,28 +86,34 @@ u64-at-requires c κs = tt
 returns-2 : tie.Need-returns-2 Inv-loop μ-loop
 returns-2 c =
     let d = c .before .before .before in
-    let a = given d .args in
-    other-entry (a .edition) (a .count) (at-loop d .loop .at) (at-loop d .loop .i) (a .body .now) (a .entries .now) (omega arith)
-    (laid d .0) (λ e. c .if1 .taken (c .before .u64-at .ensures ∙ e)) ∙ at-loop d .loop .inv .2
+    let t = l d .loop in
+    let a = given (l d) .args in
+    other-entry (a .edition) (a .count) (t .at) (t .i) (a .body .now) (a .entries .now) (omega arith) (laid d .0)
+    (λ e. c .if1 .taken (c .before .u64-at .ensures ∙ e)) ∙ t .inv .2
+
+-- where the turn goes on, a record was found
+abbrev goes-on : tie.After-struct-known Inv-loop μ-loop → tie.After-shape Inv-loop μ-loop
+goes-on c = c .before .before .before .before
 
 add-at : tie.Need-add-at Inv-loop μ-loop
-add-at c = omega (arith, fits-body (c .before .before .before .before))
+add-at c = omega (arith, fits-body (goes-on c))
 
 loop-again : tie.Need-loop-again Inv-loop μ-loop
 loop-again c =
-    let d = c .before .before .before .before in
-    let a = given d .args in (
+    let d = goes-on c in
+    let t = l d .loop in
+    let a = given (l d) .args in (
       omega arith,
       fits-body d,
-      walked-on (a .edition) (a .count) (at-loop d .loop .at) (at-loop d .loop .i) (a .body .now) (a .entries .now) (omega arith) _
-          (laid d .0) (size d) (sym (c .before .before .u64-at .ensures) ∙ c .before .if1 .left) ∙ at-loop d .loop .inv .2,
+      walked-on (a .edition) (a .count) (t .at) (t .i) (a .body .now) (a .entries .now) (omega arith) _ (laid d .0) (size d)
+          (sym (c .before .before .u64-at .ensures) ∙ c .before .if1 .left) ∙ t .inv .2,
     )
 
 returns-3 : tie.Need-returns-3 Inv-loop μ-loop
 returns-3 c =
-    let a = c .before .before .before .before .args in
-    walked-all (a .edition) (a .count) (c .before .loop .at) (c .before .loop .i) (a .body .now) (a .entries .now) (omega arith)
-    (c .before .loop .inv .1) ∙ c .before .loop .inv .2
+    let t = c .before .loop in
+    let a = given (c .before) .args in
+    walked-all (a .edition) (a .count) (t .at) (t .i) (a .body .now) (a .entries .now) (omega arith) (t .inv .1) ∙ t .inv .2
 
 pub walk-spec : {M : Type 1} → statement M
 walk-spec =

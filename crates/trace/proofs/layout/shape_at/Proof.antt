@@ -7,13 +7,15 @@ use Rattle.trace.proofs.layout.shape_at.Tie as tie
 returns : tie.Need-returns
 unfolding shapeAt
 returns c =
+    let flag = c .before in
+    let dim2 = flag .before .before in
     rw (
       c .size-for .ensures,
-      c .before .u32-at4 .ensures,
-      c .before .before .flag-place .ensures,
-      c .before .before .before .u32-at3 .ensures,
-      c .before .before .before .before .u32-at2 .ensures,
-      c .before .before .before .before .before .u32-at .ensures,
+      flag .u32-at4 .ensures,
+      flag .before .flag-place .ensures,
+      dim2 .u32-at3 .ensures,
+      dim2 .before .u32-at2 .ensures,
+      dim2 .before .before .u32-at .ensures,
     )
 
 pub shape-at-spec : {M : Type 1} → statement M

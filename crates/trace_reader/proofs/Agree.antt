@@ -1,4 +1,5 @@
--- 01: "For each, show that any two outcomes allowed by it agree". Not here: the four functions over a Reader, whose contracts say each field of their answer. Assumes nothing.
+-- 01: "For each, show that any two outcomes allowed by it agree". Not here: the four functions over
+-- a Reader, whose contracts say each field of their answer. Assumes nothing.
 use mathlib.Core.Path.{sym, _∙_}
 use Rattle.arith.specs.Outcomes.{OneAnswer}
 use Rattle.trace_reader.proofs.found_from.Reads as found-from

@@ -15,11 +15,11 @@ use prog.Wp.{Heap, Calls, Loops, WpFn, Tables}
 use ghost.Atoms.{Atoms, sem}
 use contract.Monad.{Fun, fact}
 use contract.Running.{givenOf, tables, tablesOf}
-use types.Kit.{Given, ‵, raw, _⊛_, ⋆, some, later, _$_, _∵_, !, qed, by, move, drop, use1, use2, split, join, pick, fsplit, fjoin, suffices, frame, await, done}
+use types.Kit.{Given, ‵, raw, _⊛_, ⋆, some, later, _$_, _∵_, !, qed, by, move, use1, split, pick, fjoin, suffices, frame, await, done}
 use types.Part.{whole, sub, look-in}
-use types.Run.{look, init, forget, stop, fld, from, load, of-opd, and-then, no-more, assigns, land, returns, enter, alloc1, alloc0, params1, pass1, pass0, free1, free0}
+use types.Run.{look, init, forget, stop, fld, from, load, of-opd, and-then, no-more, assigns, land, returns}
+use types.Run.{enter, alloc1, alloc0, params1, pass1, pass0, free1, free0}
 use sound.WpLaws.{FmC, fmOf, WpFn-mono}
-use denote.RattleType.{owns}
 use denote.Laws.{Is, shows}
 use denote.Ref.{now}
 use denote.Steps.{peeks, heard, nothing}
@@ -39,7 +39,7 @@ use Rattle.trace.specs.declared.Found.{Found}
 use Rattle.trace_reader.proofs.Reader.Laws as T′
 use Rattle.trace.proofs.Found as S
 use Rattle.trace.proofs.Found.Laws as S′
-use Rattle.trace_reader.proofs.Held.{reader, readerType, readerLaws, readerOf, readerOwns, sliceOf, bothOwn, token, typed, taken-apart}
+use Rattle.trace_reader.proofs.Held.{reader, readerType, readerLaws, readerOf, readerOwns, sliceOf, token, typed, goes-apart}
 use Rattle.trace_reader.proofs.found_from as callee
 use Rattle.trace_reader.proofs.found_from.Symbol as callee-def
 use Rattle.trace_reader.proofs.found_from.Symbol.{name as #found-from}
@@ -72,12 +72,7 @@ module _ {M : Type 1} (𝓤 : URA M) (H : Heap 𝓤) (A : Atoms 𝓤) (W : Given
 
   -- what it asks is had of the copy that is taken apart
   handed : r .at < 2 ^ 64 → ent 𝓤 Entry (sep 𝓤 (FoundFrom 𝓤 H A mem run .pre passed) (sem 𝓤 H A (readerOwns κ r)))
-  handed fits =
-      qed W ((‵ (token κ q) ⊛ ‵ ftrue) ∷ ‵ (owns (reader (κ, tt) ∷ []) (r, tt) (readerOf r ∷ [], tt)) ∷ []) ∵
-      move ! (1 ∷ []) $ fsplit ! $ move ! (1 ∷ []) $ drop ! $
-      use1 W (‵ (bothOwn κ (r .trace) (r .at)) ⊛ ‵ (readerOwns κ r)) (taken-apart 𝓤 H A W κ r fits) $ split ! $
-      move ! (2 ∷ 0 ∷ []) $ use2 W (raw (FoundFrom 𝓤 H A mem run .pre passed))
-      (qed W ((‵ (token κ q) ⊛ ‵ ftrue) ∷ ‵ (bothOwn κ (r .trace) (r .at)) ∷ []) ∵ join ! $ frame ! $ done !) $ frame ! $ done !
+  handed fits = goes-apart 𝓤 H A W κ r q fits
 
   -- what is known of its answer
   said : (f : Found) → ent 𝓤 (ensured 𝓤 H A callee.ended (callee.clauses 𝓤 H A mem run) (κ, tt) (r .trace, (r .at, tt)) tt f)

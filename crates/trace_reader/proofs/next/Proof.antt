@@ -1,5 +1,5 @@
--- `next` meets its contract: a walk of its MIR by hand. One copy of the `Reader` is taken apart for `place_after`; the `Reader` that is handed back is made of the slice of the other
--- and of the number that the call answers. All that the proof knows of `place_after` is its contract. Assumes nothing.
+-- `next` meets its contract: a walk of its MIR by hand. One copy of the `Reader` is taken apart for `place_after`; the `Reader` that is handed back is made of
+-- the slice of the other and of the number that the call answers. All that the proof knows of `place_after` is its contract. Assumes nothing.
 use mathlib.Core.Path.{_≡_, refl, ap}
 use Prim.Native.Nat.{ℕ, _<_, _^_}
 use mathlib.Core.List.{List, [], _∷_}
@@ -17,11 +17,12 @@ use prog.Wp.{Heap, Calls, Loops, WpFn, Tables}
 use ghost.Atoms.{Atoms, sem}
 use contract.Monad.{Fun, fact}
 use contract.Running.{givenOf, tables, tablesOf}
-use types.Kit.{Given, ‵, raw, _⊛_, ⋆, some, later, _$_, _∵_, !, qed, by, move, drop, use1, use2, split, join, pick, fsplit, fjoin, rewrite, suffices, frame, await, done}
+use types.Kit.{Given, ‵, raw, _⊛_, ⋆, some, later, _$_, _∵_, !, qed, by, move, drop}
+use types.Kit.{use1, split, pick, fjoin, rewrite, suffices, frame, await}
 use types.Part.{whole, sub, look-in, agg}
-use types.Run.{look, init, forget, stop, fld, from, load, of-opd, and-then, no-more, assigns, land, returns, enter, alloc1, alloc0, params1, pass1, pass0, free1, free0}
+use types.Run.{look, init, forget, stop, fld, from, load, of-opd, and-then, no-more, assigns, land, returns}
+use types.Run.{enter, alloc1, alloc0, params1, pass1, pass0, free1, free0}
 use sound.WpLaws.{FmC, fmOf, WpFn-mono}
-use denote.RattleType.{owns}
 use denote.Laws.{Is, shows}
 use denote.Plain.{uint-makes, uint-lawful}
 use denote.Builtin.{usize}
@@ -41,7 +42,7 @@ use denote.Triple.Clauses.{ensured, lasts}
 use Rattle.trace_reader.specs.Reading.{placeAfter}
 use Rattle.trace_reader.specs.declared.Reader.{Reader}
 use Rattle.trace_reader.proofs.Reader.Laws as T′
-use Rattle.trace_reader.proofs.Held.{reader, readerType, readerLaws, readerOf, readerOwns, sliceOf, bothOwn, token, typed, taken-apart}
+use Rattle.trace_reader.proofs.Held.{reader, readerType, readerLaws, readerOf, readerOwns, sliceOf, token, typed, goes-apart}
 use Rattle.trace_reader.proofs.place_after as callee
 use Rattle.trace_reader.proofs.place_after.Symbol as callee-def
 use Rattle.trace_reader.proofs.place_after.Symbol.{name as #place-after}
@@ -77,12 +78,7 @@ module _ {M : Type 1} (𝓤 : URA M) (H : Heap 𝓤) (A : Atoms 𝓤) (W : Given
 
   -- what it asks is had of the copy that is taken apart
   handed : r .at < 2 ^ 64 → ent 𝓤 Entry (sep 𝓤 (PlaceAfter 𝓤 H A mem run .pre passed) (sem 𝓤 H A (readerOwns κ r)))
-  handed fits =
-      qed W ((‵ (token κ q) ⊛ ‵ ftrue) ∷ ‵ (owns (reader (κ, tt) ∷ []) (r, tt) (readerOf r ∷ [], tt)) ∷ []) ∵
-      move ! (1 ∷ []) $ fsplit ! $ move ! (1 ∷ []) $ drop ! $
-      use1 W (‵ (bothOwn κ (r .trace) (r .at)) ⊛ ‵ (readerOwns κ r)) (taken-apart 𝓤 H A W κ r fits) $ split ! $
-      move ! (2 ∷ 0 ∷ []) $ use2 W (raw (PlaceAfter 𝓤 H A mem run .pre passed))
-      (qed W ((‵ (token κ q) ⊛ ‵ ftrue) ∷ ‵ (bothOwn κ (r .trace) (r .at)) ∷ []) ∵ join ! $ frame ! $ done !) $ frame ! $ done !
+  handed fits = goes-apart 𝓤 H A W κ r q fits
 
   -- what is known of its answer
   said : (n : ℕ) → ent 𝓤 (ensured 𝓤 H A callee.ended (callee.clauses 𝓤 H A mem run) (κ, tt) (r .trace, (r .at, tt)) tt n)

@@ -13,7 +13,8 @@ use Rattle.words.proofs.Words.{length-le, length-rowBytes}
 use Rattle.trace_layout.proofs.Records.{settings-most}
 use Rattle.trace_writer.proofs.Bits.{length-row, length-vectors}
 use Rattle.trace_writer.specs.declared.Entry.{Entry}
-use Rattle.trace_writer.specs.Entries.{settingsRow, bitsOf, headRow, ruleRow, searchBytes, resultBytes, vectorBytes, recordOf, entryBytes}
+use Rattle.trace_writer.specs.Entries.{settingsRow, bitsOf, headRow, ruleRow, searchBytes, resultBytes, vectorBytes, recordOf}
+use Rattle.trace_writer.specs.Entries.{entryBytes}
 
 grouped-six : (a b c d f g : List ℕ) → ((((a ++ b) ++ c) ++ d) ++ f) ++ g ≡ a ++ (b ++ (c ++ (d ++ (f ++ g))))
 grouped-six a b c d f g = simp append-assoc

@@ -1,13 +1,13 @@
 // A record's parts, one behind the other, into a lent slice.
 ghost use mathlib.Core.Path.{_≡_};
-ghost use mathlib.Core.List.{_++_};
 ghost use Prim.Native.Nat.{_+_, _*_, _≤_, _<_};
 ghost use lib.ListN.{length, take, drop};
 ghost use lib.Seq.{sets};
 ghost use Rattle.words.specs.Words.{rowBytes};
-ghost use Rattle.trace_layout.specs.Records.{rulesIn, settingsIn, bytesOf};
+ghost use Rattle.trace_layout.specs.Records.{rulesIn, settingsIn};
 ghost use Rattle.trace_layout.specs.Traces.{trailerOf};
-ghost use Rattle.trace_writer.specs.Entries.{bitsOf, headRow, ruleRow, searchBytes, answerBytes, resultBytes, vectorBytes, entryBytes, recordOf, endBytes, insertOf};
+ghost use Rattle.trace_writer.specs.Entries.{bitsOf, headRow, ruleRow, searchBytes, answerBytes, resultBytes, vectorBytes};
+ghost use Rattle.trace_writer.specs.Entries.{entryBytes, endBytes, insertOf};
 use super::Entry;
 use super::Place;
 use double::to_bits;
@@ -96,7 +96,8 @@ fn put_results(bytes: &mut [u8], place: usize, x: Entry)
 
 fn put_vectors(bytes: &mut [u8], place: usize, dz: &[f64], ds: &[f64], z: &[f64], s: &[f64])
     requires { ⌜ place + length (vectorBytes (now dz) (now ds) (now z) (now s)) ≤ length (now bytes) ⌝ }
-    ensures { λ _. ⌜ now (bytes .exit) ≡ sets (now (bytes .entry)) place (vectorBytes (now (dz .entry)) (now (ds .entry)) (now (z .entry)) (now (s .entry))) ⌝ }
+    ensures { λ _. ⌜ now (bytes .exit)
+        ≡ sets (now (bytes .entry)) place (vectorBytes (now (dz .entry)) (now (ds .entry)) (now (z .entry)) (now (s .entry))) ⌝ }
 {
     let second = place + 8 * dz.len();
     let third = second + 8 * ds.len();
@@ -120,7 +121,9 @@ pub fn put_record(
     s: &[f64],
 )
     requires { ⌜ place + length (entryBytes edition x (now exps) (now dz) (now ds) (now z) (now s)) ≤ length (now bytes) ⌝ }
-    ensures { λ _. ⌜ now (bytes .exit) ≡ sets (now (bytes .entry)) place (entryBytes edition x (now (exps .entry)) (now (dz .entry)) (now (ds .entry)) (now (z .entry)) (now (s .entry))) ⌝ }
+    ensures { λ _. ⌜ now (bytes .exit)
+        ≡ sets (now (bytes .entry)) place
+        (entryBytes edition x (now (exps .entry)) (now (dz .entry)) (now (ds .entry)) (now (z .entry)) (now (s .entry))) ⌝ }
 {
     let size = size_for(edition, x.kind, x.dim1, x.dim2, x.flag);
     let second = place + 20;
@@ -155,7 +158,8 @@ fn put_end(bytes: &mut [u8], place: usize, at: u64, list: u64, count: u32, editi
     put_trailer(bytes, place + 8, list, count, edition);
 }
 
-// One record more in a trace whose list stands at a place: the list is moved up, the record goes to its old place, and its entry and the trailer behind the list.
+// One record more in a trace whose list stands at a place: the list is moved up, the
+// record goes to its old place, and its entry and the trailer behind the list.
 pub fn insert(
     bytes: &mut [u8],
     place: Place,
@@ -166,8 +170,11 @@ pub fn insert(
     z: &[f64],
     s: &[f64],
 )
-    requires { ⌜ (place .list + place .size + 8 * place .count + 28 ≤ length (now bytes)) × (place .count < 4096) × (length (entryBytes (place .edition) x (now exps) (now dz) (now ds) (now z) (now s)) ≡ place .size) ⌝ }
-    ensures { λ _. ⌜ now (bytes .exit) ≡ insertOf (now (bytes .entry)) place (entryBytes (place .edition) x (now (exps .entry)) (now (dz .entry)) (now (ds .entry)) (now (z .entry)) (now (s .entry))) ⌝ }
+    requires { ⌜ (place .list + place .size + 8 * place .count + 28 ≤ length (now bytes)) × (place .count < 4096)
+        × (length (entryBytes (place .edition) x (now exps) (now dz) (now ds) (now z) (now s)) ≡ place .size) ⌝ }
+    ensures { λ _. ⌜ now (bytes .exit)
+        ≡ insertOf (now (bytes .entry)) place
+        (entryBytes (place .edition) x (now (exps .entry)) (now (dz .entry)) (now (ds .entry)) (now (z .entry)) (now (s .entry))) ⌝ }
 {
     let list = place.list;
     let size = place.size;

@@ -15,8 +15,12 @@ record-put c = c .before .before .before .before .before
 abbrev moved : tie.After-put-record → tie.After-move-up
 moved c = c .before .before .before .before
 
+-- where the first of the five rows is known
+abbrev known : tie.After-shared-slice-known5 → tie.After-shared-slice-known
+known k = k .before .before .before .before
+
 abbrev started : tie.After-move-up → tie.Start
-started c = c .before .before .before .before .before .before .before .before .before
+started c = known (c .before .before .before) .before .before
 
 returns : tie.Need-returns
 unfolding insertOf

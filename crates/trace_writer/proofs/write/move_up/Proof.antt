@@ -1,4 +1,5 @@
--- `move_up` meets its contract. The loop's invariant: the bytes from i on stand at their new place, and nothing else has changed. The measure is i. Assumes nothing.
+-- `move_up` meets its contract. The loop's invariant: the bytes from i on stand at their
+-- new place, and nothing else has changed. The measure is i. Assumes nothing.
 use mathlib.Core.Path.{_≡_, refl, sym, ap, _∙_}
 use mathlib.Core.List.{List}
 use Prim.Native.Nat.{ℕ, suc, _+_, _-_, _≤_}

@@ -37,8 +37,15 @@ head c = c .before .before .before .before
 abbrev placed : tie.After-put-head → tie.After-settings-in
 placed c = c .before .before
 
+-- where the first of the five rows is known
+abbrev known : tie.After-shared-slice-known5 → tie.After-shared-slice-known
+known k = k .before .before .before .before
+
+abbrev ruled : tie.After-rules-in → tie.Start
+ruled c = known (c .before .before) .before .before
+
 abbrev started : tie.After-settings-in → tie.Start
-started c = c .before .before .before .before .before .before .before .before .before
+started c = ruled (c .before)
 
 -- ---- the room that the caller leaves, in numbers of the rows
 
@@ -52,9 +59,6 @@ room : (c : tie.Start) → c .args .place + sum c ≤ length (c .args .bytes .no
 room c =
     let a = c .args in
     omega (arith, length-entry (a .edition) (a .x) (a .exps .now) (a .dz .now) (a .ds .now) (a .z .now) (a .s .now), c .pre)
-
-abbrev ruled : tie.After-rules-in → tie.Start
-ruled c = c .before .before .before .before .before .before .before .before
 
 mul-third : tie.Need-mul-third
 mul-third c = omega (arith, room (ruled c), c .rules-in .ensures)

@@ -1,4 +1,5 @@
--- `put_row` meets its contract. The loop's invariant: writing the numbers that are left gives what the call is to leave. The measure is their count. Assumes nothing.
+-- `put_row` meets its contract. The loop's invariant: writing the numbers that are left
+-- gives what the call is to leave. The measure is their count. Assumes nothing.
 use mathlib.Core.Path.{_≡_, refl, sym, ap, _∙_}
 use mathlib.Core.List.{List}
 use Prim.Native.Nat.{ℕ, _+_, _*_, _-_, _≤_}
@@ -20,6 +21,13 @@ Inv-loop bytes₀ place row i₀ i-end bytes i =
 abbrev μ-loop : tie.MeasureT-loop
 μ-loop bytes₀ place row i₀ i-end bytes i = length row - i
 
+-- the places of the code: the call of `to_bits`, the loop's turn, and the call's own
+abbrev turn : tie.After-to-bits Inv-loop μ-loop → tie.At-loop Inv-loop μ-loop
+turn c = c .before .before .before .before
+
+abbrev given : tie.At-loop Inv-loop μ-loop → tie.Start Inv-loop μ-loop
+given l = l .before .before .before
+
 loop-holds : tie.Need-loop-holds Inv-loop μ-loop
 loop-holds c = let a = c .before .before .args in (omega arith, refl, refl, row-begun 8 (a .bytes .now) (bitsOf (a .row .now)) (a .place))
 
@@ -27,16 +35,15 @@ to-bits-requires : tie.Need-to-bits-requires Inv-loop μ-loop
 to-bits-requires c κs = tt
 
 put-requires : tie.Need-put-requires Inv-loop μ-loop
-put-requires c κs =
-    let l = c .before .before .before .before .loop in
-    omega (arith, l .inv .2, c .before .before .before .before .before .before .before .pre)
+put-requires c κs = omega (arith, turn c .loop .inv .2, given (turn c) .pre)
 
 loop-again : tie.Need-loop-again Inv-loop μ-loop
 loop-again c =
-    let a = c .before .before .before .before .before .before .before .before .before .before .args in
-    let l = c .before .before .before .before .before .before .before .loop in
-    let wrote = c .before .before .put .ensures in
-    let number = c .before .before .before .to-bits .ensures ∙ bits-at (a .row .now) (l .i) (omega arith) in (
+    let p = c .before .before in
+    let l = turn (p .before) .loop in
+    let a = given (turn (p .before)) .args in
+    let wrote = p .put .ensures in
+    let number = p .before .to-bits .ensures ∙ bits-at (a .row .now) (l .i) (omega arith) in (
       omega arith,
       refl,
       ap length wrote ∙ simp length-sets (l .inv .2),
@@ -50,7 +57,7 @@ same-length c = c .before .loop .inv .2
 
 returns : tie.Need-returns Inv-loop μ-loop
 returns c =
-    let a = c .before .before .before .before .args in
+    let a = given (c .before) .args in
     let l = c .before .loop in
     sym (row-done 8 (l .bytes) (bitsOf (a .row .now)) (a .place) (l .i) (omega (arith, length-bitsOf (a .row .now)))) ∙ l .inv .3
 

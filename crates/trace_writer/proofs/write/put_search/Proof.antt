@@ -1,7 +1,6 @@
 -- `put_search` meets its contract: the flag behind the start, and the settings behind the flag where it is 0. Assumes nothing.
 use mathlib.Core.Path.{refl}
 use mathlib.Core.List.{_∷_, [], _++_}
-use Prim.Native.Nat.{_+_}
 use native.Mathlib.Omega.{arith}
 use Rattle.words.specs.Words.{le, rowBytes}
 use Rattle.words.proofs.Stores.{wrote-after}

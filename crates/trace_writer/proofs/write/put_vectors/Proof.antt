@@ -21,8 +21,12 @@ second-row c = c .before .before .before .before
 abbrev first-row : tie.After-put-row2 → tie.After-put-row
 first-row c = c .before .before .before .before
 
+-- where the five slices are known
+abbrev given : tie.After-shared-slice-known4 → tie.Start
+given k = k .before .before .before .before .before
+
 abbrev started : tie.After-put-row → tie.Start
-started c = c .before .before .before .before .before .before .before
+started c = given (c .before .before)
 
 -- the room that the caller leaves, in numbers of the rows
 abbrev numbers : tie.Start → ℕ
@@ -32,13 +36,13 @@ room : (c : tie.Start) → c .args .place + 8 * numbers c ≤ length (c .args .b
 room c = omega (arith, length-vectors (c .args .dz .now) (c .args .ds .now) (c .args .z .now) (c .args .s .now), c .pre)
 
 add-third : tie.Need-add-third
-add-third c = omega (arith, room (c .before .before .before .before .before))
+add-third c = omega (arith, room (given c))
 
 add-fourth : tie.Need-add-fourth
-add-fourth c = omega (arith, room (c .before .before .before .before .before))
+add-fourth c = omega (arith, room (given c))
 
 put-row-requires : tie.Need-put-row-requires
-put-row-requires c κs = omega (arith, room (c .before .before .before .before .before .before))
+put-row-requires c κs = omega (arith, room (given (c .before)))
 
 put-row-requires-2 : tie.Need-put-row-requires-2
 put-row-requires-2 c κs =
@@ -70,8 +74,10 @@ returns c =
     let dz = rowBytes 8 (bitsOf (a .dz .now)) in
     let ds = rowBytes 8 (bitsOf (a .ds .now)) in
     let z = rowBytes 8 (bitsOf (a .z .now)) in
-    let to-ds = wrote-after l _ _ (a .place) _ dz ds (one .put-row .ensures) (omega (arith, length-row (a .dz .now))) (two .put-row2 .ensures) in
-    let to-z = wrote-after l _ _ (a .place) _ (dz ++ ds) z to-ds (simp (length-append, length-row) (omega arith)) (three .put-row3 .ensures) in
+    let to-ds =
+    wrote-after l _ _ (a .place) _ dz ds (one .put-row .ensures) (omega (arith, length-row (a .dz .now))) (two .put-row2 .ensures) in
+    let to-z =
+    wrote-after l _ _ (a .place) _ (dz ++ ds) z to-ds (simp (length-append, length-row) (omega arith)) (three .put-row3 .ensures) in
     wrote-after l _ _ (a .place) _ ((dz ++ ds) ++ z) (rowBytes 8 (bitsOf (a .s .now))) to-z (simp (length-append, length-row) (omega arith))
     (four .put-row4 .ensures)
 

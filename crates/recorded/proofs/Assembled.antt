@@ -16,7 +16,8 @@ use Rattle.trace_layout.specs.Records.{rulesIn, exponents, settingsIn, flagPlac
 use Rattle.trace.specs.Shapes.{shapeAt}
 use Rattle.recorded.specs.Defaults.{defaultOf}
 use Rattle.recorded.specs.Recorded.{rowIn, coneOf, settingsOf, stepsOf, recordedOf}
-use Rattle.trace_layout.proofs.Fields.{kind-of, dim1-of, dim2-of, exps-of, start-of, flag-of, step-of, smallest-of, dz-of, ds-of, z-of, s-of, dualstep-of, dualcount-of, primalstep-of, primalcount-of}
+use Rattle.trace_layout.proofs.Fields.{kind-of, dim1-of, dim2-of, exps-of, start-of, flag-of, step-of, smallest-of, dz-of, ds-of, z-of}
+use Rattle.trace_layout.proofs.Fields.{s-of, dualstep-of, dualcount-of, primalstep-of, primalcount-of}
 use Rattle.trace_layout.proofs.Records.{found, Bounds, bounds, exponents-most, rules-most}
 
 module _ (e : ℕ) (t : List ℕ) where

@@ -1,5 +1,5 @@
 -- A record by value, its numbers as doubles. Definitions only.
-use Prim.Native.Nat.{ℕ, _+_, _-_}
+use Prim.Native.Nat.{ℕ, _-_}
 use mathlib.Core.Bool.{cond, _&&_}
 use mathlib.Core.List.{List, [], _++_, map}
 use lib.Dec.{eqb, ltb}

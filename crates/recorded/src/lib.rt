@@ -3,7 +3,6 @@ ghost use mathlib.Core.Path.{_≡_};
 ghost use mathlib.Core.Bool.{true};
 ghost use Prim.Native.Nat.{_+_, _*_, _≤_};
 ghost use lib.Ieee.{binary64, ofBits};
-ghost use lib.ListN.{take, drop};
 ghost use Rattle.words.specs.Words.{wordAt};
 ghost use Rattle.trace_layout.specs.Records.{laidAt, recordAt};
 ghost use Rattle.trace.specs.Shapes.{shapeAt};

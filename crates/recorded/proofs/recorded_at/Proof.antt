@@ -8,21 +8,29 @@ use lib.ListN.{drop}
 use Rattle.trace_layout.specs.Records.{flagPlace}
 use Rattle.trace_layout.proofs.Records.{settings-most}
 use Rattle.recorded.specs.Recorded.{rowIn}
-use Rattle.recorded.proofs.Assembled.{low-flag, few-numbers, firstVector, numbers, all-read}
+use Rattle.recorded.proofs.Assembled.{low-flag, few-numbers, firstVector, all-read}
 use borrow.Author.Needs.{needs}
 use Rattle.recorded.proofs.recorded_at.Statement.{statement}
 use Rattle.recorded.proofs.recorded_at.Tie as tie
+
+-- ---- the places of the code: the flag's place is known, before it the numbers were read, and the call's own
+
+abbrev numbered : tie.After-flag-place → tie.After-steps-at
+numbered c = c .before .before .before
+
+abbrev given : tie.After-steps-at → tie.Start
+given c = c .before .before .before .before
 
 -- ---- the place of the vectors
 
 flag-low : (c : tie.After-flag-place) → c .flag-place .result ≤ 288
 flag-low c =
-    let s = c .before .before .before .before .before .before .before in
+    let s = given (numbered c) in
     omega (arith, c .flag-place .ensures, low-flag (s .args .edition) (s .args .t .now) (s .args .shape) (s .pre .1) (s .pre .0))
 
 module _ (c : tie.After-settings-in) where
   abbrev start : tie.Start
-  start = c .before .before .before .before .before .before .before .before
+  start = given (numbered (c .before))
 
   abbrev n : ℕ
   n = start .args .shape .dim1 + start .args .shape .dim2
@@ -65,32 +73,41 @@ add-place-2 c = omega (arith, low c)
 row64-requires : tie.Need-row64-requires
 row64-requires c κs = few (c .before)
 
+-- behind each vector that was read, the place of the first
+abbrev after-dz : tie.After-row64 → tie.After-settings-in
+after-dz c = c .before .before
+
+abbrev after-ds : tie.After-row642 → tie.After-settings-in
+after-ds c = after-dz (c .before .before)
+
+abbrev after-z : tie.After-row643 → tie.After-settings-in
+after-z c = after-ds (c .before .before)
+
 add-behind : tie.Need-add-behind
-add-behind c = omega (arith, few (c .before .before), low (c .before .before))
+add-behind c = omega (arith, few (after-dz c), low (after-dz c))
 
 row64-requires-2 : tie.Need-row64-requires-2
-row64-requires-2 c κs = few (c .before .before .before)
+row64-requires-2 c κs = few (after-dz (c .before))
 
 add-behind-2 : tie.Need-add-behind-2
-add-behind-2 c = omega (arith, few (c .before .before .before .before), low (c .before .before .before .before))
+add-behind-2 c = omega (arith, few (after-ds c), low (after-ds c))
 
 row64-requires-3 : tie.Need-row64-requires-3
-row64-requires-3 c κs = few (c .before .before .before .before .before)
+row64-requires-3 c κs = few (after-ds (c .before))
 
 add-behind-3 : tie.Need-add-behind-3
-add-behind-3 c =
-    omega (arith, few (c .before .before .before .before .before .before), low (c .before .before .before .before .before .before))
+add-behind-3 c = omega (arith, few (after-z c), low (after-z c))
 
 row64-requires-4 : tie.Need-row64-requires-4
-row64-requires-4 c κs = few (c .before .before .before .before .before .before .before)
+row64-requires-4 c κs = few (after-z (c .before))
 
 returns : tie.Need-returns
 returns c =
     let z = c .before .before in
     let ds = z .before .before in
     let dz = ds .before .before in
-    let m = dz .before .before in
-    let steps = m .before .before .before .before in
+    let m = after-z z in
+    let steps = numbered (m .before) in
     let settings = steps .before in
     let a = start m .args in
     all-read (a .edition) (a .t .now) (a .shape) (start m .pre .1) _ _ _ _ _ _ _ _ (settings .before .cone-at .ensures)

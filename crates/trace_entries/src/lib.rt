@@ -1,15 +1,14 @@
-// The public entries that judge a trace and write one into a lent slice. 02, Order 1: "Refusals, the only ones here: 9 a trace or record that breaks the layout; then 8 no room
-// for record plus list plus trailer, or 4,096 records already". A refused call has written nothing.
+// The public entries that judge a trace and write one into a lent slice. A refused call has written nothing. 02, Order 1:
+// "Refusals, the only ones here: 9 a trace or record that breaks the layout; then 8 no room for record plus list plus trailer, or 4,096 records already"
 ghost use mathlib.Core.Path.{_≡_};
-ghost use mathlib.Core.Bool.{cond, _&&_};
+ghost use mathlib.Core.Bool.{cond};
 ghost use Prim.Native.Nat.{_+_};
-ghost use lib.Dec.{eqb, leb, ltb};
-ghost use lib.ListN.{length};
+ghost use lib.Dec.{eqb};
 ghost use Rattle.trace_entries.specs.Given.{entryOf};
 ghost use Rattle.words.specs.Words.{AllBelow};
 ghost use Rattle.trace_entries.specs.Values.{Passed};
 ghost use Rattle.trace_entries.specs.Opened.{openedOf};
-ghost use Rattle.trace_entries.specs.Writing.{Left, createOf, appendOf};
+ghost use Rattle.trace_entries.specs.Writing.{createOf, appendOf};
 ghost use Rattle.trace_entries.specs.Places.{openFront, entryOk, placeFor, hasRoom};
 use algebra::vector::head;
 use cone::Cone;
@@ -174,8 +173,8 @@ fn place_for(
     }
 }
 
-// One record more behind those of the trace that the first `used` bytes are. Beside the equation the contract says what every call has, and what the laws of reading back ask:
-// the slice holds bytes and the arguments are values of their types.
+// One record more behind those of the trace that the first `used` bytes are. Beside the equation the contract says what every call
+// has, and what the laws of reading back ask: the slice holds bytes and the arguments are values of their types.
 pub fn append(
     trace: &mut [u8],
     used: usize,
@@ -188,7 +187,11 @@ pub fn append(
     s: &[f64],
     steps: Steps,
 ) -> Written
-    ensures { λ r. ⌜ (record { answer = r; bytes = now (trace .exit) } ≡ appendOf (now (trace .entry)) used cone flag settings (now (dz .entry)) (now (ds .entry)) (now (z .entry)) (now (s .entry)) steps) × AllBelow 256 (now (trace .entry)) × Passed cone flag settings (now (dz .entry)) (now (ds .entry)) (now (z .entry)) (now (s .entry)) steps ⌝ }
+    ensures { λ r. ⌜ (record { answer = r; bytes = now (trace .exit) }
+        ≡ appendOf (now (trace .entry)) used cone flag settings
+        (now (dz .entry)) (now (ds .entry)) (now (z .entry)) (now (s .entry)) steps)
+        × AllBelow 256 (now (trace .entry))
+        × Passed cone flag settings (now (dz .entry)) (now (ds .entry)) (now (z .entry)) (now (s .entry)) steps ⌝ }
 {
     let x = entry_of(cone, flag, settings, steps);
     let place = place_for(trace, used, x, dz.len(), ds.len(), z.len(), s.len());

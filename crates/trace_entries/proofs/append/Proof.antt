@@ -22,7 +22,8 @@ use Rattle.trace_entries.specs.Writing.{leave, longer, appendRows, appen
 use Rattle.trace_entries.specs.Places.{placeFor}
 use Rattle.trace_entries.specs.Values.{Passed}
 use Rattle.trace_entries.proofs.Passing.{fits-true, elements-fit}
-use Rattle.trace_entries.proofs.Judged.{Free, free, same-code, longer-stored, longer-length, entry-size, place-edition, place-count, place-list, place-size}
+use Rattle.trace_entries.proofs.Judged.{Free, free, same-code, longer-stored, longer-length, entry-size, place-edition, place-count}
+use Rattle.trace_entries.proofs.Judged.{place-list, place-size}
 use borrow.Author.Needs.{needs}
 use Rattle.trace_entries.proofs.append.Statement.{statement}
 use Rattle.trace_entries.proofs.append.Tie as tie
@@ -188,17 +189,19 @@ module _ (p : tie.After-place-for) where
           ∙ ap (λ (l : List ℕ). record { answer = record { code = 0; length = length new }; bytes = l }) bytes
           ∙ ap (λ (q : Record). leave bs (longer bs used q)) is-given
 
--- where the place was looked for, and the test of its number
-abbrev placed : tie.After-head → tie.After-place-for
-placed c = c .before .before .before .before .before .before .before .before
+-- the exponents were counted, before that the place's number was tested, and before that the place was looked for
+abbrev counted : tie.After-head → tie.After-exponents
+counted c = c .before .before .before .before .before
 
 abbrev passes : tie.After-head → tie.Else1
-passes c = c .before .before .before .before .before .before
+passes c = counted c .before
+
+abbrev placed : tie.After-head → tie.After-place-for
+placed c = passes c .before .before
 
 cut-here : (c : tie.After-head) → c .head .result .now ≡ exps (placed c)
 cut-here c =
-    c .head .ensures ∙ ap (λ (n : ℕ). take n (start (placed c) .args .t3 .exps))
-    (c .before .before .before .before .before .exponents .ensures)
+    c .head .ensures ∙ ap (λ (n : ℕ). take n (start (placed c) .args .t3 .exps)) (counted c .exponents .ensures)
 
 returns : tie.Need-returns
 unfolding appendOf
@@ -215,10 +218,10 @@ insert-requires c κs =
     (fits-here p ok, few-here p ok, entry-here p ok _ (cut-here c))
 
 add-t18 : tie.Need-add-t18
-add-t18 c = omega (arith, sum-fits (placed (c .before .before .before .before)) (passes (c .before .before .before .before) .if1 .left))
+add-t18 c = let h = c .before .before .before .before in omega (arith, sum-fits (placed h) (passes h .if1 .left))
 
 add-t19 : tie.Need-add-t19
-add-t19 c = omega (arith, sum-fits (placed (c .before .before .before .before)) (passes (c .before .before .before .before) .if1 .left))
+add-t19 c = let h = c .before .before .before .before in omega (arith, sum-fits (placed h) (passes h .if1 .left))
 
 returns-2 : tie.Need-returns-2
 unfolding appendOf

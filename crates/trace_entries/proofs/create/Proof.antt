@@ -1,3 +1,4 @@
+-- `create` meets its contract: fewer than twenty bytes stay as they are; else the trailer is stored, which is the trace of no record. Assumes nothing.
 use Rattle.words.specs.Words.{le}
 use Rattle.words.specs.Runs.{runsBytes}
 use Prim.Native.Nat.{ℕ}
@@ -20,10 +21,12 @@ returns c = rw (lt-ltb _ _ (c .if1 .taken))
 returns-2 : tie.Need-returns-2
 unfolding createOf traceOf recordsBytes offsetsFrom rowBytes trailerOf runsBytes le
 returns-2 c =
-    let bs = c .before .before .before .before .before .before .args .trace .now in
-    rw (le-ltb _ _ (c .before .before .before .before .if1 .left))
+    let stored = c .before .before in
+    let long = stored .before .before in
+    let bs = long .before .before .args .trace .now in
+    rw (le-ltb _ _ (long .if1 .left))
     (ap (λ (l : List ℕ). record { answer = record { code = 0; length = 20 }; bytes = l })
-    (c .before .before .put-trailer .ensures ∙ sets-eq (trailerOf 0 0 newestEdition) bs 0 (c .before .before .before .before .if1 .left)))
+    (stored .put-trailer .ensures ∙ sets-eq (trailerOf 0 0 newestEdition) bs 0 (long .if1 .left)))
 
 pub create-spec : {M : Type 1} → statement M
 create-spec = tie.close (tie.spec returns (λ c κs. search needs) (λ c. search needs) returns-2)

@@ -1,3 +1,4 @@
+-- `dim` meets its contract: one test, each way. Assumes nothing.
 use borrow.Author.Tests.{eq-eqb, ne-eqb}
 use Rattle.trace_entries.proofs.dim.Statement.{statement}
 use Rattle.trace_entries.proofs.dim.Tie as tie

@@ -1,3 +1,4 @@
+-- `entry_of` meets its contract: each call's answer is put in its field. Assumes nothing.
 use Rattle.trace_entries.specs.Given.{entryOf}
 use borrow.Author.Needs.{needs}
 use Rattle.trace_entries.proofs.entry_of.Statement.{statement}
@@ -6,14 +7,16 @@ use Rattle.trace_entries.proofs.entry_of.Tie as tie
 returns : tie.Need-returns
 unfolding entryOf
 returns c =
+    let smallest = c .before .before in
+    let start = smallest .before .before in
     rw (
       c .to-bits5 .ensures,
       c .before .to-bits4 .ensures,
-      c .before .before .to-bits3 .ensures,
-      c .before .before .before .to-bits2 .ensures,
-      c .before .before .before .before .to-bits .ensures,
-      c .before .before .before .before .before .dim2 .ensures,
-      c .before .before .before .before .before .before .dim .ensures,
+      smallest .to-bits3 .ensures,
+      smallest .before .to-bits2 .ensures,
+      start .to-bits .ensures,
+      start .before .dim2 .ensures,
+      start .before .before .dim .ensures,
     )
 
 pub entry-of-spec : {M : Type 1} → statement M

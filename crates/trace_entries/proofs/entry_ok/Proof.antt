@@ -1,3 +1,4 @@
+-- `entry_ok` meets its contract: one row of tests, with what its three calls answer. Assumes nothing.
 use Rattle.trace_entries.specs.Places.{entryOk}
 use borrow.Author.Needs.{needs}
 use Rattle.trace_entries.proofs.entry_ok.Statement.{statement}

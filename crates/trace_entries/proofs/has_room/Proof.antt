@@ -1,3 +1,4 @@
+-- `has_room` meets its contract: where no room is left for an entry the sum does not fit; else the test of the sum is moved to the other side. Assumes nothing.
 use Rattle.trace_entries.proofs.Judged.{and-off, leb-moved}
 use Rattle.trace_entries.specs.Places.{hasRoom}
 use lib.Dec.{ltb}

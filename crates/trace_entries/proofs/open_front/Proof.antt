@@ -1,3 +1,4 @@
+-- `open_front` meets its contract: a front that fits is judged, one that does not is refused. Assumes nothing.
 use borrow.Author.Tests.{le-leb, lt-leb}
 use Rattle.trace_entries.specs.Places.{openFront}
 use borrow.Author.Needs.{needs}

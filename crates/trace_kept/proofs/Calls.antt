@@ -1,5 +1,6 @@
--- 02: "what one writes the other reads back the same", of what callers call. The contracts of `append` and `record` are read as the check reads them: `Post` of a
--- function's `Reads` is the claim of its `ensures`. No hypothesis is left to a caller but that the calls were made, one on what the other left. Assumes nothing.
+-- 02: "what one writes the other reads back the same", of what callers call. The contracts of `append` and `record`
+-- are read as the check reads them: `Post` of a function's `Reads` is the claim of its `ensures`. No hypothesis is
+-- left to a caller but that the calls were made, one on what the other left. Assumes nothing.
 use mathlib.Core.Path.{_≡_, sym, ap, _∙_}
 use mathlib.Core.List.{List}
 use Prim.Native.Nat.{ℕ, _<_}

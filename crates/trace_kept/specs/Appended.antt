@@ -19,7 +19,8 @@ pub record Created (bs : List ℕ) (left : Left) : Type 0 where
   pub records : recordsOf (traceIn left) ≡ []
   pub behind : drop (left .answer .length) (left .bytes) ≡ drop (left .answer .length) bs
 
--- `append` of a record, done: the earlier records are as they were, at their offsets, the new one stands where the list stood, and the bytes behind the trace are as they were
+-- `append` of a record, done: the earlier records are as they were, at their offsets, the new one
+-- stands where the list stood, and the bytes behind the trace are as they were
 pub record Appended (bs : List ℕ) (used : ℕ) (r : Record) (left : Left) : Type 0 where
   pub good : goodTrace (traceIn left) ≡ true
   pub edition : editionAt (traceIn left) ≡ editionAt (take used bs)

@@ -281,7 +281,9 @@ pub extern "C" fn spindle_trace_append(
     s: &[f64],
     steps: Steps,
 ) -> Written
-    ensures { λ r. ⌜ record { answer = r; bytes = now (trace .exit) } ≡ appendOf (now (trace .entry)) used cone flag settings (now (dz .entry)) (now (ds .entry)) (now (z .entry)) (now (s .entry)) steps ⌝ }
+    ensures { λ r. ⌜ record { answer = r; bytes = now (trace .exit) }
+        ≡ appendOf (now (trace .entry)) used cone flag settings
+        (now (dz .entry)) (now (ds .entry)) (now (z .entry)) (now (s .entry)) steps ⌝ }
 {
     trace_entries::append(trace, used, cone, flag, settings, dz, ds, z, s, steps)
 }

@@ -14,7 +14,7 @@ from=$PWD
 cd "$(dirname "$0")"
 
 # The programs that are installed beside the library: crates with a main, built as target/bin/NAME.
-programs=''
+programs='replay'
 
 die() { echo "build: $*" >&2; exit 1; }
 usage() { echo "build: $* (try sh build.sh --help)" >&2; exit 2; }

@@ -12,6 +12,7 @@ use Rattle.cone.specs.declared.Steps.{Steps}
 use Rattle.cone.specs.declared.Rounds.{Rounds}
 use Rattle.cone.proofs.Outcomes.{one, two}
 use Rattle.trace_entries.proofs.Agree.{left}
+use Rattle.replayed.proofs.Agree.{noted-alike}
 use Rattle.spindle.proofs.spindle_sqrt.Reads as sqrt
 use Rattle.spindle.proofs.spindle_log.Reads as log
 use Rattle.spindle.proofs.spindle_exp.Reads as exp
@@ -41,6 +42,7 @@ use Rattle.spindle.proofs.spindle_trace_create.Reads as trace-create
 use Rattle.spindle.proofs.spindle_trace_append.Reads as trace-append
 use Rattle.spindle.proofs.spindle_trace_open.Reads as trace-open
 use Rattle.spindle.proofs.spindle_trace_record.Reads as trace-record
+use Rattle.spindle.proofs.spindle_replay.Reads as replay
 
 pub sqrt-agrees : OneAnswer sqrt.Post
 sqrt-agrees κs a x y s t p q = p ∙ sym q
@@ -130,3 +132,6 @@ trace-open-agrees κs a x y s t p q = p ∙ sym q
 
 pub trace-record-agrees : OneAnswer trace-record.Post
 trace-record-agrees κs a x y s t p q = p ∙ sym q
+
+pub replay-agrees : OneOutcome replay.Post {A = List ℕ} (λ κs s. now (s .1 .0))
+replay-agrees κs a x y s t p q = noted-alike (p ∙ sym q)

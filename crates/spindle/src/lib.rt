@@ -11,6 +11,7 @@ ghost use Rattle.record_entries.specs.Entries.{higherCorrectionOf, combinedDsSh
 ghost use Rattle.trace_entries.specs.Writing.{createOf, appendOf};
 ghost use Rattle.trace_entries.specs.Opened.{openedOf};
 ghost use Rattle.recorded.specs.Recorded.{recordedIn};
+ghost use Rattle.replayed.specs.Replay.{Noted, replayOf};
 use cone::Cone;
 use cone::DualGrad;
 use cone::Found;
@@ -22,6 +23,7 @@ use cone::Steps;
 use cone::Updated;
 use cone::YesNo;
 use recorded::Recorded;
+use replayed::Replayed;
 use trace_entries::Opened;
 use trace_entries::Written;
 
@@ -300,4 +302,13 @@ pub extern "C" fn spindle_trace_record(trace: &[u8], i: u32) -> Recorded
     ensures { λ r. ⌜ r ≡ recordedIn (now (trace .entry)) i ⌝ }
 {
     recorded::record(trace, i)
+}
+
+// ---- 02, Order 2: a trace replayed
+
+#[no_mangle]
+pub extern "C" fn spindle_replay(trace: &[u8], at: &mut [u64]) -> Replayed
+    ensures { λ r. ⌜ record { answer = r; offsets = now (at .exit) } ≡ replayOf (now (trace .entry)) (now (at .entry)) ⌝ }
+{
+    replayed::replay(trace, at)
 }

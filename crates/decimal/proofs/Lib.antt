@@ -1,0 +1,3 @@
+-- Numbers as text.
+pub mod Digits
+pub mod Agree

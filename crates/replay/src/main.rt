@@ -1,0 +1,58 @@
+// replay FILE: the searches of a trace, run again. 02, Order 2. It reads, calls and writes; what it prints is `printedOf` of the crate replay_file.
+// The file, its text and the offsets lie on the stack.
+ghost use mathlib.Core.Path.{_≡_};
+ghost use lib.ListN.{length};
+use libc::STDERR_FILENO;
+use libc::STDOUT_FILENO;
+use replay_file::put_replay;
+
+// One byte more than a file may have, so that a larger one shows. The `ensures` gives the length alone, which lending the array needs.
+fn file_room() -> [u8; 65537]
+    ensures { λ r. ⌜ length r ≡ 65537 ⌝ }
+{
+    [0; 65537]
+}
+
+// Room for every text.
+fn text_room() -> [u8; 98391]
+    ensures { λ r. ⌜ length r ≡ 98391 ⌝ }
+{
+    [0; 98391]
+}
+
+fn print(file: &[u8]) {
+    let mut text = text_room();
+    let n = put_replay(&mut text, file);
+    // it has room for every text, so this holds
+    if n <= text.len() {
+        io::write_all(STDOUT_FILENO, &text[..n]);
+    }
+}
+
+fn main() {
+    if os::arg_count() != 2 {
+        io::write_all(STDERR_FILENO, b"usage: replay FILE\n");
+        return;
+    }
+    let mut path = io::buffer();
+    let n = os::arg(1, &mut path);
+    if os::errno() != 0 {
+        os::fail(b"FILE");
+        return;
+    }
+    let fd = os::open_read(&path[..n]);
+    if fd < 0 {
+        os::fail(&path[..n]);
+        return;
+    }
+    let mut file = file_room();
+    let got = io::read_full(fd, &mut file);
+    // a read that fails ends the bytes as the file's end does: one read more tells them apart
+    let mut more = [0; 1];
+    if libc::read(fd, &mut more) < 0 {
+        os::fail(&path[..n]);
+        return;
+    }
+    libc::close(fd);
+    print(&file[..got]);
+}

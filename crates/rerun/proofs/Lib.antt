@@ -1,0 +1,2 @@
+-- A recorded search, run again.
+pub mod Agree

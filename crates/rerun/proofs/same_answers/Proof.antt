@@ -1,0 +1,20 @@
+-- `same_answers` meets its contract: each pattern by its call. Assumes nothing.
+use Rattle.rerun.specs.Rerun.{sameAnswers}
+use borrow.Author.Needs.{needs}
+use Rattle.rerun.proofs.same_answers.Statement.{statement}
+use Rattle.rerun.proofs.same_answers.Tie as tie
+
+returns : tie.Need-returns
+unfolding sameAnswers
+returns c =
+    let first = c .before .before .before .before .before .before .before in
+    rw (
+      c .before .before .to-bits4 .ensures,
+      c .before .before .before .to-bits3 .ensures,
+      c .before .before .before .before .before .before .to-bits2 .ensures,
+      first .to-bits .ensures,
+    )
+
+pub same-answers-spec : {M : Type 1} → statement M
+same-answers-spec =
+    tie.close (tie.spec (λ c κs. search needs) (λ c κs. search needs) (λ c κs. search needs) (λ c κs. search needs) returns)

@@ -7,10 +7,16 @@ ghost use Rattle.replay_file.specs.Printed.{printedOf};
 use replay_text::put_refused;
 use replay_text::put_text;
 use replayed::replay;
-use replayed::row;
 
 // The largest file that is taken.
 const MOST_BYTES: usize = 65536;
+
+// Room for an offset of each record that a trace may have; it is written before it is read.
+fn row() -> [u64; 4096]
+    ensures { λ r. ⌜ length r ≡ 4096 ⌝ }
+{
+    [0; 4096]
+}
 
 // The text, from the slice's first byte on; 98,391 bytes have room for every one. The answer is its length.
 pub fn put_replay(text: &mut [u8], file: &[u8]) -> usize

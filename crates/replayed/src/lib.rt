@@ -72,8 +72,8 @@ fn note_all(trace: &[u8], opened: Opened, offsets: &mut [u64]) -> usize
     n
 }
 
-// Room for an offset of each record that a trace may have.
-pub fn row() -> [u64; 4096]
+// Room for an offset of each record that a trace may have. What it holds is written before it is read: the length is all that is told of it.
+fn row() -> [u64; 4096]
     ensures { λ r. ⌜ length r ≡ 4096 ⌝ }
 {
     [0; 4096]

@@ -1,8 +1,9 @@
 #!/bin/sh
-# Proves the library, builds it as target/staticlib/libspindle.a, and runs examples/plan.c over it.
+# Proves the library, builds it as target/staticlib/libspindle.a and the programs over traces as target/bin/NAME, and runs examples/plan.c over the library.
 #
 #   sh build.sh                   all of that
 #   sh build.sh --archive         the archive alone; where it is fresh, nothing
+#   sh build.sh --programs        the programs over traces alone, each proved, as target/bin/NAME: replay
 #   sh build.sh --fresh           builds nothing: status 0 if the archive is there and fresh, 1 if it is not
 #   sh build.sh --install PREFIX  the header, the archive, spindle.pc for pkg-config, the programs and the licence, below the folder PREFIX
 #   sh build.sh --help            this text
@@ -21,7 +22,7 @@ usage() { echo "build: $* (try sh build.sh --help)" >&2; exit 2; }
 
 job=${1:-all}
 case $job in
-all | --archive | --fresh) [ $# -le 1 ] || usage "$job takes no further word: $2" ;;
+all | --archive | --programs | --fresh) [ $# -le 1 ] || usage "$job takes no further word: $2" ;;
 --install) [ $# -eq 2 ] && [ -n "$2" ] || usage "--install takes one folder" ;;
 -h | --help) awk 'NR > 1 { if (!/^#/) exit; sub(/^# ?/, ""); print }' build.sh; exit 0 ;;
 *) usage "no such option: $job" ;;
@@ -79,6 +80,15 @@ build_archive() {
     echo "build: $archive"
 }
 
+build_programs() {
+    for program in $programs; do
+        # rt takes a stamp for the program, too
+        [ -e "target/bin/$program" ] || rm -f "target/stamp/$program"
+        rt check "$program" >"target/log/$program.txt" 2>&1 || { tail -n 20 "target/log/$program.txt" >&2; die "the program $program was not built"; }
+        echo "build: target/bin/$program"
+    done
+}
+
 mkdir -p target/log
 case $job in
 --fresh)
@@ -87,17 +97,19 @@ case $job in
 --archive)
     build_archive
     ;;
+--programs)
+    build_programs
+    ;;
 all)
     build_archive
+    build_programs
     mkdir -p target/examples
     tools/x86 cc target/examples/plan -Iinclude examples/plan.c "$archive"
     tools/x86 run target/examples/plan
     ;;
 --install)
     build_archive
-    for program in $programs; do
-        rt check "$program" >"target/log/$program.txt" 2>&1 || { tail -n 20 "target/log/$program.txt" >&2; die "the program $program was not built"; }
-    done
+    build_programs
     version=$(sed -n 's/^#define SPINDLE_VERSION "\(.*\)"$/\1/p' include/spindle.h)
     # put FOLDER FILE..: each file into the folder below PREFIX
     case $2 in /*) prefix=$2 ;; *) prefix=$from/$2 ;; esac

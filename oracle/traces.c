@@ -1,4 +1,4 @@
-/* The four trace calls a second time, in C, from the words of document 02's Order 1 alone: tests/traces holds the library to it, and the Rust crate can be
+/* The calls on traces a second time, in C, from the words of document 02's Orders 1 and 2 alone: tests/traces holds the library to it, and the Rust crate can be
    tested over it and standin.c on any machine (tools/rust-tests --standin). It shares nothing with the library but spindle.h. It goes the slow way: it reads
    every number of every record, one behind the other, and lays a new record out beside the trace before it asks for its length. */
 #include "spindle.h"
@@ -222,4 +222,29 @@ Recorded spindle_trace_record(const uint8_t *trace, size_t n, uint32_t i)
     size_t list;
     Recorded r, refused = { .code = 9 };
     return judge(trace, n, i, &edition, &count, &list, &r) && i < count ? r : refused;
+}
+
+/* "run every search again, compare steps and counts bit for bit"; the search is whoever's is linked */
+Replayed spindle_replay(const uint8_t *trace, size_t n, uint64_t *at, size_t nat)
+{
+    static const Replayed refused_8 = { 8, 0, 0, 0 }, refused_9 = { 9, 0, 0, 0 };
+    Opened o = spindle_trace_open(trace, n);
+    if (o.code) return refused_9;
+    Replayed r = { 0, o.records, 0, 0 };
+    for (int writing = 0; writing < 2; writing++) {
+        r.differ = 0;
+        for (uint32_t i = 0; i < o.records; i++) {
+            Recorded k = spindle_trace_record(trace, n, i);
+            size_t m = k.cone.dim1 + k.cone.dim2;
+            double dual[64], primal[64];
+            Steps s = spindle_step_length(k.cone, k.dz, m, k.ds, m, k.z, m, k.s, m, dual, m, primal, m, k.settings);
+            if (s.code == 0 && bits_of(s.dual_step) == bits_of(k.steps.dual_step) && s.dual_count == k.steps.dual_count
+                && bits_of(s.primal_step) == bits_of(k.steps.primal_step) && s.primal_count == k.steps.primal_count) continue;
+            if (writing) at[r.differ] = k.at;
+            r.differ++;
+        }
+        if (r.differ > nat) return refused_8;
+    }
+    r.same = r.records - r.differ;
+    return r;
 }

@@ -62,6 +62,14 @@ pub struct Opened {
     pub records: u32,
 }
 
+#[repr(C)]
+pub struct Replayed {
+    pub code: u32,
+    pub records: u32,
+    pub same: u32,
+    pub differ: u32,
+}
+
 type In = *const f64;
 type Out = *mut f64;
 
@@ -110,4 +118,5 @@ extern "C" {
     ) -> Written;
     pub fn spindle_trace_open(trace: *const u8, n: usize) -> Opened;
     pub fn spindle_trace_record(trace: *const u8, n: usize, i: u32) -> Recorded;
+    pub fn spindle_replay(trace: *const u8, n: usize, at: *mut u64, nat: usize) -> Replayed;
 }

@@ -12,7 +12,8 @@
 //! # Ok::<(), spindle::Refusal>(())
 //! ```
 //!
-//! A [`Recorder`] makes the same searches and keeps each in a trace, bytes that a [`Trace`] reads again.
+//! A [`Recorder`] makes the same searches and keeps each in a trace, bytes that a [`Trace`] reads again, and replays: every search is run
+//! once more and compared with its record.
 //!
 //! A call that is refused changes nothing that it was lent: slices keep their contents, a record stays as it was. The numbers of a
 //! [`Refusal`] are those of the library's scope document. No call allocates, and none panics.
@@ -28,7 +29,7 @@
 mod face;
 mod trace;
 
-pub use trace::{Recorded, Recorder, Records, Trace, TraceBuffer, MOST_RECORDS};
+pub use trace::{Recorded, Recorder, Records, Replay, Trace, TraceBuffer, MOST_RECORDS};
 
 /// The version of this crate, which is that of the library and its C header.
 pub const VERSION: &str = env!("CARGO_PKG_VERSION");
@@ -51,7 +52,7 @@ pub enum Refusal {
     OutOfRange,
     /// 7: the finished answer holds a NaN or an infinity.
     AnswerNotFinite,
-    /// 8: a trace has no room for what would be written, or 4,096 records already.
+    /// 8: a trace has no room for what would be written, or 4,096 records already; a replay has no room for its offsets.
     NoRoom,
     /// 9: the bytes are no trace, or a record breaks a trace's layout. It comes before 8.
     BadTrace,
@@ -86,7 +87,7 @@ impl Refusal {
             Refusal::NeverScaled => "the record was never scaled",
             Refusal::OutOfRange => "the point lies where the formula has no value",
             Refusal::AnswerNotFinite => "the finished answer holds a NaN or an infinity",
-            Refusal::NoRoom => "the trace has no room for this, or 4,096 records already",
+            Refusal::NoRoom => "no room for what the trace would become or for the offsets, or 4,096 records already",
             Refusal::BadTrace => "the bytes are no trace, or the record breaks a trace's layout",
             Refusal::Unknown(_) => "a number that this crate does not know",
         }

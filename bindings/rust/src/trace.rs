@@ -66,6 +66,32 @@ impl<'a> Trace<'a> {
         (out.code == 0).then_some(out)
     }
 
+    /// Runs the search of every record again and compares both steps and both counts, bit for bit. The offsets of the records that differ
+    /// stand in `at` afterwards, in the order of the trace, and are handed back with the counts; `at` is left alone behind them.
+    /// [`Refusal::NoRoom`] where it has fewer places than there are such records, and then nothing was written: [`Trace::len`] places are enough.
+    ///
+    /// A record whose cone, numbers or settings a search refuses differs.
+    ///
+    /// ```
+    /// # use spindle::{Cone, Recorder, Trace};
+    /// # let mut bytes = [0; 400];
+    /// # let mut recorder = Recorder::create(&mut bytes)?;
+    /// # let (mut dual, mut primal) = ([0.0; 3], [0.0; 3]);
+    /// # let (dz, ds, z, s) = ([0.5, -2.0, 0.25], [0.25, -4.0, 0.5], [-1.0, 0.5, 1.0], [-1.0, 0.5, 1.0]);
+    /// recorder.step_length(&Cone::exponential(), &dz, &ds, &z, &s, &mut dual, &mut primal, 1.0)?;
+    /// let mut at = [0; 16];
+    /// let replay = recorder.trace().replay(&mut at)?;
+    /// assert_eq!((replay.records, replay.same, replay.differ), (1, 1, &[][..]));
+    /// # Ok::<(), spindle::Refusal>(())
+    /// ```
+    pub fn replay<'b>(&self, at: &'b mut [u64]) -> Result<Replay<'b>, Refusal> {
+        let out = unsafe { face::spindle_replay(self.bytes.as_ptr(), self.bytes.len(), at.as_mut_ptr(), at.len()) };
+        Refusal::check(out.code)?;
+        let at: &'b [u64] = at;
+        let differ = at.get(..out.differ as usize).unwrap_or(at);
+        Ok(Replay { records: out.records as usize, same: out.same as usize, differ })
+    }
+
     /// The records in their order.
     pub fn iter(&self) -> Records<'a> {
         Records { trace: *self, next: 0, end: self.len() }
@@ -132,6 +158,17 @@ impl DoubleEndedIterator for Records<'_> {
 impl ExactSizeIterator for Records<'_> {}
 
 impl core::iter::FusedIterator for Records<'_> {}
+
+/// What the replay of a [`Trace`] found: how many records it has, how many are the same, and where the others begin.
+#[derive(Clone, Copy, Debug, PartialEq, Eq)]
+pub struct Replay<'a> {
+    /// All records of the trace.
+    pub records: usize,
+    /// Those whose search answers now what the record holds.
+    pub same: usize,
+    /// The offsets of the others, in the order of the trace.
+    pub differ: &'a [u64],
+}
 
 /// A record of a trace: what a step search was given, and what it answered. Numbers that a search would refuse may stand in it.
 #[derive(Clone, Copy)]

@@ -209,3 +209,50 @@ fn a_record_may_hold_what_a_search_refuses() {
     let shown = format!("{record:?}");
     assert!(shown.starts_with("Recorded { offset: 320, kind: 2, exponents: [NaN]") && shown.len() < 600, "{shown}");
 }
+
+#[test]
+fn what_was_recorded_replays_the_same() {
+    let bytes = bytes_of_all();
+    let trace = Trace::open(&bytes).unwrap();
+    let mut at = [7; 8];
+    let replay = trace.replay(&mut at).unwrap();
+    assert_eq!((replay.records, replay.same, replay.differ), (6, 6, &[][..]));
+    assert_eq!(at, [7; 8]);
+    assert_eq!(trace.replay(&mut []).unwrap().same, 6);
+}
+
+#[test]
+fn a_changed_answer_differs_and_nothing_else() {
+    let bytes = bytes_of_all();
+    let offsets: Vec<u64> = Trace::open(&bytes).unwrap().iter().map(|r| r.offset()).collect();
+    let mut ends: Vec<usize> = offsets[1..].iter().map(|&o| o as usize).collect();
+    ends.push(bytes.len() - 20 - 8 * offsets.len());
+    for (i, &end) in ends.iter().enumerate() {
+        // the lowest byte of each of the last four numbers: dual step, dual count, primal step, primal count
+        for back in [24, 16, 12, 4] {
+            let mut changed = bytes.clone();
+            changed[end - back] ^= 1;
+            let mut at = [7; 2];
+            let replay = Trace::open(&changed).unwrap().replay(&mut at).unwrap();
+            assert_eq!((replay.records, replay.same, replay.differ), (6, 5, &offsets[i..=i]));
+            assert_eq!(at[1], 7);
+        }
+    }
+}
+
+#[test]
+fn a_refused_search_differs_and_offsets_need_room() {
+    let mut bytes = bytes_of_all();
+    let second = Trace::open(&bytes).unwrap().get(1).unwrap().offset() as usize;
+    // the starts of the first two records, both of kind 1, become NaN: the vectors follow
+    for at in [20, second + 20] {
+        bytes[at..at + 8].copy_from_slice(&f64::NAN.to_le_bytes());
+    }
+    let trace = Trace::open(&bytes).unwrap();
+    let mut at = [7; 3];
+    let replay = trace.replay(&mut at).unwrap();
+    assert_eq!((replay.records, replay.same, replay.differ), (6, 4, &[0, second as u64][..]));
+    let mut at = [7];
+    assert_eq!(trace.replay(&mut at), Err(Refusal::NoRoom));
+    assert_eq!(at, [7]);
+}

@@ -1,0 +1,187 @@
+/* Replay through include/spindle.h, over libspindle.a or over oracle/traces.c and oracle/standin.c. See run.
+   replay calls          searches of the three kinds recorded and replayed: all the same; each changed step or count differs, at its offset alone; what a search
+                         refuses differs; no room, bytes that are no trace, and places that must not move
+   replay files FOLDER   writes traces there for the program replay, each beside the text that it must print
+   Exit status 1: something did not hold; 2: bad usage, or a file cannot be written. */
+#include <inttypes.h>
+#include <math.h>
+#include <stdio.h>
+#include <stdlib.h>
+#include <string.h>
+#include "spindle.h"
+
+enum { RECORDS = 12, PLACES = RECORDS + 2 };
+static const uint64_t CANARY = UINT64_C(0xA5A5A5A5A5A5A5A5);
+
+static uint8_t bytes[70000], changed[sizeof bytes];
+static size_t used, begins[RECORDS + 1]; /* begins[RECORDS]: where the last record ends */
+static uint64_t at[PLACES];
+
+static long failures, checks;
+static void expect(int ok, const char *what)
+{
+    checks++;
+    if (!ok && failures++ < 10) printf("FAILED %s\n", what);
+}
+
+/* ---- a trace of searches that were made */
+
+static const Cone cones[3] = {{1, 0, 0, {0}}, {2, 0, 0, {0.3}}, {3, 2, 3, {0.25, 0.75}}};
+
+static void record(size_t i)
+{
+    Cone cone = cones[i % 3];
+    size_t n = cone.kind == 3 ? 5 : 3;
+    double z[5], s[5], dz[5], ds[5], dual[5], primal[5];
+    expect(spindle_unit_initialization(cone, z, n, s, n) == 0, "a starting point");
+    for (size_t k = 0; k < n; k++) {
+        dz[k] = ((double)k - 1.5) * (1.0 + (double)i);
+        ds[k] = (1.25 - (double)k) * (0.5 + (double)i);
+    }
+    uint32_t flag = i / 3 % 2;
+    Settings settings = flag ? spindle_house_settings(1.0) : (Settings){0.9, 0.7, 1e-5};
+    Steps steps = spindle_step_length(cone, dz, n, ds, n, z, n, s, n, dual, n, primal, n, settings);
+    expect(steps.code == 0, "a search");
+    Written w = spindle_trace_append(bytes, sizeof bytes, used, cone, flag, settings, dz, n, ds, n, z, n, s, n, steps);
+    expect(w.code == 0, "an append");
+    begins[i + 1] = begins[i] + (w.length - used - 8);
+    used = w.length;
+}
+static void record_all(void)
+{
+    used = spindle_trace_create(bytes, sizeof bytes).length;
+    for (size_t i = 0; i < RECORDS; i++) record(i);
+}
+
+/* ---- the calls */
+
+static void fill(void) { for (size_t i = 0; i < PLACES; i++) at[i] = CANARY; }
+static int untouched(size_t from)
+{
+    for (size_t i = from; i < PLACES; i++) if (at[i] != CANARY) return 0;
+    return 1;
+}
+/* the replay of `changed` finds these offsets and no other */
+static int finds(const uint64_t *offsets, uint32_t differ)
+{
+    fill();
+    Replayed r = spindle_replay(changed, used, at, PLACES);
+    return r.code == 0 && r.records == RECORDS && r.same == RECORDS - differ && r.differ == differ && untouched(differ)
+           && (!differ || !memcmp(at, offsets, 8 * differ));
+}
+static int refused(size_t n, size_t places, uint32_t code)
+{
+    fill();
+    Replayed r = spindle_replay(changed, n, at, places);
+    return r.code == code && r.records == 0 && r.same == 0 && r.differ == 0 && untouched(0);
+}
+
+static void calls(void)
+{
+    record_all();
+    memcpy(changed, bytes, used);
+    expect(finds(0, 0), "what was recorded replays the same");
+    fill();
+    expect(spindle_replay(bytes, used, at, 0).same == RECORDS && untouched(0), "no place is needed where nothing differs");
+
+    static const size_t back[4] = {24, 16, 12, 4}; /* dual step, dual count, primal step, primal count */
+    for (size_t i = 0; i < RECORDS; i++)
+        for (size_t k = 0; k < 4; k++)
+            for (size_t byte = 0; byte < (k % 2 ? 4 : 6); byte++) {
+                memcpy(changed, bytes, used);
+                changed[begins[i + 1] - back[k] + byte] ^= 1;
+                uint64_t here = begins[i];
+                expect(finds(&here, 1), "a changed step or count differs, and it alone");
+            }
+
+    /* kind 2 out of range, a start that is NaN, a vector that is not finite, a smallest step of 0: each is refused by its search */
+    memcpy(changed, bytes, used);
+    double wrong[4] = {1.5, NAN, INFINITY, 0};
+    memcpy(changed + begins[1] + 20, &wrong[0], 8);
+    memcpy(changed + begins[3] + 20, &wrong[1], 8);
+    memcpy(changed + begins[5] + 48, &wrong[2], 8);
+    memcpy(changed + begins[6] + 40, &wrong[3], 8);
+    uint64_t those[4] = {begins[1], begins[3], begins[5], begins[6]};
+    expect(finds(those, 4), "what a search refuses differs");
+    for (size_t places = 0; places < 4; places++) expect(refused(used, places, 8), "no room for the offsets");
+    fill();
+    expect(spindle_replay(changed, used, at, 4).differ == 4 && !memcmp(at, those, sizeof those) && untouched(4), "just room for the offsets");
+
+    memcpy(changed, bytes, used);
+    for (size_t n = 0; n < used; n++) expect(refused(n, PLACES, 9), "a cut trace");
+    changed[0] ^= 1;
+    expect(refused(used, 0, 9), "a broken trace");
+    used = spindle_trace_create(changed, sizeof changed).length;
+    fill();
+    Replayed none = spindle_replay(changed, used, at, 0);
+    expect(none.code == 0 && none.records == 0 && none.same == 0 && none.differ == 0, "the empty trace");
+}
+
+/* ---- files for the program */
+
+static void keep(const char *folder, const char *name, const char *kind, const void *from, size_t n)
+{
+    char path[4096];
+    snprintf(path, sizeof path, "%s/%s.%s", folder, name, kind);
+    FILE *f = fopen(path, "wb");
+    if (!f || fwrite(from, 1, n, f) != n || fclose(f)) exit(2);
+}
+static void pair(const char *folder, const char *name, const uint8_t *trace, size_t n, const char *text)
+{
+    keep(folder, name, "trace", trace, n);
+    keep(folder, name, "text", text, strlen(text));
+}
+static void files(const char *folder)
+{
+    char text[200];
+    record_all();
+    snprintf(text, sizeof text, "records %d\nsame %d\ndiffer 0\n", RECORDS, RECORDS);
+    pair(folder, "same", bytes, used, text);
+    memcpy(changed, bytes, used);
+    changed[begins[3] - 4] ^= 1;
+    changed[begins[RECORDS] - 24] ^= 1;
+    snprintf(text, sizeof text, "records %d\nsame %d\ndiffer 2\nat %zu\nat %zu\n", RECORDS, RECORDS - 2, begins[2], begins[RECORDS - 1]);
+    pair(folder, "two-differ", changed, used, text);
+    pair(folder, "cut", bytes, used - 1, "refused 9\n");
+    pair(folder, "none", bytes, 0, "refused 9\n");
+    memset(changed, 0, sizeof changed);
+    pair(folder, "largest", changed, 65536, "refused 9\n");
+    pair(folder, "too-large", changed, 65537, "refused 8\n");
+    used = spindle_trace_create(changed, sizeof changed).length;
+    pair(folder, "empty", changed, used, "records 0\nsame 0\ndiffer 0\n");
+    /* as many records as 65,536 bytes have room for, the largest trace that the program takes */
+    uint32_t count = 0;
+    for (begins[0] = 0, used = spindle_trace_create(bytes, 65536).length;; count++) {
+        Cone cone = {3, 1, 1, {1.0}};
+        double x[2] = {0, 0};
+        Written w = spindle_trace_append(bytes, 65536, used, cone, 1, spindle_house_settings(1.0), x, 2, x, 2, x, 2, x, 2, (Steps){0, 0, 0, 0, 0});
+        if (w.code) break;
+        used = w.length;
+    }
+    size_t room = 60 + 16 * (size_t)count;
+    char *all = malloc(room);
+    if (!all) exit(2);
+    uint64_t *offsets = malloc(8 * (size_t)count + 8);
+    if (!offsets) exit(2);
+    Replayed r = spindle_replay(bytes, used, offsets, count);
+    size_t end = (size_t)snprintf(all, room, "records %" PRIu32 "\nsame %" PRIu32 "\ndiffer %" PRIu32 "\n", r.records, r.same, r.differ);
+    for (uint32_t i = 0; i < r.differ; i++) end += (size_t)snprintf(all + end, room - end, "at %" PRIu64 "\n", offsets[i]);
+    pair(folder, "many", bytes, used, all);
+    free(offsets);
+    free(all);
+}
+
+int main(int argc, char **argv)
+{
+    if (argc == 2 && !strcmp(argv[1], "calls")) {
+        calls();
+        if (!failures) printf("%ld", checks);
+        return failures != 0;
+    }
+    if (argc == 3 && !strcmp(argv[1], "files")) {
+        files(argv[2]);
+        return failures != 0;
+    }
+    fprintf(stderr, "usage: replay calls | files FOLDER\n");
+    return 2;
+}

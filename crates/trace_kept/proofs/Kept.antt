@@ -63,7 +63,7 @@ module _ (c : Cone) (flag : ℕ) (settings : Settings) (dz ds z s : List Float) 
   settings-back e false h = rw (h, double-back (settings .start) (passed .start))
 
   -- the doubles of the record are those that were given
-  values-kept : (e at : ℕ) → recordedOf e at given ≡ keptOf e at c flag settings dz ds z s steps
+  pub values-kept : (e at : ℕ) → recordedOf e at given ≡ keptOf e at c flag settings dz ds z s steps
   unfolding recordedOf coneOf stepsOf keptOf recordOf entryOf
   values-kept e at =
       rw (

@@ -21,7 +21,8 @@ pub too-large : (bs : List ℕ) → 65536 < length bs → refusedText 8 ≡ prin
 unfolding printedOf
 too-large bs h = rw (lt-ltb 65536 (length bs) h)
 
-module _ (bs row exit : List ℕ) (a : Replayed) (told : record { answer = a; offsets = exit } ≡ replayOf bs row) (places : length row ≡ 4096) where
+module _ (bs row exit : List ℕ) (a : Replayed) (told : record { answer = a; offsets = exit } ≡ replayOf bs row)
+    (places : length row ≡ 4096) where
   abbrev D : List ℕ
   D = differing (editionAt bs) 0 (recordsOf bs)
 

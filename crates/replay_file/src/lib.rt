@@ -21,7 +21,8 @@ fn row() -> [u64; 4096]
 // The text, from the slice's first byte on; 98,391 bytes have room for every one. The answer is its length.
 pub fn put_replay(text: &mut [u8], file: &[u8]) -> usize
     requires { ⌜ 98391 ≤ length (now text) ⌝ }
-    ensures { λ r. ⌜ (r ≡ length (printedOf (now (file .entry)))) × (now (text .exit) ≡ sets (now (text .entry)) 0 (printedOf (now (file .entry)))) ⌝ }
+    ensures { λ r. ⌜ (r ≡ length (printedOf (now (file .entry))))
+        × (now (text .exit) ≡ sets (now (text .entry)) 0 (printedOf (now (file .entry)))) ⌝ }
 {
     if MOST_BYTES < file.len() {
         return put_refused(text, 8);

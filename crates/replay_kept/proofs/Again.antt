@@ -74,7 +74,8 @@ module _ (c : Cone) (dz ds z s p q : List Float) (how : Settings) where
       }
 
   -- points of another content change no answer
-  points-settle : (k : ℕ) (d : LentTwo Steps) (p′ q′ : List Float) → settle k d (refuseSteps p′ q′) .answer ≡ settle k d (refuseSteps p q) .answer
+  points-settle : (k : ℕ) (d : LentTwo Steps) (p′ q′ : List Float) → settle k d (refuseSteps p′ q′) .answer
+      ≡ settle k d (refuseSteps p q) .answer
   unfolding settle
   points-settle zero d p′ q′ = refl
   points-settle (suc k) d p′ q′ = refl

@@ -50,7 +50,8 @@ unfolding padded
 first-kept [] h = absurd (omega arith)
 first-kept (x ∷ xs) h = refl
 
-alike-2 : (d₁ d₂ : ℕ) (exps : List Float) → at (padded 32 (take 1 exps)) 0 ≡ at exps 0 → Alike (keptCone (cone 2 d₁ d₂ exps)) (cone 2 d₁ d₂ exps)
+alike-2 : (d₁ d₂ : ℕ) (exps : List Float) → at (padded 32 (take 1 exps)) 0 ≡ at exps 0
+    → Alike (keptCone (cone 2 d₁ d₂ exps)) (cone 2 d₁ d₂ exps)
 unfolding numelOf coneOk threeOk passesIn exponents
 alike-2 d₁ d₂ exps first = record {
   numel = refl;

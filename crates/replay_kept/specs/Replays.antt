@@ -28,11 +28,13 @@ pub record Searched (e : ℕ) (c : Cone) (flag : ℕ) (settings : Settings) (dz 
 
 pub record ReplaysSame : Type 0 where
   -- of one record, in a trace of any edition: whatever the cone holds in places that its kind does not use
-  pub one : (e : ℕ) (c : Cone) (flag : ℕ) (settings : Settings) (dz ds z s : List Float) (steps : Steps) → Passed c flag settings dz ds z s steps
+  pub one : (e : ℕ) (c : Cone) (flag : ℕ) (settings : Settings) (dz ds z s : List Float) (steps : Steps)
+      → Passed c flag settings dz ds z s steps
       → Searched e c flag settings dz ds z s steps
       → sameRecord e (givenOf c flag settings dz ds z s steps) ≡ true
   -- so a done append of what was searched adds no record that differs
-  pub appended : (bs : List ℕ) (used : ℕ) (c : Cone) (flag : ℕ) (settings : Settings) (dz ds z s : List Float) (steps : Steps) → AllBelow 256 bs
+  pub appended : (bs : List ℕ) (used : ℕ) (c : Cone) (flag : ℕ) (settings : Settings) (dz ds z s : List Float) (steps : Steps)
+      → AllBelow 256 bs
       → Passed c flag settings dz ds z s steps
       → Searched (editionAt (take used bs)) c flag settings dz ds z s steps
       → appendOf bs used c flag settings dz ds z s steps .answer .code ≡ 0

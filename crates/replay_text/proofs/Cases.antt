@@ -3,7 +3,17 @@ use mathlib.Core.Path.{_≡_, refl}
 use mathlib.Core.List.{List, [], _∷_, _++_}
 use Prim.Native.Nat.{ℕ}
 use Rattle.decimal.specs.Decimal.{decimalIn, decimalOf}
-use Rattle.replay_text.specs.Text.{recordsWord, sameWord, differWord, atWord, refusedWord, lineOf, offsetLines, replayText, refusedText}
+use Rattle.replay_text.specs.Text.{
+  recordsWord,
+  sameWord,
+  differWord,
+  atWord,
+  refusedWord,
+  lineOf,
+  offsetLines,
+  replayText,
+  refusedText,
+}
 
 -- 50 is `2`, 49 `1`, 48 `0`, and 10 the line feed
 abbrev digits : List ℕ → List ℕ

@@ -23,7 +23,8 @@ const REFUSED: u64 = 0x2064_6573_7566_6572;
 // A word, a number and a line feed. The answer is the place behind.
 fn put_line(bytes: &mut [u8], place: usize, width: usize, word: u64, n: u64) -> usize
     requires { ⌜ place + width + 21 ≤ length (now bytes) ⌝ }
-    ensures { λ r. ⌜ (r ≡ place + length (lineOf (le width word) n)) × (now (bytes .exit) ≡ sets (now (bytes .entry)) place (lineOf (le width word) n)) ⌝ }
+    ensures { λ r. ⌜ (r ≡ place + length (lineOf (le width word) n))
+        × (now (bytes .exit) ≡ sets (now (bytes .entry)) place (lineOf (le width word) n)) ⌝ }
 {
     put(bytes, place, width, word);
     let end = put_decimal(bytes, place + width, n);
@@ -34,7 +35,8 @@ fn put_line(bytes: &mut [u8], place: usize, width: usize, word: u64, n: u64) -> 
 // A line for each offset.
 fn put_offsets(bytes: &mut [u8], place: usize, offsets: &[u64]) -> usize
     requires { ⌜ place + 24 * length (now offsets) ≤ length (now bytes) ⌝ }
-    ensures { λ r. ⌜ (r ≡ place + length (offsetLines (now (offsets .entry)))) × (now (bytes .exit) ≡ sets (now (bytes .entry)) place (offsetLines (now (offsets .entry)))) ⌝ }
+    ensures { λ r. ⌜ (r ≡ place + length (offsetLines (now (offsets .entry))))
+        × (now (bytes .exit) ≡ sets (now (bytes .entry)) place (offsetLines (now (offsets .entry)))) ⌝ }
 {
     let mut at = place;
     for i in 0..offsets.len() {
@@ -46,7 +48,8 @@ fn put_offsets(bytes: &mut [u8], place: usize, offsets: &[u64]) -> usize
 // The whole text, from the slice's first byte on. The answer is its length.
 pub fn put_text(bytes: &mut [u8], records: u32, same: u32, differ: u32, offsets: &[u64]) -> usize
     requires { ⌜ 87 + 24 * length (now offsets) ≤ length (now bytes) ⌝ }
-    ensures { λ r. ⌜ (r ≡ length (replayText records same differ (now (offsets .entry)))) × (now (bytes .exit) ≡ sets (now (bytes .entry)) 0 (replayText records same differ (now (offsets .entry)))) ⌝ }
+    ensures { λ r. ⌜ (r ≡ length (replayText records same differ (now (offsets .entry))))
+        × (now (bytes .exit) ≡ sets (now (bytes .entry)) 0 (replayText records same differ (now (offsets .entry)))) ⌝ }
 {
     let second = put_line(bytes, 0, 8, RECORDS, records as u64);
     let third = put_line(bytes, second, 5, SAME, same as u64);

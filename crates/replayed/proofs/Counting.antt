@@ -22,7 +22,8 @@ use Rattle.replayed.proofs.Noting.{few}
 
 -- ---- the same and those that differ are all
 
-counts-more : (same : Bool) (at n k : ℕ) (offsets : List ℕ) → n + length offsets ≡ k → cond same (suc n) n + length (noted same at ++ offsets) ≡ suc k
+counts-more : (same : Bool) (at n k : ℕ) (offsets : List ℕ) → n + length offsets ≡ k
+    → cond same (suc n) n + length (noted same at ++ offsets) ≡ suc k
 unfolding noted
 counts-more true at n k offsets h = omega arith
 counts-more false at n k offsets h = omega arith
@@ -30,7 +31,8 @@ counts-more false at n k offsets h = omega arith
 pub counts : (e at : ℕ) (rs : List Record) → sameCount e rs + length (differing e at rs) ≡ length rs
 unfolding sameCount differing
 counts e at [] = omega arith
-counts e at (r ∷ rs) = counts-more (sameRecord e r) at (sameCount e rs) (length rs) (differing e (at + sizeIn e r) rs) (counts e (at + sizeIn e r) rs)
+counts e at (r ∷ rs) = counts-more (sameRecord e r) at (sameCount e rs) (length rs)
+    (differing e (at + sizeIn e r) rs) (counts e (at + sizeIn e r) rs)
 
 length-records : (e n : ℕ) (t : List ℕ) → length (recordsIn e n t) ≡ n
 unfolding recordsIn
@@ -41,7 +43,8 @@ length-records e (suc n) t = ap suc (length-records e n (drop (sizeAt e t) t))
 pub few-differ : (bs : List ℕ) → goodTrace bs ≡ true → length (differing (editionAt bs) 0 (recordsOf bs)) ≤ 4096
 unfolding recordsOf goodTrace
 few-differ bs good =
-    let few = ends bs (and-left (trailerOk bs) (walks (editionAt bs) (countAt bs) 0 (take (listAt bs) bs) (drop (listAt bs) bs)) good) .few in
+    let few = ends bs (and-left (trailerOk bs)
+    (walks (editionAt bs) (countAt bs) 0 (take (listAt bs) bs) (drop (listAt bs) bs)) good) .few in
     omega (arith, few, counts (editionAt bs) 0 (recordsOf bs), length-records (editionAt bs) (countAt bs) (take (listAt bs) bs))
 
 -- ---- the answer
@@ -56,7 +59,8 @@ module _ (bs old : List ℕ) where
     offsets = D ++ drop (length D) old;
   }
 
-  rows-with : (g : Bool) → goodTrace bs ≡ g → traceRow (not (eqb (openOf bs .code) 0)) (ltb (length old) (length (differingIn bs (openOf bs))))
+  rows-with : (g : Bool) → goodTrace bs ≡ g → traceRow (not (eqb (openOf bs .code) 0))
+      (ltb (length old) (length (differingIn bs (openOf bs))))
       ≡ traceRow (not (goodTrace bs)) (ltb (length old) (length D))
   unfolding openOf differingIn traceRow recordsOf
   rows-with true g = rw g
@@ -110,7 +114,10 @@ module _ (bs old : List ℕ) where
         same-is = omega (arith, count-is, count, ap length found-is, counts (editionAt bs) 0 (recordsOf bs))
 
         wrote : sets old 0 D ≡ D ++ drop (length D) old
-        wrote = let h : 0 + length D ≤ length old = omega (arith, room, count, ap length found-is) in let z : 0 + length D ≡ length D = omega arith in rw z at (sets-eq D old 0 h)
+        wrote =
+            let h : 0 + length D ≤ length old = omega (arith, room, count, ap length found-is) in
+            let z : 0 + length D ≡ length D = omega arith in
+            rw z at (sets-eq D old 0 h)
 
         pub replayed-row : (exit row′ : List ℕ) → row′ ≡ found → exit ≡ sets old 0 row′
             → record { answer = record { code = 0; records = o .count; same = o .count - n; differ = n }; offsets = exit } ≡ replayOf bs old
@@ -120,7 +127,8 @@ module _ (bs old : List ℕ) where
             (rw (stored, cut, found-is, wrote, same-is, count-is, count ∙ ap length found-is))
 
 -- the first n places of a row that begins with n numbers are these
-pub cut-is : (row found : List ℕ) (exit : List ℕ) (n : ℕ) → exit ≡ sets row 0 found → n ≡ length found → length found ≤ length row → take n exit ≡ found
+pub cut-is : (row found : List ℕ) (exit : List ℕ) (n : ℕ) → exit ≡ sets row 0 found → n ≡ length found → length found ≤ length row
+    → take n exit ≡ found
 cut-is row found exit n wrote count h =
     let fits : 0 + length found ≤ length row = omega arith in
     rw (wrote, sets-eq found row 0 fits) (take-at found (drop (0 + length found) row) n (sym count))

@@ -110,12 +110,14 @@ module _ (bs : List ℕ) (o : Opened) (is : o ≡ openOf bs) where
 
     entry-with : (x : Bool) → eqb (wordAt 8 (entries bs o) (8 * i)) at ≡ x → wordAt 8 (entries bs o) (8 * i) ≡ at
     entry-with true h = eqb-true _ _ h
-    entry-with false h = absurd (false-not-true (other-entry (o .edition) (o .count) at i (body bs o) (entries bs o) more laid (eqb-false _ _ h) ∙ w))
+    entry-with false h = absurd (false-not-true (other-entry (o .edition) (o .count) at i (body bs o)
+        (entries bs o) more laid (eqb-false _ _ h) ∙ w))
 
     pub never-broken : foundFrom bs at ≡ Broken → ⊥
     unfolding foundFrom
     never-broken h =
-        let there : laidAt (editionAt bs) (drop at (take (listAt bs) bs)) ≡ true = rw (← edition-is bs i o is more, ← list-is bs i o is more) laid in
+        let there : laidAt (editionAt bs) (drop at (take (listAt bs) bs)) ≡ true
+        = rw (← edition-is bs i o is more, ← list-is bs i o is more) laid in
         false-not-true (sym (broken-is-not (editionAt bs) (drop at (take (listAt bs) bs)) h) ∙ there)
 
     module _ (shape : Shape) (found : foundFrom bs at ≡ Record shape) where
@@ -131,7 +133,8 @@ module _ (bs : List ℕ) (o : Opened) (is : o ≡ openOf bs) where
 
       pub walks-on : (place : ℕ) → place ≡ placeAfter bs at → Walks bs o place (i + 1)
       walks-on place h =
-          rw (h ∙ next-is) (walked-on (o .edition) (o .count) at i (body bs o) (entries bs o) more (sizeAt (o .edition) here) laid refl (entry-with _ refl) ∙ w)
+          rw (h ∙ next-is) (walked-on (o .edition) (o .count) at i (body bs o) (entries bs o) more
+          (sizeAt (o .edition) here) laid refl (entry-with _ refl) ∙ w)
 
       left-here : left bs o at i ≡ noted (sameRecord (o .edition) (recordAt (o .edition) here)) at ++ left bs o (placeAfter bs at) (i + 1)
       unfolding recordsIn differing
@@ -153,4 +156,5 @@ module _ (bs : List ℕ) (o : Opened) (is : o ≡ openOf bs) where
         turn-length = omega (arith, behind, ap length turn, length-append (noted same at) rest)
 
         pub turn-writes : sets offsets′ n′ rest ≡ sets offsets n (left bs o at i)
-        turn-writes = wrote-after offsets offsets′ (sets offsets′ n′ rest) n n′ (noted same at) rest wrote behind refl ∙ ap (sets offsets n) (sym turn)
+        turn-writes = wrote-after offsets offsets′ (sets offsets′ n′ rest) n n′ (noted same at) rest wrote behind refl
+            ∙ ap (sets offsets n) (sym turn)

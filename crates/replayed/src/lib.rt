@@ -52,7 +52,8 @@ fn note(offsets: &mut [u64], n: usize, same: bool, at: u64) -> usize
 // The offsets of the records that differ, from the row's first place on. The answer is their count. A trace that was refused has no records.
 fn note_all(trace: &[u8], opened: Opened, offsets: &mut [u64]) -> usize
     requires { ⌜ (opened ≡ openOf (now trace)) × (4096 ≤ length (now offsets)) ⌝ }
-    ensures { λ r. ⌜ (r ≡ length (differingIn (now (trace .entry)) opened)) × (now (offsets .exit) ≡ sets (now (offsets .entry)) 0 (differingIn (now (trace .entry)) opened)) ⌝ }
+    ensures { λ r. ⌜ (r ≡ length (differingIn (now (trace .entry)) opened))
+        × (now (offsets .exit) ≡ sets (now (offsets .entry)) 0 (differingIn (now (trace .entry)) opened)) ⌝ }
 {
     let mut at = 0;
     let mut n = 0;

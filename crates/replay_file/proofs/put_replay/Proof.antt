@@ -60,7 +60,8 @@ returns-2 c =
     let p = c .before .before in
     let k = p .before .before .before in
     written (given (small-file (replaying k)) .args .text .now) _ _ _ _
-    (refused-text (file k) (row k) (offsets k) (answer k) (replaying k .replay .ensures) (places k) (small k) (p .before .before .if2 .taken))
+    (refused-text (file k) (row k) (offsets k) (answer k) (replaying k .replay .ensures)
+    (places k) (small k) (p .before .before .if2 .taken))
     (p .put-refused2 .ensures)
 
 -- the answer's text
@@ -69,7 +70,8 @@ module _ (c : tie.Else2) where
   told = c .before
 
   few : answer told .differ ≤ 4096
-  few = differ-few (file told) (row told) (offsets told) (answer told) (replaying told .replay .ensures) (places told) (small told) (c .if2 .left)
+  few = differ-few (file told) (row told) (offsets told) (answer told) (replaying told .replay .ensures)
+      (places told) (small told) (c .if2 .left)
 
   cut-length : length (take (answer told .differ) (offsets told)) ≡ answer told .differ
   cut-length = length-take-le (answer told .differ) (offsets told) (omega (arith, few, exit-places told))

@@ -29,7 +29,8 @@ one-at : (c : tie.After-put-line) → c .put-line .result ≡ 0 + length (lineOf
 unfolding le
 one-at c = c .put-line .ensures .0
 
-two-at : (c : tie.After-put-line2) → c .put-line2 .result ≡ first c .put-line .result + length (lineOf sameWord (started (first c) .args .same))
+two-at : (c : tie.After-put-line2) → c .put-line2 .result
+    ≡ first c .put-line .result + length (lineOf sameWord (started (first c) .args .same))
 unfolding le
 two-at c = c .put-line2 .ensures .0
 
@@ -79,7 +80,8 @@ returns c =
     let L₃ = lineOf differWord (a .differ) in
     let O = offsetLines (a .offsets .now) in
     let ends-two : length (L₁ ++ L₂) ≡ two .put-line2 .result = length-append L₁ L₂ ∙ omega (arith, one-at one, two-at two) in
-    let ends-three : length ((L₁ ++ L₂) ++ L₃) ≡ three .put-line3 .result = length-append (L₁ ++ L₂) L₃ ∙ omega (arith, ends-two, three-at three) in
+    let ends-three : length ((L₁ ++ L₂) ++ L₃) ≡ three .put-line3 .result
+    = length-append (L₁ ++ L₂) L₃ ∙ omega (arith, ends-two, three-at three) in
     let to-two = wrote-after b _ _ 0 _ L₁ L₂ (one .put-line .ensures .1) (one-at one) (two .put-line2 .ensures .1) in
     let to-three = wrote-after b _ _ 0 _ (L₁ ++ L₂) L₃ to-two (omega (arith, ends-two)) (three .put-line3 .ensures .1) in (
       omega (arith, o .put-offsets .ensures .0, length-append ((L₁ ++ L₂) ++ L₃) O, ends-three),

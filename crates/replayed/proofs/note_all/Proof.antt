@@ -11,7 +11,21 @@ use Rattle.trace.specs.declared.Opened.{Opened}
 use Rattle.trace.specs.declared.Found.the-variants.{Record}
 use Rattle.trace_reader.specs.Reading.{foundFrom}
 use Rattle.replayed.specs.Replay.{differingIn}
-use Rattle.replayed.proofs.Noting.{Walks, left, few, walks-begun, all-left, none-left, noted-most, laid, never-broken, found-shape, walks-on, turn-length, turn-writes}
+use Rattle.replayed.proofs.Noting.{
+  Walks,
+  left,
+  few,
+  walks-begun,
+  all-left,
+  none-left,
+  noted-most,
+  laid,
+  never-broken,
+  found-shape,
+  walks-on,
+  turn-length,
+  turn-writes,
+}
 use Rattle.replayed.proofs.note_all.Statement.{statement}
 use Rattle.replayed.proofs.note_all.Tie as tie
 
@@ -74,7 +88,8 @@ returns c =
     absurd (never-broken (s .args .trace .now) (s .args .opened) (s .pre .0) (l .loop .at) (l .loop .i) (omega arith) (l .loop .inv .4)
     (sym (c .before .before .current-in .ensures) ∙ c .enum-told .given .1))
 
-part : (c : tie.After-behind Inv-loop μ-loop) → c .behind .result .now ≡ drop (turn (found c) .loop .at) (take (opened (found c) .list) (trace (found c)))
+part : (c : tie.After-behind Inv-loop μ-loop) → c .behind .result .now
+    ≡ drop (turn (found c) .loop .at) (take (opened (found c) .list) (trace (found c)))
 part c = c .behind .ensures ∙ ap (drop (turn (found c) .loop .at)) (c .before .front .ensures)
 
 same-at-requires : tie.Need-same-at-requires Inv-loop μ-loop
@@ -103,12 +118,16 @@ loop-again c =
     let same = p .before .before .same-at in
     let moved = c .place-in .ensures in
     let length-turn =
-    turn-length (trace f) (opened f) is (l .at) (l .i) (more f) (l .inv .4) (f .shape .given .0 .0) (is-found f) (b .behind .result .now) (part b)
-    (same .result) (same .ensures) (c .place-in .result) moved (l .offsets) (p .note .last .0) (l .n) (p .note .result) (p .note .ensures .0)
+    turn-length (trace f) (opened f) is (l .at) (l .i) (more f) (l .inv .4) (f .shape .given .0 .0) (is-found f)
+    (b .behind .result .now) (part b)
+    (same .result) (same .ensures) (c .place-in .result) moved (l .offsets)
+    (p .note .last .0) (l .n) (p .note .result) (p .note .ensures .0)
     (p .note .ensures .1) in
     let turn-wrote =
-    turn-writes (trace f) (opened f) is (l .at) (l .i) (more f) (l .inv .4) (f .shape .given .0 .0) (is-found f) (b .behind .result .now) (part b)
-    (same .result) (same .ensures) (c .place-in .result) moved (l .offsets) (p .note .last .0) (l .n) (p .note .result) (p .note .ensures .0)
+    turn-writes (trace f) (opened f) is (l .at) (l .i) (more f) (l .inv .4) (f .shape .given .0 .0) (is-found f)
+    (b .behind .result .now) (part b)
+    (same .result) (same .ensures) (c .place-in .result) moved (l .offsets)
+    (p .note .last .0) (l .n) (p .note .result) (p .note .ensures .0)
     (p .note .ensures .1) in (
       omega (arith, more f),
       refl,

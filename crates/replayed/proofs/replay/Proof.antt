@@ -69,7 +69,8 @@ returns : tie.Need-returns
 returns c =
     let w = c .before .before in
     ap (noted-with (old w)) (c .refused .ensures)
-    ∙ refused-row (trace w) (old w) (opened w) (opening (noting w) .«open» .ensures) _ (n w) (w .trace-row .ensures) (noting w .note-all .ensures .0)
+    ∙ refused-row (trace w) (old w) (opened w) (opening (noting w) .«open» .ensures) _ (n w)
+    (w .trace-row .ensures) (noting w .note-all .ensures .0)
     (c .before .if1 .taken)
 
 array-share-prefix-offsets : tie.Need-array-share-prefix-offsets
@@ -106,7 +107,8 @@ returns-2 : tie.Need-returns-2
 returns-2 c =
     let s = stored (c .before) in
     let w = judged s in
-    replayed-row (trace w) (old w) (opened w) (opening (noting w) .«open» .ensures) _ (n w) (w .trace-row .ensures) (noting w .note-all .ensures .0)
+    replayed-row (trace w) (old w) (opened w) (opening (noting w) .«open» .ensures) _ (n w)
+    (w .trace-row .ensures) (noting w .note-all .ensures .0)
     (s .before .before .if1 .left) (c .before .before .before .store .last .0) _ (cut w) (c .before .before .before .store .ensures)
 
 pub replay-spec : {M : Type 1} → statement M

@@ -41,7 +41,8 @@ store-spec =
     (tie.spec
     Inv-loop
     μ-loop
-    (λ c. (omega arith, refl, refl, refl)) (λ c. omega arith) (λ c. omega arith) (λ c. omega arith) (λ c. omega (arith, c .before .before .loop .inv .2, c .before .before .before .pre)) (λ c. omega arith)
+    (λ c. (omega arith, refl, refl, refl)) (λ c. omega arith) (λ c. omega arith) (λ c. omega arith)
+    (λ c. omega (arith, c .before .before .loop .inv .2, c .before .before .before .pre)) (λ c. omega arith)
     (λ c. omega arith)
     loop-again
     same-length

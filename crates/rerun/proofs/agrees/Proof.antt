@@ -47,8 +47,11 @@ dz-cut c = c .before .before
 abbrev blanks : tie.After-head → tie.After-blank2
 blanks c = c .before .before
 
+abbrev copied : tie.After-blank2 → tie.After-s
+copied c = c .before .before
+
 abbrev counted : tie.After-blank2 → tie.After-numel
-counted c = c .before .before .before .before .before .before
+counted c = copied c .before .before .before .before
 
 -- the eighth field behind the first is an array of 64 places
 s-places : (c : tie.Start) → 64 ≡ length (c .args .r .s)

@@ -7,12 +7,13 @@ use Rattle.rerun.proofs.same_answers.Tie as tie
 returns : tie.Need-returns
 unfolding sameAnswers
 returns c =
-    let first = c .before .before .before .before .before .before .before in
+    -- the dual step's two patterns are taken before the primal step's
+    let between = c .before .before .before .before .before in
     rw (
       c .before .before .to-bits4 .ensures,
       c .before .before .before .to-bits3 .ensures,
-      c .before .before .before .before .before .before .to-bits2 .ensures,
-      first .to-bits .ensures,
+      between .before .to-bits2 .ensures,
+      between .before .before .to-bits .ensures,
     )
 
 pub same-answers-spec : {M : Type 1} → statement M

@@ -3,7 +3,7 @@
 #
 #   sh test.sh            everything, from nothing
 #   sh test.sh --quick    only the checks of files: layout, listed crates, silent answers, lemmas of agreement, versions, paths
-#   sh test.sh --outside  only what runs over the archive: the C example, the kernels, the traces, the comparison with the Rust, the Rust crate
+#   sh test.sh --outside  only what runs over the archive: the C examples, the kernels, the traces, the comparison with the Rust, the Rust crate
 #   sh test.sh --help     this text
 #
 # Exit status 0 only if everything passed; 2: bad usage, or a command is missing.
@@ -36,6 +36,10 @@ outside() {
     mkdir -p target/log
     sh build.sh >target/log/plan.txt 2>&1 || { tail -n 20 target/log/plan.txt >&2; die "sh build.sh failed"; }
     sed '/^build: /d' target/log/plan.txt | diff - examples/plan.stdout || die "examples/plan.c wrote something else than examples/plan.stdout"
+
+    say "examples/night.sh: a plan's searches kept in a file and replayed, and one byte of a recorded step changed"
+    sh examples/night.sh >target/log/night.txt 2>&1 || { tail -n 20 target/log/night.txt >&2; die "sh examples/night.sh failed"; }
+    sed '/^build: /d' target/log/night.txt | diff - examples/night.stdout || die "examples/night.sh wrote something else than examples/night.stdout"
 
     say "include/spindle.h as C99 and as C++"
     cc -std=c99 -pedantic -Wall -Wextra -Werror -fsyntax-only -x c include/spindle.h || die "include/spindle.h is not clean C99"

@@ -2,7 +2,7 @@
 ghost use mathlib.Core.Path.{_≡_};
 ghost use Prim.Native.Nat.{_+_, _≤_, _<_};
 ghost use Rattle.exponential.specs.Steps.{thirdIn64, coefficient, horner};
-use wide::high;
+use wide::four::high;
 
 // 2^62/i!, rounded down. The next one would be 0, so that the sum of forty terms ends here.
 // A `match` and no array: an array that is indexed by a variable is put on the stack at every call.

@@ -4,6 +4,8 @@ use Rattle.arith.specs.Outcomes.{OneAnswer}
 use Rattle.wide.proofs.product.Reads as product
 use Rattle.wide.proofs.high.Reads as high
 use Rattle.wide.proofs.left.Reads as left
+use Rattle.wide.proofs.four.product.Reads as four-product
+use Rattle.wide.proofs.four.high.Reads as four-high
 
 pub product-agrees : OneAnswer product.Post
 product-agrees κs a x y s t p q = p ∙ sym q
@@ -13,3 +15,9 @@ high-agrees κs a x y s t p q = p ∙ sym q
 
 pub left-agrees : OneAnswer left.Post
 left-agrees κs a x y s t p q = p ∙ sym q
+
+pub four-product-agrees : OneAnswer four-product.Post
+four-product-agrees κs a x y s t p q = p ∙ sym q
+
+pub four-high-agrees : OneAnswer four-high.Post
+four-high-agrees κs a x y s t p q = p ∙ sym q

@@ -1,4 +1,4 @@
--- The law of the two halves of a product, and why four partial products give them; which differences `left` tells.
+-- The law of the two halves of a product, and why three partial products give them, and four; which differences `left` tells.
 pub mod Products
 pub mod Differences
 pub mod PartialProducts

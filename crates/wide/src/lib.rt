@@ -1,7 +1,9 @@
 // Numbers of two 64-bit halves, which the language has no type for: the whole product of two numbers, and what one has over another.
 ghost use mathlib.Core.Path.{_≡_};
-ghost use Prim.Native.Nat.{_*_, _^_, _/_};
+ghost use Prim.Native.Nat.{_+_, _-_, _*_, _^_, _/_, _<_};
 ghost use Rattle.wide.specs.Products.{wholeOf, productOf, leftOf};
+
+pub mod four;
 
 // hi * 2^64 + lo
 pub struct Halves {
@@ -9,7 +11,24 @@ pub struct Halves {
     pub lo: u64,
 }
 
-// a * b, by four partial products of 32-bit digits, as on paper. A sum of a partial product and two digits fits 64 bits, so no carry is lost.
+// t where s, a sum of two digits, has a 33rd bit, and else 0.
+fn beyond(s: u64, t: u64) -> u64
+    requires { ⌜ s < 2 ^ 33 ⌝ }
+    ensures { λ r. ⌜ r ≡ s / 2 ^ 32 * t ⌝ }
+{
+    if s < 0x1_0000_0000 { 0 } else { t }
+}
+
+// 1 where x - y is below 0, and else 0.
+fn below(x: u64, y: u64) -> u64
+    ensures { λ r. ⌜ r ≡ 1 - (x + 1 - y) ⌝ }
+{
+    if x < y { 1 } else { 0 }
+}
+
+// a * b, by three partial products of 32-bit digits: a1 b0 + a0 b1 is (a1 + a0) (b1 + b0) less a1 b1 and a0 b0. The sums have up to 33 bits;
+// their lower digits are multiplied, and what a 33rd bit adds is the other sum, so that no product has more than 64 bits. `beyond` and `below`
+// become no branches.
 pub fn product(a: u64, b: u64) -> Halves
     ensures { λ r. ⌜ r ≡ productOf a b ⌝ }
 {
@@ -17,14 +36,23 @@ pub fn product(a: u64, b: u64) -> Halves
     let a0 = a % 0x1_0000_0000;
     let b1 = b / 0x1_0000_0000;
     let b0 = b % 0x1_0000_0000;
+    let top = a1 * b1;
     let low = a0 * b0;
-    let mid = a1 * b0 + low / 0x1_0000_0000;
-    let cross = a0 * b1 + mid % 0x1_0000_0000;
-    // cross % 2^32, from the partial products once more: so the compiler recognises both halves, and makes one multiplication of the four.
-    let digit = (a0 * b1 + a1 * b0 % 0x1_0000_0000 + low / 0x1_0000_0000) % 0x1_0000_0000;
+    let a2 = a1 + a0;
+    let b2 = b1 + b0;
+    let a3 = a2 % 0x1_0000_0000;
+    let both = a3 * (b2 % 0x1_0000_0000);
+    let over = beyond(a2, b2) + beyond(b2, a3);
+    // What is taken off, in two digits: top, and low without the digit that it carries into the middle.
+    let rest = low - low / 0x1_0000_0000;
+    let off = top % 0x1_0000_0000 + rest % 0x1_0000_0000;
+    let taken = top / 0x1_0000_0000 + rest / 0x1_0000_0000 + off / 0x1_0000_0000;
+    let from = both % 0x1_0000_0000;
+    let digit = off % 0x1_0000_0000;
+    let sign = below(from, digit);
     Halves {
-        hi: a1 * b1 + mid / 0x1_0000_0000 + cross / 0x1_0000_0000,
-        lo: digit * 0x1_0000_0000 + low % 0x1_0000_0000,
+        hi: top + (over + both / 0x1_0000_0000 - taken - sign),
+        lo: (from + 0x1_0000_0000 - digit) % 0x1_0000_0000 * 0x1_0000_0000 + low % 0x1_0000_0000,
     }
 }
 

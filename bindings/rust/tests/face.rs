@@ -200,5 +200,5 @@ fn refusals_speak() {
     assert_eq!(Refusal::BadLength.number(), 2);
     assert_eq!(Refusal::NotFinite.to_string(), "refused with 3: an input number is NaN or infinite");
     assert_eq!(Refusal::Unknown(12).to_string(), "refused with 12: a number that this crate does not know");
-    assert_eq!(spindle::VERSION, "0.3.0");
+    assert_eq!(spindle::VERSION, "0.4.0");
 }

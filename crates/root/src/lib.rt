@@ -53,7 +53,7 @@ fn near_root(m: u64) -> u64
         lo: m % 0x1000 * 0x10_0000_0000_0000,
     };
     // What m * 2^52 has over r (r - 1). The next three such products are 2 r, 4 r + 2 and 6 r + 6 above that one.
-    let rest = wide::left(n, wide::product(r, r - 1));
+    let rest = wide::left(n, wide::four::product(r, r - 1));
     if rest > 0 {
         if rest <= 2 * r {
             return r;

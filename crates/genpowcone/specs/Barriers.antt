@@ -20,10 +20,10 @@ barrierDualOf α z = lessLogs (neg (logOf (dualResidue α z .res))) α z
 unfoldable pub barrierPrimalAt : List Float → List Float → ℕ → Float
 barrierPrimalAt α g n = neg (barrierDualOf α (map neg (take n g))) ⊖ ofInt binary64 (pos (length α + 1))
 
--- 002 barrier_primal at s, with w the tail that gradient_primal takes
-unfoldable pub barrierPrimalOf : List Float → List Float → List Float → Float
-barrierPrimalOf α s w = barrierPrimalAt α (gradientPrimalOf α s w .g) (length s)
+-- 002 barrier_primal at s
+unfoldable pub barrierPrimalOf : List Float → List Float → Float
+barrierPrimalOf α s = barrierPrimalAt α (gradientPrimalOf α s .g) (length s)
 
 -- 002 compute_barrier after the step a: the primal part first
-unfoldable pub computeBarrierOf : List Float → List Float → List Float → List Float → List Float → Float → List Float → Float
-computeBarrierOf α z s dz ds a w = #0 ⊕ barrierPrimalOf α (movedOf s a ds) w ⊕ barrierDualOf α (movedOf z a dz)
+unfoldable pub computeBarrierOf : List Float → List Float → List Float → List Float → List Float → Float → Float
+computeBarrierOf α z s dz ds a = #0 ⊕ barrierPrimalOf α (movedOf s a ds) ⊕ barrierDualOf α (movedOf z a dz)

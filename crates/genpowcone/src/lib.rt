@@ -123,7 +123,7 @@ pub fn mul_hs<'a>(
     product_finished(&y, x.len(), coef_p, p, mu)
 }
 
-// step is the Rust's α, the length of the step from z and s; w is the tail that gradient_primal takes.
+// step is the Rust's α, the length of the step from z and s.
 pub fn compute_barrier(
     alpha: &[f64],
     z: &[f64],
@@ -131,15 +131,14 @@ pub fn compute_barrier(
     dz: &[f64],
     ds: &[f64],
     step: f64,
-    w: &[f64],
 ) -> f64
-    requires { ⌜ (length (now alpha) + length (now w) ≤ 64) × (length (now s) ≤ 64) × (length (now z) ≤ 64) ⌝ }
+    requires { ⌜ (length (now alpha) ≤ 64) × (length (now s) ≤ 64) × (length (now z) ≤ 64) ⌝ }
     ensures { λ r. ⌜ r ≡ computeBarrierOf (now (alpha .entry)) (now (z .entry)) (now (s .entry))
-        (now (dz .entry)) (now (ds .entry)) step (now (w .entry)) ⌝ }
+        (now (dz .entry)) (now (ds .entry)) step ⌝ }
 {
     let cur_s = moved(s, step, ds);
     let ns = shorter(s.len(), ds.len());
-    let primal = barrier_primal(alpha, head(&cur_s, ns), w);
+    let primal = barrier_primal(alpha, head(&cur_s, ns));
 
     let cur_z = moved(z, step, dz);
     let nz = shorter(z.len(), dz.len());
@@ -204,11 +203,11 @@ pub fn is_dual_feasible(alpha: &[f64], z: &[f64]) -> bool
 
 // Primal barrier: f(s) = ⟨s,g(s)⟩ - f*(-g(s))
 // NB: ⟨s,g(s)⟩ = -(dim1(K)+1) = - ν
-pub fn barrier_primal(alpha: &[f64], s: &[f64], w: &[f64]) -> f64
-    requires { ⌜ length (now alpha) + length (now w) ≤ 64 ⌝ }
-    ensures { λ r. ⌜ r ≡ barrierPrimalOf (now (alpha .entry)) (now (s .entry)) (now (w .entry)) ⌝ }
+pub fn barrier_primal(alpha: &[f64], s: &[f64]) -> f64
+    requires { ⌜ (length (now alpha) ≤ 64) × (length (now s) ≤ 64) ⌝ }
+    ensures { λ r. ⌜ r ≡ barrierPrimalOf (now (alpha .entry)) (now (s .entry)) ⌝ }
 {
-    let f = gradient_primal(alpha, s, w);
+    let f = gradient_primal(alpha, s);
     let g = f.g;
     barrier_primal_at(alpha, &g, s.len())
 }
@@ -315,10 +314,10 @@ fn q_of(tau: &[f64; 32], dim1: usize, c: f64) -> [f64; 32]
     scale32(head(tau, dim1), c)
 }
 
-// Compute the primal gradient of f(s) at s. Its tail is g1/norm_r times w, which is the record's r
-pub fn gradient_primal(alpha: &[f64], s: &[f64], w: &[f64]) -> Gradient
-    requires { ⌜ length (now alpha) + length (now w) ≤ 64 ⌝ }
-    ensures { λ r. ⌜ r ≡ gradientPrimalOf (now (alpha .entry)) (now (s .entry)) (now (w .entry)) ⌝ }
+// Compute the primal gradient of f(s) at s. Its tail is g1/norm_r times s's own (02, Order 4): the Rust takes the r of the last scaling
+pub fn gradient_primal(alpha: &[f64], s: &[f64]) -> Gradient
+    requires { ⌜ (length (now alpha) ≤ 64) × (length (now s) ≤ 64) ⌝ }
+    ensures { λ r. ⌜ r ≡ gradientPrimalOf (now (alpha .entry)) (now (s .entry)) ⌝ }
 {
     // the logarithms of the heads are taken once: the powers of phi need them, and so does each of Newton's rounds
     let p = head(s, alpha.len());
@@ -329,12 +328,13 @@ pub fn gradient_primal(alpha: &[f64], s: &[f64], w: &[f64]) -> Gradient
     let phi = primal_phi(alpha, p, logs);
 
     // obtain g1 from the Newton-Raphson method
-    let norm_r = norm(tail(s, alpha.len()));
+    let r = tail(s, alpha.len());
+    let norm_r = norm(r);
 
     if norm_r > EPSILON {
         let psi = 1.0 / sumsq(alpha);
         let found = newton_raphson_genpowcone(norm_r, logs, phi, alpha, psi);
-        gradient_from(alpha, p, w, norm_r, found)
+        gradient_from(alpha, p, r, norm_r, found)
     } else {
         let g = gradient_flat_head(alpha, p);
         Gradient { g, rounds: 0 }

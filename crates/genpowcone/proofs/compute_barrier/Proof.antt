@@ -1,16 +1,32 @@
 -- `compute_barrier` is its definition: the calls are replaced by what they promise, and an array's used places by the point they hold. Assumes nothing.
+use Prim.Native.Nat.{ℕ, min, _≤_}
+use mathlib.Core.Path.{_≡_, _∙_, ap}
+use mathlib.Core.List.{List}
+use native.Mathlib.Omega.{arith}
+use lib.ListN.{length, take, length-take}
+use lib.Ieee.{Float}
 use borrow.Author.Needs.{needs}
 use Rattle.genpowcone_loops.proofs.Arrays.{moved-front}
 use Rattle.genpowcone.specs.Barriers.{computeBarrierOf}
 use Rattle.genpowcone.proofs.compute_barrier.Statement.{statement}
 use Rattle.genpowcone.proofs.compute_barrier.Tie as tie
 
--- the six lengths come first
-abbrev three-lengths : tie.After-moved → tie.After-shared-slice-known3
-three-lengths c = c .before .before .before .before
+-- the five lengths come first
+abbrev two-lengths : tie.After-moved → tie.After-shared-slice-known2
+two-lengths c = c .before .before .before .before
 
 abbrev begun : tie.After-moved → tie.Start
-begun c = three-lengths c .before .before .before
+begun c = two-lengths c .before .before
+
+-- the moved point has no more places than s
+front-fits : (n m k : ℕ) (a : List Float) {b : List Float} → n ≡ min m k → m ≤ 64 → b ≡ take n a → length b ≤ 64
+front-fits n m k a e h f = omega (arith, e, ap length f ∙ length-take n a)
+
+barrier-primal-requires : tie.Need-barrier-primal-requires
+barrier-primal-requires c κs =
+    let counted = c .before .before in
+    let pre = begun (counted .before) .pre in
+    (pre .0, front-fits _ _ _ _ (counted .shorter .ensures) (pre .1) (c .head .ensures))
 
 returns : tie.Need-returns
 unfolding computeBarrierOf
@@ -37,6 +53,7 @@ pub compute-barrier-spec : {M : Type 1} → statement M
 compute-barrier-spec =
     tie.close
     (tie.spec
-    (λ c κs. search needs) (λ c κs. search needs) (λ c. search needs) (λ c κs. search needs) (λ c κs. search needs) (λ c κs. search needs)
-    (λ c κs. search needs) (λ c. search needs) (λ c κs. search needs) (λ c κs. search needs)
+    (λ c κs. search needs) (λ c κs. search needs) (λ c. search needs) (λ c κs. search needs)
+    barrier-primal-requires
+    (λ c κs. search needs) (λ c κs. search needs) (λ c. search needs) (λ c κs. search needs) (λ c κs. search needs)
     returns)

@@ -1,10 +1,10 @@
 -- `gradient_primal` is its definition, whether norm_r is above ε or not; the logarithms of the heads stand in the first places of an array. Assumes nothing.
-use Prim.Native.Nat.{_≤_}
+use Prim.Native.Nat.{_+_, _≤_}
 use mathlib.Core.Path.{_≡_, _∙_, ap}
 use mathlib.Core.Bool.{true}
 use mathlib.Core.List.{List, map}
 use native.Mathlib.Omega.{arith}
-use lib.ListN.{length, take, drop, length-take}
+use lib.ListN.{length, take, drop, length-take, length-drop}
 use lib.Ieee.{Float}
 use borrow.Author.Needs.{needs}
 use Rattle.double.specs.Operators.{_⊘_, _≺_}
@@ -30,11 +30,11 @@ newton-as r α p logs φ q l f s = rw (l, f, s)
 
 gradient-as
     : (α s w p : List Float) (n : Float) (f : Found)
-    → p ≡ take (length α) s → n ≡ normOf (drop (length α) s) → (#ε ≺ n) ≡ true
+    → p ≡ take (length α) s → w ≡ drop (length α) s → n ≡ normOf w → (#ε ≺ n) ≡ true
     → f ≡ newtonRaphsonGenpowconeOf n p (primalPhi α p) α (psiOf α)
-    → gradientAt α p w n f ≡ gradientPrimalOf α s w
+    → gradientAt α p w n f ≡ gradientPrimalOf α s
 unfolding gradientPrimalOf
-gradient-as α s w p n f e g t h = simp (← e, ← g, t, h)
+gradient-as α s w p n f e d g t h = simp (← e, ← d, ← g, t, h)
 
 -- no more heads than exponents
 heads-fit : (c : tie.After-head) → length (c .head .result .now) ≤ 64
@@ -57,6 +57,16 @@ primal-phi-requires c κs = logs-held c
 abbrev phis : tie.After-norm → tie.After-primal-phi
 phis c = c .before .before
 
+-- exponents and tail together are as many as the point's places, or as the exponents
+tail-fits : (α s : List Float) {w : List Float} → length α ≤ 64 → length s ≤ 64 → w ≡ drop (length α) s → length α + length w ≤ 64
+tail-fits α s h k e = omega (arith, ap length e ∙ length-drop (length α) s)
+
+gradient-from-requires : tie.Need-gradient-from-requires
+gradient-from-requires c κs =
+    let norms = c .before .before .before in
+    let start = heads (phis norms .before) .before .before .before in
+    tail-fits (start .args .alpha .now) (start .args .s .now) (start .pre .0) (start .pre .1) (norms .before .tail .ensures)
+
 returns : tie.Need-returns
 returns c =
     let squares = c .before .before in
@@ -65,7 +75,7 @@ returns c =
     let logs = phis norms .before in
     let found = newton-as _ _ _ _ _ _ (logs-held logs) (phis norms .primal-phi .ensures) (squares .sumsq .ensures) in
     c .gradient-from .ensures
-    ∙ gradient-as _ _ _ _ _ _ (heads logs .head .ensures) (norms .norm .ensures ∙ ap normOf (norms .before .tail .ensures))
+    ∙ gradient-as _ _ _ _ _ _ (heads logs .head .ensures) (norms .before .tail .ensures) (norms .norm .ensures)
     (tested .if1 .taken)
     (c .before .newton-raphson-genpowcone .ensures ∙ found)
 
@@ -89,6 +99,8 @@ gradient-primal-spec =
     logarithms-requires
     (λ c. search needs) (λ c κs. search needs)
     primal-phi-requires
-    (λ c κs. search needs) (λ c κs. search needs) (λ c κs. search needs) (λ c κs. omega arith) (λ c κs. search needs) (λ c κs. omega arith)
+    (λ c κs. search needs) (λ c κs. search needs) (λ c κs. search needs) (λ c κs. omega arith)
+    gradient-from-requires
+    (λ c κs. omega arith)
     returns
     returns-2)

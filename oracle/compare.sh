@@ -36,5 +36,5 @@ if [ "${1:-}" = --standin ]; then
 else
     sh build.sh --archive || exit 2
 fi
-oracle/build.sh docs/src/src/solver/core/cones "$port" "$program" || exit 2
+oracle/repaired target/oracle/rust && oracle/build.sh target/oracle/rust "$port" "$program" || exit 2
 exec tools/x86 run "$program" "$@"

@@ -1,7 +1,7 @@
 #!/usr/bin/env python3
 """Tries the comparison itself: does it see a changed Rust, does it refuse a wrong port?
 
-    oracle/mutants.py            changes one operation at a time in copies of the Rust (mutants.txt) and asks whether the comparison's cases see it
+    oracle/mutants.py            changes one operation at a time in copies of the Rust, repaired (mutants.txt), and asks whether the comparison's cases see it
     oracle/mutants.py --ports    changes the second port, standin.c, into wrong ones (wrong-ports.txt) and asks whether the comparison refuses them
 
 A line of mutants.txt is a change: file | old | new; one of wrong-ports.txt is: what is wrong | old | new. A line end in old or new is written as a
@@ -21,7 +21,6 @@ import tempfile
 
 here = os.path.dirname(os.path.abspath(__file__))
 root = os.path.dirname(here)
-text = os.path.join(root, "docs/src/src/solver/core/cones")
 
 
 def stop(why):
@@ -40,7 +39,15 @@ def changes(file="mutants.txt"):
             yield name, written(old), written(new), wanted
 
 
-def build(port, program, **environment):
+def repaired(work):
+    """The Rust as the oracle includes it: the text that is changed, too."""
+    text = os.path.join(work, "text")
+    if subprocess.run([os.path.join(here, "repaired"), text]).returncode:
+        stop("the text could not be repaired")
+    return text
+
+
+def build(text, port, program, **environment):
     """The comparison of a port with the Rust, as a program."""
     command = [os.path.join(here, "build.sh"), text, os.path.join(here, port), program]
     built = subprocess.run(command, env=dict(os.environ, **environment), capture_output=True, text=True)
@@ -48,13 +55,13 @@ def build(port, program, **environment):
         stop("the comparison could not be built:\n" + built.stderr[-4000:])
 
 
-def wrong_ports(work, calls, only):
+def wrong_ports(text, work, calls, only):
     """The comparison must stop at each changed stand-in. Hands back how many it did not refuse."""
     listed = [change for change in changes("wrong-ports.txt") if only in change[0]]
     if not listed:
         stop(f"no wrong port has '{only}' in its name")
     program = os.path.join(work, "compare")
-    build("standin.c", program)
+    build(text, "standin.c", program)
     whole = open(os.path.join(here, "standin.c"), encoding="utf-8").read()
     parts = [os.path.join(program + ".parts", name) for name in ("oracle.c", "oracle.o")]
     x86, changed = os.path.join(root, "tools/x86"), os.path.join(work, "standin.c")
@@ -79,7 +86,7 @@ def written(words):
     return re.sub(r"([(,] ?)/([^/]*)/ ", r"\1|\2| ", words).replace("¶", "\n")
 
 
-def harness(work, only, part):
+def harness(text, work, only, part):
     """A copy of src/ in which mutants.rs has an oracle for each change; the changes' names, and those that have to be seen."""
     source = os.path.join(work, "src")
     shutil.copytree(os.path.join(here, "src"), source)
@@ -139,11 +146,12 @@ def main():
     if shutil.which("rustc") is None:
         stop("rustc is not on the PATH; install Rust first")
     with tempfile.TemporaryDirectory() as work:
+        text = repaired(work)
         if words.ports:
-            sys.exit(1 if wrong_ports(work, words.calls, words.only) else 0)
-        source, names, due = harness(work, words.only, words.part)
+            sys.exit(1 if wrong_ports(text, work, words.calls, words.only) else 0)
+        source, names, due = harness(text, work, words.only, words.part)
         program = os.path.join(work, "compare")
-        build("standin.c", program, SPINDLE_OPT="1", SPINDLE_HARNESS=source)
+        build(text, "standin.c", program, SPINDLE_OPT="1", SPINDLE_HARNESS=source)
         command = [os.path.join(root, "tools/x86"), "run", program, "--mutants", "0" if words.list else str(words.calls), "--seed", words.seed]
         ran = subprocess.run(command + (["--entry", words.entry] if words.entry else []), capture_output=True, text=True)
         print(ran.stdout, end="")

@@ -142,7 +142,7 @@ static double newton(const Equation *e, double x, uint32_t *rounds)
 }
 
 /* false where the Rust panics */
-static bool grad_primal(const Cone *c, const double *r_old, const double *s, double *g, uint32_t *rounds)
+static bool grad_primal(const Cone *c, const double *s, double *g, uint32_t *rounds)
 {
     *rounds = 0;
     if (c->kind == 1) {
@@ -167,7 +167,7 @@ static bool grad_primal(const Cone *c, const double *r_old, const double *s, dou
             Equation e = { c, nr, phi, psi, s };
             double x0 = -(1 / nr) + ((psi * nr) + R(((((phi / nr) / nr) + (psi * psi)) - 1) * phi)) / (phi - nr * nr);
             double g1 = newton(&e, x0, rounds);
-            for (uint32_t i = 0; i < c->dim2; i++) g[d + i] = (g1 / nr) * r_old[i];
+            for (uint32_t i = 0; i < c->dim2; i++) g[d + i] = (g1 / nr) * s[d + i];
             for (uint32_t i = 0; i < d; i++) g[i] = -((1 + c->exps[i]) + (c->exps[i] * g1) * nr) / s[i];
         } else {
             for (uint32_t i = 0; i < c->dim2; i++) g[d + i] = 0;
@@ -190,7 +190,7 @@ static double barrier_d(const Cone *c, const double *z)
     for (uint32_t i = 0; i < c->dim1; i++) b = b - L(z[i]) * (1 - c->exps[i]);
     return b;
 }
-static bool barrier_p(const Cone *c, const double *r_old, const double *s, double *out)
+static bool barrier_p(const Cone *c, const double *s, double *out)
 {
     double g[64]; uint32_t k;
     if (c->kind == 1) {
@@ -200,7 +200,7 @@ static bool barrier_p(const Cone *c, const double *r_old, const double *s, doubl
         *out = ((-L(v) - L(s[1]) * 2) - L(s[2])) - 3;
         return true;
     }
-    grad_primal(c, r_old, s, g, &k);
+    grad_primal(c, s, g, &k);
     if (c->kind == 2) {
         double a = c->exps[0], b = 1 - a, o = 0 + L(P(-g[0] / a, 2 * a) * P(-g[1] / b, 2 - a * 2) - g[2] * g[2]);
         o = o + b * L(-g[0]);
@@ -354,7 +354,7 @@ Updated spindle_update_scaling(Scaling k, const double *s, size_t ns, const doub
         if (strategy == 1) for (int i = 0; i < 6; i++) Hs[i] = mu * H[i];
         else {
             double zt[3], ds[3], dz[3], hz[3], t[3], W[6], axis[3]; uint32_t rounds;
-            if (!grad_primal(c, 0, s, zt, &rounds)) { u.code = 6; return u; }
+            if (!grad_primal(c, s, zt, &rounds)) { u.code = 6; return u; }
             double d = dot(s, z, 3), m = d / 3, mt = dot(st, zt, 3) / 3;
             for (int i = 0; i < 3; i++) { ds[i] = s[i] + m * st[i]; dz[i] = z[i] + m * zt[i]; }
             block_mul(H, zt, hz);
@@ -379,9 +379,9 @@ Updated spindle_update_scaling(Scaling k, const double *s, size_t ns, const doub
 Rounds spindle_gradient_primal(Scaling k, double *g, size_t ng, const double *s, size_t ns)
 {
     const Cone *c = &k.cone; double out[64];
-    Rounds r = { bad_cone(c) ? 1 : ng != len(c) || ns != len(c) ? 2 : !fins(s, ns) || bad_record(&k) ? 3 : c->kind == 3 && !k.scaled ? 5 : 0, 0 };
+    Rounds r = { bad_cone(c) ? 1 : ng != len(c) || ns != len(c) ? 2 : !fins(s, ns) || bad_record(&k) ? 3 : 0, 0 };
     if (r.code) return r;
-    if (!grad_primal(c, k.wide.r, s, out, &r.rounds)) r.code = 6; else if (!fins(out, ns)) r.code = 7;
+    if (!grad_primal(c, s, out, &r.rounds)) r.code = 6; else if (!fins(out, ns)) r.code = 7;
     if (r.code) { r.rounds = 0; return r; }
     for (size_t i = 0; i < ns; i++) g[i] = out[i];
     return r;
@@ -389,9 +389,9 @@ Rounds spindle_gradient_primal(Scaling k, double *g, size_t ng, const double *s,
 Number spindle_barrier_primal(Scaling k, const double *s, size_t ns)
 {
     const Cone *c = &k.cone;
-    Number r = { bad_cone(c) ? 1 : ns != len(c) ? 2 : !fins(s, ns) || bad_record(&k) ? 3 : c->kind == 3 && !k.scaled ? 5 : 0, 0 };
+    Number r = { bad_cone(c) ? 1 : ns != len(c) ? 2 : !fins(s, ns) || bad_record(&k) ? 3 : 0, 0 };
     if (r.code) return r;
-    if (!barrier_p(c, k.wide.r, s, &r.value)) r.code = 6; else if (!fin(r.value)) r.code = 7;
+    if (!barrier_p(c, s, &r.value)) r.code = 6; else if (!fin(r.value)) r.code = 7;
     if (r.code) r.value = 0;
     return r;
 }
@@ -399,11 +399,10 @@ Number spindle_compute_barrier(Scaling k, const double *z, size_t nz, const doub
 {
     const Cone *c = &k.cone; double cz[64], cs[64], p;
     size_t n = bad_cone(c) ? 0 : len(c);
-    Number r = { bad_cone(c) ? 1 : nz != n || ns != n || ndz != n || nds != n ? 2 : !fins(z, n) || !fins(s, n) || !fins(dz, n) || !fins(ds, n) || !fin(alpha) || bad_record(&k) ? 3
-        : c->kind == 3 && !k.scaled ? 5 : 0, 0 };
+    Number r = { bad_cone(c) ? 1 : nz != n || ns != n || ndz != n || nds != n ? 2 : !fins(z, n) || !fins(s, n) || !fins(dz, n) || !fins(ds, n) || !fin(alpha) || bad_record(&k) ? 3 : 0, 0 };
     if (r.code) return r;
     for (size_t i = 0; i < n; i++) { cz[i] = z[i] + alpha * dz[i]; cs[i] = s[i] + alpha * ds[i]; }
-    if (!barrier_p(c, k.wide.r, cs, &p)) r.code = 6;
+    if (!barrier_p(c, cs, &p)) r.code = 6;
     else { r.value = c->kind == 3 ? (0 + p) + barrier_d(c, cz) : (0 + barrier_d(c, cz)) + p; if (!fin(r.value)) r.code = 7; }
     if (r.code) r.value = 0;
     return r;

@@ -1,5 +1,5 @@
-// The Rust of documents 000 to 003, text unchanged, and what is seen of it from outside: Newton's rounds, the tests of a
-// search and the points tested. `SPINDLE_RUST` names the folder of the four files.
+// The Rust of documents 000 to 003, text unchanged but for what document 02 repairs (`oracle/repaired`), and what is seen of it from outside: Newton's
+// rounds, the tests of a search and the points tested. `SPINDLE_RUST` names the folder of the four files.
 
 #![allow(non_snake_case, dead_code, unused_imports)]
 

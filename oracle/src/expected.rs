@@ -122,11 +122,7 @@ pub fn judged(call: &Call) -> u32 {
     if call.entry == UPDATE_SCALING && call.option != 1 && call.option != 2 {
         return 4;
     }
-    let asks_scaled = match call.entry {
-        GET_HS | MUL_HS | HIGHER_CORRECTION | COMBINED_DS_SHIFT => true,
-        GRADIENT_PRIMAL | BARRIER_PRIMAL | COMPUTE_BARRIER => cone.kind == 3,
-        _ => false,
-    };
+    let asks_scaled = matches!(call.entry, GET_HS | MUL_HS | HIGHER_CORRECTION | COMBINED_DS_SHIFT);
     if asks_scaled && !call.record.scaled {
         return 5;
     }

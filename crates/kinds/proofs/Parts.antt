@@ -6,11 +6,6 @@ use native.Mathlib.Omega.{arith}
 use lib.Ieee.{Float}
 use lib.ListN.{length, take, length-take}
 
--- two parts of at most 32 places each
-pub parts-fit : (n m : ℕ) (exps w : List Float) {α t : List Float} → n ≤ 32 → m ≤ 32 → α ≡ take n exps → t ≡ take m w
-    → length α + length t ≤ 64
-parts-fit n m exps w hn hm e f = omega (arith, ap length e ∙ length-take n exps, ap length f ∙ length-take m w)
-
 -- a part of at most 32 places beside a count
 pub part-fits : (n m : ℕ) (d : List Float) {t : List Float} → n ≤ 32 → m ≤ 32 → t ≡ take n d → length t + m ≤ 64
 part-fits n m d hn hm e = omega (arith, ap length e ∙ length-take n d)

@@ -13,17 +13,17 @@ use Rattle.genpowcone.specs.declared.Gradient.{Gradient}
 unfoldable pub unitInitializationOf : List Float → ℕ → List Float
 unitInitializationOf exps dim1 = genPrimal.unitInitializationOf (take dim1 exps)
 
--- 002 gradient_primal, by the tail that the record keeps in w
-unfoldable pub gradientPrimalOf : List Float → ℕ → List Float → List Float → ℕ → Gradient
-gradientPrimalOf exps dim1 s w dim2 = genPrimal.gradientPrimalOf (take dim1 exps) s (take dim2 w)
+-- 002 gradient_primal
+unfoldable pub gradientPrimalOf : List Float → ℕ → List Float → Gradient
+gradientPrimalOf exps dim1 s = genPrimal.gradientPrimalOf (take dim1 exps) s
 
 -- 002 barrier_primal
-unfoldable pub barrierPrimalOf : List Float → ℕ → List Float → List Float → ℕ → Float
-barrierPrimalOf exps dim1 s w dim2 = genBarriers.barrierPrimalOf (take dim1 exps) s (take dim2 w)
+unfoldable pub barrierPrimalOf : List Float → ℕ → List Float → Float
+barrierPrimalOf exps dim1 s = genBarriers.barrierPrimalOf (take dim1 exps) s
 
 -- 002 compute_barrier; the step is the Rust's α
-unfoldable pub computeBarrierOf : List Float → ℕ → List Float → List Float → List Float → List Float → Float → List Float → ℕ → Float
-computeBarrierOf exps dim1 z s dz ds step w dim2 = genBarriers.computeBarrierOf (take dim1 exps) z s dz ds step (take dim2 w)
+unfoldable pub computeBarrierOf : List Float → ℕ → List Float → List Float → List Float → List Float → Float → Float
+computeBarrierOf exps dim1 z s dz ds step = genBarriers.computeBarrierOf (take dim1 exps) z s dz ds step
 
 -- 002 get_Hs
 unfoldable pub getHsOf : Float → List Float → ℕ → Float → ℕ → List Float

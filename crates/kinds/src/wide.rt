@@ -12,50 +12,34 @@ pub fn unit_initialization(exps: &[f64; 32], dim1: usize) -> [f64; 64]
     genpowcone::unit_initialization(head(exps, dim1))
 }
 
-// The tail of the gradient follows w, the record's r.
-pub fn gradient_primal<'a>(
-    exps: &'a [f64; 32],
-    dim1: usize,
-    s: &[f64],
-    w: &'a [f64; 32],
-    dim2: usize,
-) -> genpowcone::Gradient
-    requires { ⌜ (dim1 ≤ 32) × (dim2 ≤ 32) ⌝ }
-    ensures { λ r. ⌜ r ≡ gradientPrimalOf (now (exps .entry)) dim1 (now (s .entry)) (now (w .entry)) dim2 ⌝ }
+pub fn gradient_primal(exps: &[f64; 32], dim1: usize, s: &[f64]) -> genpowcone::Gradient
+    requires { ⌜ length (now s) ≤ 64 ⌝ }
+    ensures { λ r. ⌜ r ≡ gradientPrimalOf (now (exps .entry)) dim1 (now (s .entry)) ⌝ }
 {
-    genpowcone::gradient_primal(head(exps, dim1), s, head(w, dim2))
+    genpowcone::gradient_primal(head(exps, dim1), s)
 }
 
-pub fn barrier_primal<'a>(
-    exps: &'a [f64; 32],
-    dim1: usize,
-    s: &[f64],
-    w: &'a [f64; 32],
-    dim2: usize,
-) -> f64
-    requires { ⌜ (dim1 ≤ 32) × (dim2 ≤ 32) ⌝ }
-    ensures { λ r. ⌜ r ≡ barrierPrimalOf (now (exps .entry)) dim1 (now (s .entry)) (now (w .entry)) dim2 ⌝ }
+pub fn barrier_primal(exps: &[f64; 32], dim1: usize, s: &[f64]) -> f64
+    requires { ⌜ length (now s) ≤ 64 ⌝ }
+    ensures { λ r. ⌜ r ≡ barrierPrimalOf (now (exps .entry)) dim1 (now (s .entry)) ⌝ }
 {
-    genpowcone::barrier_primal(head(exps, dim1), s, head(w, dim2))
+    genpowcone::barrier_primal(head(exps, dim1), s)
 }
 
-pub fn compute_barrier<'a>(
-    exps: &'a [f64; 32],
+pub fn compute_barrier(
+    exps: &[f64; 32],
     dim1: usize,
     z: &[f64],
     s: &[f64],
     dz: &[f64],
     ds: &[f64],
     step: f64,
-    w: &'a [f64; 32],
-    dim2: usize,
 ) -> f64
-    requires { ⌜ (dim1 ≤ 32) × (dim2 ≤ 32) × (length (now s) ≤ 64) × (length (now z) ≤ 64) ⌝ }
+    requires { ⌜ (length (now s) ≤ 64) × (length (now z) ≤ 64) ⌝ }
     ensures { λ r. ⌜ r
-        ≡ computeBarrierOf (now (exps .entry)) dim1 (now (z .entry)) (now (s .entry)) (now (dz .entry)) (now (ds .entry)) step
-        (now (w .entry)) dim2 ⌝ }
+        ≡ computeBarrierOf (now (exps .entry)) dim1 (now (z .entry)) (now (s .entry)) (now (dz .entry)) (now (ds .entry)) step ⌝ }
 {
-    genpowcone::compute_barrier(head(exps, dim1), z, s, dz, ds, step, head(w, dim2))
+    genpowcone::compute_barrier(head(exps, dim1), z, s, dz, ds, step)
 }
 
 pub fn get_hs(mu: f64, d1: &[f64; 32], dim1: usize, d2: f64, dim2: usize) -> [f64; 64]

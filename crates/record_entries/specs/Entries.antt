@@ -21,13 +21,13 @@ use Rattle.kinds.specs.Wide as wide
 use Rattle.record_three.specs.Entries.{published, judged}
 use Rattle.record_entries.specs.Rows.{gradientRows, barrierRows, computeRows, blockRows, productRows, correctionRows}
 
--- ---- the primal side
+-- ---- the primal side: of the record, the cone alone (ByCone)
 
 -- 000, 001, 002 gradient_primal
 unfoldable pub gradientPrimalOf : Scaling → List Float → List Float → Lent Rounds
 gradientPrimalOf r g s =
     let c = r .cone in
-    let w = wide.gradientPrimalOf (c .exps) (c .dim1) s (r .wide .r) (c .dim2) in
+    let w = wide.gradientPrimalOf (c .exps) (c .dim1) s in
     let t = three.gradientPrimalOf (c .kind) (alphaOf c) (threeOf s) in
     settle (gradientRows r (length g) s)
     (cond (eqb (c .kind) 3) (withRounds (w .rounds) (publishOf g (take (length g) (w .g)))) (published g t))
@@ -38,7 +38,7 @@ unfoldable pub primalBarrierOf : Scaling → List Float → Valued
 primalBarrierOf r s =
     let c = r .cone in
     cond (eqb (c .kind) 3)
-    (three.safe (wide.barrierPrimalOf (c .exps) (c .dim1) s (r .wide .r) (c .dim2)))
+    (three.safe (wide.barrierPrimalOf (c .exps) (c .dim1) s))
     (three.barrierPrimalOf (c .kind) (alphaOf c) (threeOf s))
 
 unfoldable pub barrierPrimalOf : Scaling → List Float → Number
@@ -49,7 +49,7 @@ unfoldable pub combinedBarrierOf : Scaling → List Float → List Float → Lis
 combinedBarrierOf r z s dz ds step =
     let c = r .cone in
     cond (eqb (c .kind) 3)
-    (three.safe (wide.computeBarrierOf (c .exps) (c .dim1) z s dz ds step (r .wide .r) (c .dim2)))
+    (three.safe (wide.computeBarrierOf (c .exps) (c .dim1) z s dz ds step))
     (three.computeBarrierOf (c .kind) (alphaOf c) (threeOf z) (threeOf s) (threeOf dz) (threeOf ds) step)
 
 unfoldable pub computeBarrierOf : Scaling → List Float → List Float → List Float → List Float → Float → Number

@@ -12,9 +12,7 @@ use Rattle.cone.specs.Refusals.{firstRow, badCone, badCone3D, otherLength, neve
 
 -- A slice that is only written is given by its length.
 
--- 5, "and the generalized cone's primal gradient, primal barrier and combined barrier (`compute_barrier`)": of kind 3 alone
-abbrev pub unscaledWide : Scaling → Bool
-unscaledWide r = eqb (r .cone .kind) 3 && neverScaled r
+-- 02, Order 4: "5 is no longer given for these two or the combined barrier". The first three rows here ask for no scaling
 
 -- gradient_primal
 unfoldable pub gradientRows : Scaling → ℕ → List Float → ℕ
@@ -25,7 +23,7 @@ gradientRows r g s =
       length = not (eqb g n) || otherLength n s;
       number = not (allFinite s && recordFinite r);
       setting = false;
-      unscaled = unscaledWide r;
+      unscaled = false;
     })
 
 -- barrier_primal
@@ -36,7 +34,7 @@ barrierRows r s =
       length = otherLength (numelOf (r .cone)) s;
       number = not (allFinite s && recordFinite r);
       setting = false;
-      unscaled = unscaledWide r;
+      unscaled = false;
     })
 
 -- compute_barrier; the step, the Rust's α, may be any finite number
@@ -48,7 +46,7 @@ computeRows r z s dz ds step =
       length = otherLength n z || otherLength n s || otherLength n dz || otherLength n ds;
       number = not (sidesFinite dz ds z s && finite step && recordFinite r);
       setting = false;
-      unscaled = unscaledWide r;
+      unscaled = false;
     })
 
 -- get_Hs

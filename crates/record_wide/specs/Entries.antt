@@ -19,35 +19,35 @@ use Rattle.kinds.specs.Wide as wide
 abbrev pub dims : Scaling → ℕ
 dims r = r .cone .dim1 + r .cone .dim2
 
--- The table, by what is wrong with the call's lengths, whether its record was ever scaled, and whether its own numbers are finite.
+-- The table, by what is wrong with the call's lengths and its record, and whether its own numbers are finite.
 unfoldable pub rowsIn : ℕ → ℕ → List Float → Wide → Bool → Bool → Bool → ℕ
-rowsIn dim1 dim2 exps w lengths scaled finite =
+rowsIn dim1 dim2 exps w lengths unscaled finite =
     firstRow (record {
       cone = not (wideOk dim1 dim2 exps);
       length = lengths;
       number = not (finite && wideFinite w dim1 dim2);
       setting = false;
-      unscaled = not scaled;
+      unscaled = unscaled;
     })
 
-abbrev pub rowsOf : Scaling → Bool → Bool → ℕ
-rowsOf r lengths finite = rowsIn (r .cone .dim1) (r .cone .dim2) (r .cone .exps) (r .wide) lengths (r .scaled) finite
+abbrev pub rowsOf : Scaling → Bool → Bool → Bool → ℕ
+rowsOf r lengths unscaled finite = rowsIn (r .cone .dim1) (r .cone .dim2) (r .cone .exps) (r .wide) lengths unscaled finite
 
--- ---- the primal side
+-- ---- the primal side: of the record, the cone alone (02, Order 4)
 
 -- 002 gradient_primal
 unfoldable pub gradientPrimalOf : Scaling → List Float → List Float → Lent Rounds
 gradientPrimalOf r g s =
-    let a = wide.gradientPrimalOf (r .cone .exps) (r .cone .dim1) s (r .wide .r) (r .cone .dim2) in
-    settle (rowsOf r (otherLength (dims r) g || otherLength (dims r) s) (allFinite s))
+    let a = wide.gradientPrimalOf (r .cone .exps) (r .cone .dim1) s in
+    settle (rowsOf r (otherLength (dims r) g || otherLength (dims r) s) false (allFinite s))
     (withRounds (a .rounds) (publishOf g (take (length g) (a .g))))
     (refuseRounds g)
 
 -- 002 barrier_primal
 unfoldable pub barrierPrimalOf : Scaling → List Float → Number
 barrierPrimalOf r s =
-    settle (rowsOf r (otherLength (dims r) s) (allFinite s))
-    (numberOf (wide.barrierPrimalOf (r .cone .exps) (r .cone .dim1) s (r .wide .r) (r .cone .dim2)))
+    settle (rowsOf r (otherLength (dims r) s) false (allFinite s))
+    (numberOf (wide.barrierPrimalOf (r .cone .exps) (r .cone .dim1) s))
     refuseNumber
 
 -- 002 compute_barrier; the step is the Rust's α
@@ -55,8 +55,8 @@ unfoldable pub computeBarrierOf : Scaling → List Float → List Float → List
 computeBarrierOf r z s dz ds step =
     let n = dims r in
     let lengths = otherLength n z || otherLength n s || otherLength n dz || otherLength n ds in
-    settle (rowsOf r lengths (sidesFinite dz ds z s && finite step))
-    (numberOf (wide.computeBarrierOf (r .cone .exps) (r .cone .dim1) z s dz ds step (r .wide .r) (r .cone .dim2)))
+    settle (rowsOf r lengths false (sidesFinite dz ds z s && finite step))
+    (numberOf (wide.computeBarrierOf (r .cone .exps) (r .cone .dim1) z s dz ds step))
     refuseNumber
 
 -- ---- the scaling matrix
@@ -65,13 +65,13 @@ computeBarrierOf r z s dz ds step =
 unfoldable pub getHsOf : Scaling → List Float → Lent ℕ
 getHsOf r block =
     let diagonal = wide.getHsOf (r .wide .mu) (r .wide .d1) (r .cone .dim1) (r .wide .d2) (r .cone .dim2) in
-    settle (rowsOf r (otherLength (dims r) block) true)
+    settle (rowsOf r (otherLength (dims r) block) (not (r .scaled)) true)
     (publishOf block (take (length block) diagonal))
     (refuse block)
 
 -- 002 mul_Hs
 unfoldable pub mulHsOf : Scaling → List Float → List Float → Lent ℕ
 mulHsOf r y x =
-    settle (rowsOf r (otherLength (dims r) y || otherLength (dims r) x) (allFinite x))
+    settle (rowsOf r (otherLength (dims r) y || otherLength (dims r) x) (not (r .scaled)) (allFinite x))
     (publishOf y (take (length y) (genRank3.mulHsOf (r .wide) (r .cone .dim1) x)))
     (refuse y)

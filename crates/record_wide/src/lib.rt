@@ -21,7 +21,7 @@ use cone::refusal::publish;
 use double::is_finite;
 use kinds::wide;
 
-// The table, by what is wrong with the call's lengths, whether its record was ever scaled, and whether its own numbers are finite.
+// The table, by what is wrong with the call's lengths and its record, and whether its own numbers are finite.
 fn rows<'a>(
     dim1: u32,
     dim2: u32,
@@ -35,7 +35,7 @@ fn rows<'a>(
     d1: &'a [f64; 32],
     d2: f64,
     lengths: bool,
-    scaled: bool,
+    unscaled: bool,
     finite: bool,
 ) -> u32
     ensures { λ code. ⌜ code ≡ rowsIn dim1 dim2 (now (exps .entry)) (record {
@@ -47,14 +47,14 @@ fn rows<'a>(
       r = now (r .entry);
       d1 = now (d1 .entry);
       d2 = d2;
-    }) lengths scaled finite ⌝ }
+    }) lengths unscaled finite ⌝ }
 {
     first_row(Faults {
         cone: !wide_ok(dim1, dim2, exps),
         length: lengths,
         number: !(finite & wide_finite(z, mu, grad, p, q, r, d1, d2, dim1, dim2)),
         setting: false,
-        unscaled: !scaled,
+        unscaled,
     })
 }
 
@@ -68,7 +68,7 @@ fn publish_wide(out: &mut [f64], ans: &[f64; 64]) -> u32
     publish(out, head(ans, n))
 }
 
-// ---- the primal side
+// ---- the primal side: of the record, the cone alone
 
 pub fn gradient_primal(scaling: Scaling, g: &mut [f64], s: &[f64]) -> Rounds
     ensures { λ r. ⌜ record { answer = r; slice = now (g .exit) } ≡ gradientPrimalOf scaling (now (g .entry)) (now (s .entry)) ⌝ }
@@ -90,13 +90,13 @@ pub fn gradient_primal(scaling: Scaling, g: &mut [f64], s: &[f64]) -> Rounds
         &scaling.wide.d1,
         scaling.wide.d2,
         lengths,
-        scaling.scaled,
+        false,
         finite,
     );
     if code != 0 {
         return Rounds { code, rounds: 0 };
     }
-    let a = wide::gradient_primal(&scaling.cone.exps, dim1, s, &scaling.wide.r, dim2);
+    let a = wide::gradient_primal(&scaling.cone.exps, dim1, s);
     let published = publish_wide(g, &a.g);
     counted(published, a.rounds)
 }
@@ -121,13 +121,13 @@ pub fn barrier_primal(scaling: Scaling, s: &[f64]) -> Number
         &scaling.wide.d1,
         scaling.wide.d2,
         lengths,
-        scaling.scaled,
+        false,
         finite,
     );
     if code != 0 {
         return Number { code, value: 0.0 };
     }
-    finished(wide::barrier_primal(&scaling.cone.exps, dim1, s, &scaling.wide.r, dim2))
+    finished(wide::barrier_primal(&scaling.cone.exps, dim1, s))
 }
 
 // step is the Rust's α; it may be any finite number.
@@ -159,23 +159,13 @@ pub fn compute_barrier(
         &scaling.wide.d1,
         scaling.wide.d2,
         lengths,
-        scaling.scaled,
+        false,
         finite,
     );
     if code != 0 {
         return Number { code, value: 0.0 };
     }
-    finished(wide::compute_barrier(
-        &scaling.cone.exps,
-        dim1,
-        z,
-        s,
-        dz,
-        ds,
-        step,
-        &scaling.wide.r,
-        dim2,
-    ))
+    finished(wide::compute_barrier(&scaling.cone.exps, dim1, z, s, dz, ds, step))
 }
 
 // ---- the scaling matrix
@@ -199,7 +189,7 @@ pub fn get_hs(scaling: Scaling, block: &mut [f64]) -> u32
         &scaling.wide.d1,
         scaling.wide.d2,
         lengths,
-        scaling.scaled,
+        !scaling.scaled,
         true,
     );
     if code != 0 {
@@ -235,7 +225,7 @@ pub fn mul_hs(scaling: Scaling, y: &mut [f64], x: &[f64]) -> u32
         &scaling.wide.d1,
         scaling.wide.d2,
         lengths,
-        scaling.scaled,
+        !scaling.scaled,
         finite,
     );
     if code != 0 {

@@ -1,9 +1,12 @@
 -- A call that its rows refuse leaves with their number, one that they let through with the finished barrier. Assumes nothing.
 use mathlib.Core.Path.{_∙_, ap}
+use native.Mathlib.Omega.{arith}
+use lib.ListN.{length}
 use Rattle.cone.specs.Refusals.{numberOf}
 use Rattle.cone.proofs.Settled.{refused, through}
-use Rattle.record_wide.specs.Entries.{rowsIn, barrierPrimalOf}
-use Rattle.record_wide.proofs.Judging.{small-dims}
+use Rattle.cone.proofs.Lengths.{same-1}
+use Rattle.record_wide.specs.Entries.{dims, rowsIn, barrierPrimalOf}
+use Rattle.record_wide.proofs.Judging.{lengths-right, small-dims}
 use borrow.Author.Needs.{needs}
 use Rattle.record_wide.proofs.barrier_primal.Statement.{statement}
 use Rattle.record_wide.proofs.barrier_primal.Tie as tie
@@ -16,20 +19,27 @@ lending c = c .before .before .before .before .before
 abbrev numbers : tie.After-rows → tie.After-all-finite
 numbers c = lending c .before .before .before .before
 
+abbrev start : tie.After-rows → tie.Start
+start c = numbers c .before .before
+
 returns : tie.Need-returns
 unfolding barrierPrimalOf
 returns c = refused _ _ _ _ (c .before .rows .ensures ∙ ap (rowsIn _ _ _ _ _ _) (numbers (c .before) .all-finite .ensures)) (c .if1 .taken)
 
 barrier-primal-requires : tie.Need-barrier-primal-requires
 barrier-primal-requires c κs =
-    let past = c .before .before .before in
-    small-dims _ _ _ _ _ _ _ (past .before .rows .ensures) (past .if1 .left)
+    let past = c .before .before in
+    let judged = past .before in
+    let a = start judged .args in
+    let small = small-dims _ _ _ _ _ _ _ (judged .rows .ensures) (past .if1 .left) in
+    let right = lengths-right _ _ _ _ _ _ _ (judged .rows .ensures) (past .if1 .left) in
+    omega (arith, same-1 (dims (a .t1)) (length (a .s .now)) right, small .0, small .1)
 
 returns-2 : tie.Need-returns-2
 unfolding barrierPrimalOf
 returns-2 c =
     let computed = c .before in
-    let past = computed .before .before .before .before in
+    let past = computed .before .before .before in
     let judged = past .before in
     through _ _ _ _ (judged .rows .ensures ∙ ap (rowsIn _ _ _ _ _ _) (numbers judged .all-finite .ensures)) (past .if1 .left)
     (c .finished .ensures ∙ ap numberOf (computed .barrier-primal .ensures))

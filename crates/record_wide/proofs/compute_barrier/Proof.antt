@@ -28,20 +28,20 @@ returns c =
 
 compute-barrier-requires : tie.Need-compute-barrier-requires
 compute-barrier-requires c κs =
-    let past = c .before .before .before in
+    let past = c .before .before in
     let judged = past .before in
     let slices-known = numbers judged .before .before in
     let a = slices-known .before .before .before .before .args in
     let small = small-dims _ _ _ _ _ _ _ (judged .rows .ensures) (past .if1 .left) in
     let right = lengths-right _ _ _ _ _ _ _ (judged .rows .ensures) (past .if1 .left) in
     let same = same-4 (dims (a .t1)) (length (a .z .now)) (length (a .s .now)) (length (a .dz .now)) (length (a .ds .now)) right in
-    (small .0, small .1, omega (arith, same .1, small .0, small .1), omega (arith, same .0, small .0, small .1))
+    (omega (arith, same .1, small .0, small .1), omega (arith, same .0, small .0, small .1))
 
 returns-2 : tie.Need-returns-2
 unfolding computeBarrierOf
 returns-2 c =
     let computed = c .before in
-    let past = computed .before .before .before .before in
+    let past = computed .before .before .before in
     let n = numbers (past .before) in
     let finite = both (n .before .sides-finite .ensures) (n .is-finite .ensures) in
     through _ _ _ _ (past .before .rows .ensures ∙ ap (rowsIn _ _ _ _ _ _) finite) (past .if1 .left)

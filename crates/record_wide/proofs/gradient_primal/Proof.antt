@@ -23,30 +23,33 @@ numbers c = lending c .before .before .before .before
 abbrev start : tie.After-rows → tie.Start
 start c = numbers c .before .before .before
 
-small : (c : tie.Else1) → (let r = start (c .before) .args .t1 in (r .cone .dim1 ≤ 32) × (r .cone .dim2 ≤ 32))
-small c = small-dims _ _ _ _ _ _ _ (c .before .rows .ensures) (c .if1 .left)
+-- both slices have as many places as the point, at most 64
+both-fit : (c : tie.Else1) → (let a = start (c .before) .args in (length (a .g .now) ≤ 64) × (length (a .s .now) ≤ 64))
+both-fit c =
+    let a = start (c .before) .args in
+    let small = small-dims _ _ _ _ _ _ _ (c .before .rows .ensures) (c .if1 .left) in
+    let right = lengths-right _ _ _ _ _ _ _ (c .before .rows .ensures) (c .if1 .left) in
+    let same = same-2 (dims (a .t1)) (length (a .g .now)) (length (a .s .now)) right in
+    (omega (arith, same .0, small .0, small .1), omega (arith, same .1, small .0, small .1))
 
 returns : tie.Need-returns
 unfolding gradientPrimalOf
 returns c = refused _ _ _ _ (c .before .rows .ensures ∙ ap (rowsIn _ _ _ _ _ _) (numbers (c .before) .all-finite .ensures)) (c .if1 .taken)
 
 gradient-primal-requires : tie.Need-gradient-primal-requires
-gradient-primal-requires c κs = small (c .before .before .before)
+gradient-primal-requires c κs = both-fit (c .before .before) .1
 
 publish-wide-requires : tie.Need-publish-wide-requires
 publish-wide-requires c κs =
     let computed = c .before .before .before in
-    let past = computed .before .before .before .before in
-    let a = start (past .before) .args in
-    let right = lengths-right _ _ _ _ _ _ _ (past .before .rows .ensures) (past .if1 .left) in
-    omega (arith, same-2 (dims (a .t1)) (length (a .g .now)) (length (a .s .now)) right .0, small past .0, small past .1)
+    both-fit (computed .before .before .before) .0
 
 returns-2 : tie.Need-returns-2
 unfolding gradientPrimalOf
 returns-2 c =
     let published = c .before .before .before in
     let computed = published .before .before .before .before in
-    let past = computed .before .before .before .before in
+    let past = computed .before .before .before in
     let judged = past .before in
     let old = start judged .args .g .now in
     let a = computed .gradient-primal .result in

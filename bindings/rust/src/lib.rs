@@ -403,7 +403,8 @@ impl Scaling {
         Ok(())
     }
 
-    /// Writes the primal gradient at s and hands back Newton's rounds (0 where Newton was not entered).
+    /// Writes the primal gradient at s and hands back Newton's rounds (0 where Newton was not entered). Of the record, this and the two barriers use
+    /// the cone alone: it need not have been scaled.
     pub fn gradient_primal(&self, g: &mut [f64], s: &[f64]) -> Result<u32, Refusal> {
         let out = unsafe { face::spindle_gradient_primal(*self, g.as_mut_ptr(), g.len(), s.as_ptr(), s.len()) };
         Refusal::check(out.code)?;

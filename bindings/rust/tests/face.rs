@@ -137,6 +137,32 @@ fn a_record_is_scaled_and_used() {
 }
 
 #[test]
+fn the_primal_side_uses_the_cone_alone() {
+    for cone in [exponential(), power(), generalized()] {
+        let n = cone.numel();
+        let (mut z, mut s) = (vec![0.0; n], vec![0.0; n]);
+        cone.unit_initialization(&mut z, &mut s).unwrap();
+        s[n - 1] += 0.125;
+        let (fresh, record) = (cone.scaling(), scaled(cone));
+        let (mut g, mut h) = (vec![0.0; n], vec![0.0; n]);
+        assert_eq!(fresh.gradient_primal(&mut g, &s), record.gradient_primal(&mut h, &s));
+        assert_eq!(g, h);
+        assert!(g.iter().any(|x| *x != 0.0));
+        assert_eq!(fresh.barrier_primal(&s), record.barrier_primal(&s));
+        assert_eq!(fresh.compute_barrier(&z, &s, &z, &s, 0.25), record.compute_barrier(&z, &s, &z, &s, 0.25));
+    }
+
+    // docs/DIFFERENCES.md, F3
+    let cone = Cone::generalized(&[0.5, 0.5], 2).unwrap();
+    let (s, z) = ([1.0, 1.0, 0.5, 0.0], [1.0, 1.0, 0.0, 0.5]);
+    let mut record = cone.scaling();
+    record.update(&s, &z, 1.0, Strategy::Dual).unwrap();
+    let mut g = [0.0; 4];
+    assert_eq!(record.gradient_primal(&mut g, &s), Ok(1));
+    assert_eq!(g, [-2.2152504370215302, -2.2152504370215302, 2.861001748086121, 0.0]);
+}
+
+#[test]
 fn a_refused_update_keeps_the_record() {
     for cone in [exponential(), power(), generalized()] {
         let n = cone.numel();
@@ -200,5 +226,10 @@ fn refusals_speak() {
     assert_eq!(Refusal::BadLength.number(), 2);
     assert_eq!(Refusal::NotFinite.to_string(), "refused with 3: an input number is NaN or infinite");
     assert_eq!(Refusal::Unknown(12).to_string(), "refused with 12: a number that this crate does not know");
-    assert_eq!(spindle::VERSION, "0.4.0");
+}
+
+#[test]
+fn version_is_the_headers() {
+    let header = include_str!("../../../include/spindle.h");
+    assert!(header.contains(&format!("#define SPINDLE_VERSION \"{}\"\n", spindle::VERSION)));
 }

@@ -16,7 +16,8 @@ use borrow.Fn.Kinds.{Dens, resT, endedOf}
 use Rattle.cone.specs.declared.Number.{Number}
 use Rattle.cone.specs.declared.Rounds.{Rounds}
 use Rattle.cone.specs.Judges.{allFinite}
-use Rattle.cone.specs.Refusals.{Lent, firstRow, settle, publishOf, numberOf, judgedOf, countedOf, withRounds, refuse, refuseNumber, refuseRounds}
+use Rattle.cone.specs.Refusals.{Lent, firstRow, settle, publishOf, numberOf, judgedOf, countedOf, withRounds}
+use Rattle.cone.specs.Refusals.{refuse, refuseNumber, refuseRounds}
 use Rattle.cone.proofs.Outcomes.{one}
 use Rattle.cone.specs.Points.{threeOf}
 use Rattle.kinds.specs.declared.three.Gradient.{Gradient}

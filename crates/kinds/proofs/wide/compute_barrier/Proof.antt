@@ -9,8 +9,11 @@ use Rattle.kinds.proofs.wide.compute_barrier.Tie as tie
 compute-barrier-requires : tie.Need-compute-barrier-requires
 compute-barrier-requires c κs =
     let slices-known = c .before .before in
-    let start = slices-known .before .before .before .before in
-    (omega (arith, used-at-most (start .args .dim1) (start .args .exps .now) (search needs) (c .head .ensures)), start .pre .0, start .pre .1)
+    let start = slices-known .before .before .before .before in (
+      omega (arith, used-at-most (start .args .dim1) (start .args .exps .now) (search needs) (c .head .ensures)),
+      start .pre .0,
+      start .pre .1,
+    )
 
 returns : tie.Need-returns
 unfolding computeBarrierOf

@@ -4,7 +4,7 @@
 // Dual exponential cone: z3 ≥ -z1*e^(z2/z1 - 1), z3 > 0, z1 < 0
 
 ghost use mathlib.Core.Path.{_≡_};
-ghost use Rattle.expcone.specs.Feasible.{primalResidue, dualResidue, primalFeasible, dualFeasible};
+ghost use Rattle.expcone.specs.Feasible.{primalResidue, dualResidue, primalMarginAt, dualMarginAt, primalFeasible, dualFeasible};
 ghost use Rattle.expcone.specs.Barriers.{barrierPrimalOf, barrierDualOf, computeBarrierOf};
 ghost use Rattle.expcone.specs.Correction.{correctionOf, higherCorrectionOf, combinedDsShiftOf};
 ghost use Rattle.expcone.specs.DualGradient.{updateDualGradHOf};
@@ -14,10 +14,13 @@ use algebra::sym3::cholesky_3x3_explicit_solve;
 use algebra::vector::dot3;
 use algebra::vector::moved3;
 use algebra::vector::shift3;
+use double::abs;
 use kernels::log;
+use verdict::Answer;
+use verdict::told;
 use wright::omega_at;
 
-// What a cone test compares with 0, beside the logarithm in it.
+// What a cone test compares with its margin, beside the logarithm that both are made of.
 pub struct Residue {
     pub res: f64,
     pub log: f64,
@@ -108,30 +111,47 @@ pub fn dual_residue(z: [f64; 3]) -> Residue
     }
 }
 
-// Returns true if s is primal feasible
-pub fn is_primal_feasible(s: [f64; 3]) -> bool
+// 2^-40
+const PART: f64 = 9.094947017729282379150390625e-13;
+
+// l is the logarithm of the residue.
+fn primal_margin(s: [f64; 3], l: f64) -> f64
+    ensures { λ r. ⌜ r ≡ primalMarginAt s l ⌝ }
+{
+    let s0 = s[0];
+    let s1 = s[1];
+    PART * (s1 * (1.0 + abs(l)) + abs(s0))
+}
+
+// l is the logarithm of the residue.
+fn dual_margin(z: [f64; 3], l: f64) -> f64
+    ensures { λ r. ⌜ r ≡ dualMarginAt z l ⌝ }
+{
+    let z0 = z[0];
+    let z1 = z[1];
+    PART * (abs(z1) + abs(z0) * (1.0 + abs(l)))
+}
+
+// Whether s is primal feasible: where the Rust compares res with 0, Order 5 compares it with a margin
+pub fn is_primal_feasible(s: [f64; 3]) -> Answer
     ensures { λ r. ⌜ r ≡ primalFeasible s ⌝ }
 {
     if s[2] > 0.0 && s[1] > 0.0 {
         let primal = primal_residue(s);
-        if primal.res > 0.0 {
-            return true;
-        }
+        return told(primal.res, primal_margin(s, primal.log));
     }
-    false
+    Answer::No // a sign test failed
 }
 
-// Returns true if z is dual feasible
-pub fn is_dual_feasible(z: [f64; 3]) -> bool
+// Whether z is dual feasible
+pub fn is_dual_feasible(z: [f64; 3]) -> Answer
     ensures { λ r. ⌜ r ≡ dualFeasible z ⌝ }
 {
     if z[2] > 0.0 && z[0] < 0.0 {
         let dual = dual_residue(z);
-        if dual.res > 0.0 {
-            return true;
-        }
+        return told(dual.res, dual_margin(z, dual.log));
     }
-    false
+    Answer::No
 }
 
 // Primal barrier:

@@ -1,11 +1,14 @@
--- When a point lies in the generalized power cone or in its dual, as 002 tests it; α is the list of the exponents in use. Definitions only.
-use mathlib.Core.Bool.{Bool, _&&_}
+-- What the test of a point tells in the generalized power cone and in its dual: 002's tests, with 02's margin; α is the list of the exponents in use.
+-- Definitions only.
+use mathlib.Core.Bool.{Bool}
 use mathlib.Core.List.{List}
 use lib.ListN.{length, take, drop}
 use lib.Ieee.{Float}
-use Rattle.double.specs.Operators.{_⊖_, _≺_}
-use Rattle.double.specs.Numbers.{#0}
+use Rattle.double.specs.Operators.{_⊖_}
 use Rattle.kernels.specs.Door.{expOf}
+use Rattle.verdict.specs.declared.Answer.{Answer}
+use Rattle.verdict.specs.Answers.{judged}
+use Rattle.verdict.specs.Margins.{powerMargin}
 use Rattle.algebra.specs.Vectors.{sumsqOf}
 use Rattle.genpowcone_loops.specs.Folds.{allAboveZero, primalLogSum, dualLogSum}
 use Rattle.genpowcone.specs.declared.Residue.{Residue}
@@ -22,10 +25,20 @@ primalResidue α s = residueAt (expOf (primalLogSum α s)) (sumsqOf (drop (lengt
 unfoldable pub dualResidue : List Float → List Float → Residue
 dualResidue α z = residueAt (expOf (dualLogSum α z)) (sumsqOf (drop (length α) z))
 
--- 002 is_primal_feasible. 01, Ports that look right: "Treating a NaN residue as a pass". A NaN is not above 0, so it is none
-unfoldable pub primalFeasible : List Float → List Float → Bool
-primalFeasible α s = allAboveZero (take (length α) s) && (#0 ≺ primalResidue α s .res)
+-- 02, Order 5: "2^-30·(the exponential plus the sumsq)", of the two numbers that the residue is made of
+unfoldable pub primalMargin : List Float → List Float → Float
+primalMargin α s = powerMargin (primalResidue α s .power) (primalResidue α s .square)
 
--- 002 is_dual_feasible
-unfoldable pub dualFeasible : List Float → List Float → Bool
-dualFeasible α z = allAboveZero (take (length α) z) && (#0 ≺ dualResidue α z .res)
+unfoldable pub dualMargin : List Float → List Float → Float
+dualMargin α z = powerMargin (dualResidue α z .power) (dualResidue α z .square)
+
+-- the sign tests of 002, the same on both sides; a NaN passes none
+unfoldable pub signs : List Float → List Float → Bool
+signs α s = allAboveZero (take (length α) s)
+
+-- 002 is_primal_feasible, is_dual_feasible. 02, Order 5: "Feasibility shall answer yes, no or undecided"
+unfoldable pub primalFeasible : List Float → List Float → Answer
+primalFeasible α s = judged (signs α s) (primalResidue α s .res) (primalMargin α s)
+
+unfoldable pub dualFeasible : List Float → List Float → Answer
+dualFeasible α z = judged (signs α z) (dualResidue α z .res) (dualMargin α z)

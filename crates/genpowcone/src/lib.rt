@@ -52,6 +52,9 @@ use kernels::sqrt;
 use newton::Equation;
 use newton::Found;
 use newton::newton_raphson_onesided;
+use verdict::Answer;
+use verdict::power_margin;
+use verdict::told;
 
 // What a cone test compares, with the two numbers that it is the difference of: res = power - square.
 pub struct Residue {
@@ -175,30 +178,26 @@ pub fn dual_residue(alpha: &[f64], z: &[f64]) -> Residue
     residue_at(power, square)
 }
 
-// Returns true if s is primal feasible
-pub fn is_primal_feasible(alpha: &[f64], s: &[f64]) -> bool
+// Whether s is primal feasible: where the Rust compares res with 0, Order 5 compares it with a margin
+pub fn is_primal_feasible(alpha: &[f64], s: &[f64]) -> Answer
     ensures { λ r. ⌜ r ≡ primalFeasible (now (alpha .entry)) (now (s .entry)) ⌝ }
 {
     if all_above_zero(head(s, alpha.len())) {
-        let r = primal_residue(alpha, s);
-        if r.res > 0.0 {
-            return true;
-        }
+        let primal = primal_residue(alpha, s);
+        return told(primal.res, power_margin(primal.power, primal.square));
     }
-    false
+    Answer::No
 }
 
-// Returns true if z is dual feasible
-pub fn is_dual_feasible(alpha: &[f64], z: &[f64]) -> bool
+// Whether z is dual feasible
+pub fn is_dual_feasible(alpha: &[f64], z: &[f64]) -> Answer
     ensures { λ r. ⌜ r ≡ dualFeasible (now (alpha .entry)) (now (z .entry)) ⌝ }
 {
     if all_above_zero(head(z, alpha.len())) {
-        let r = dual_residue(alpha, z);
-        if r.res > 0.0 {
-            return true;
-        }
+        let dual = dual_residue(alpha, z);
+        return told(dual.res, power_margin(dual.power, dual.square));
     }
-    false
+    Answer::No
 }
 
 // Primal barrier: f(s) = ⟨s,g(s)⟩ - f*(-g(s))

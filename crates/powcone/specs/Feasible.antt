@@ -1,10 +1,13 @@
--- When a point lies in the power cone or in its dual, as 001 tests it. Definitions only.
+-- What the test of a point tells in the power cone and in its dual: 001's tests, with 02's margin. Definitions only.
 use mathlib.Core.Bool.{Bool, _&&_}
 use mathlib.Core.List.{List}
 use lib.Ieee.{Float}
 use Rattle.double.specs.Operators.{_⊕_, _⊖_, _⊗_, _⊘_, _≺_, at}
 use Rattle.double.specs.Numbers.{#0, #1, #2}
 use Rattle.kernels.specs.Door.{logOf, expOf}
+use Rattle.verdict.specs.declared.Answer.{Answer}
+use Rattle.verdict.specs.Answers.{judged}
+use Rattle.verdict.specs.Margins.{powerMargin}
 use Rattle.powcone.specs.declared.Residue.{Residue}
 
 -- the residue p - w², beside the two numbers that it is made of
@@ -20,10 +23,20 @@ unfoldable pub dualResidue : Float → List Float → Residue
 dualResidue α z =
     residueAt (expOf (α ⊗ #2 ⊗ logOf (at z 0 ⊘ α) ⊕ (#1 ⊖ α) ⊗ logOf (at z 1 ⊘ (#1 ⊖ α)) ⊗ #2)) (at z 2)
 
--- 001 is_primal_feasible. 01, Ports that look right: "Treating a NaN residue as a pass". A NaN is not above 0, so it is none
-unfoldable pub primalFeasible : Float → List Float → Bool
-primalFeasible α s = (#0 ≺ at s 0) && (#0 ≺ at s 1) && (#0 ≺ primalResidue α s .res)
+-- 02, Order 5: "2^-30·(the exponential plus the sumsq)", of the two numbers that the residue is made of
+unfoldable pub primalMargin : Float → List Float → Float
+primalMargin α s = powerMargin (primalResidue α s .power) (primalResidue α s .square)
 
--- 001 is_dual_feasible
-unfoldable pub dualFeasible : Float → List Float → Bool
-dualFeasible α z = (#0 ≺ at z 0) && (#0 ≺ at z 1) && (#0 ≺ dualResidue α z .res)
+unfoldable pub dualMargin : Float → List Float → Float
+dualMargin α z = powerMargin (dualResidue α z .power) (dualResidue α z .square)
+
+-- the sign tests of 001, the same on both sides; a NaN passes none
+unfoldable pub signs : List Float → Bool
+signs s = (#0 ≺ at s 0) && (#0 ≺ at s 1)
+
+-- 001 is_primal_feasible, is_dual_feasible. 02, Order 5: "Feasibility shall answer yes, no or undecided"
+unfoldable pub primalFeasible : Float → List Float → Answer
+primalFeasible α s = judged (signs s) (primalResidue α s .res) (primalMargin α s)
+
+unfoldable pub dualFeasible : Float → List Float → Answer
+dualFeasible α z = judged (signs z) (dualResidue α z .res) (dualMargin α z)

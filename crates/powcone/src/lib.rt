@@ -20,6 +20,9 @@ use kernels::sqrt;
 use newton::Equation;
 use newton::Found;
 use newton::newton_raphson_onesided;
+use verdict::Answer;
+use verdict::power_margin;
+use verdict::told;
 
 // What a cone test compares, with the two numbers that it is the difference of: res = power - square.
 pub struct Residue {
@@ -94,30 +97,26 @@ pub fn dual_residue(alpha: f64, z: [f64; 3]) -> Residue
     residue_at(power, z[2])
 }
 
-// Returns true if s is primal feasible
-pub fn is_primal_feasible(alpha: f64, s: [f64; 3]) -> bool
+// Whether s is primal feasible: where the Rust compares res with 0, Order 5 compares it with a margin
+pub fn is_primal_feasible(alpha: f64, s: [f64; 3]) -> Answer
     ensures { λ r. ⌜ r ≡ primalFeasible alpha s ⌝ }
 {
     if s[0] > 0.0 && s[1] > 0.0 {
-        let r = primal_residue(alpha, s);
-        if r.res > 0.0 {
-            return true;
-        }
+        let primal = primal_residue(alpha, s);
+        return told(primal.res, power_margin(primal.power, primal.square));
     }
-    false
+    Answer::No
 }
 
-// Returns true if z is dual feasible
-pub fn is_dual_feasible(alpha: f64, z: [f64; 3]) -> bool
+// Whether z is dual feasible
+pub fn is_dual_feasible(alpha: f64, z: [f64; 3]) -> Answer
     ensures { λ r. ⌜ r ≡ dualFeasible alpha z ⌝ }
 {
     if z[0] > 0.0 && z[1] > 0.0 {
-        let r = dual_residue(alpha, z);
-        if r.res > 0.0 {
-            return true;
-        }
+        let dual = dual_residue(alpha, z);
+        return told(dual.res, power_margin(dual.power, dual.square));
     }
-    false
+    Answer::No
 }
 
 // Primal barrier: f(s) = ⟨s,g(s)⟩ - f*(-g(s))

@@ -1,27 +1,30 @@
--- `is_primal_feasible` meets its contract: each test that fails makes the conjunction false. Assumes nothing.
+-- `is_primal_feasible` asks the signs, and then tells by residue and margin. Assumes nothing.
 use mathlib.Core.Logic.{⊎-elim}
-use Rattle.expcone.specs.Feasible.{primalFeasible}
+use Rattle.expcone.specs.Feasible.{primalSigns, primalMargin, primalFeasible}
 use borrow.Author.Needs.{needs}
 use Rattle.expcone.proofs.is_primal_feasible.Statement.{statement}
 use Rattle.expcone.proofs.is_primal_feasible.Tie as tie
 
 returns : tie.Need-returns
-unfolding primalFeasible
+unfolding primalFeasible primalSigns primalMargin
 returns c =
-    let r = c .before .before in
-    simp (r .before .before .if1 .taken, r .before .if2 .taken, ← r .primal-residue .ensures, c .if3 .taken)
+    let signs = c .before .before .before in
+    simp (
+      signs .before .if1 .taken,
+      signs .if2 .taken,
+      ← c .before .before .primal-residue .ensures,
+      ← c .before .primal-margin .ensures,
+      c .told .ensures,
+    )
 
 returns-2 : tie.Need-returns-2
-unfolding primalFeasible
-returns-2 c =
-    let r = c .before .before in
-    simp (r .before .before .if1 .taken, r .before .if2 .taken, ← r .primal-residue .ensures, c .if3 .left)
-
-returns-3 : tie.Need-returns-3
-unfolding primalFeasible
-returns-3 c = ⊎-elim (λ w. simp (w .0 .taken, w .1 .left)) (λ w. simp (w .left)) (c .if1 .came)
+unfolding primalFeasible primalSigns
+returns-2 c = ⊎-elim (λ w. simp (w .0 .taken, w .1 .left)) (λ w. simp (w .left)) (c .if1 .came)
 
 pub is-primal-feasible-spec : {M : Type 1} → statement M
 is-primal-feasible-spec =
     tie.close
-    (tie.spec (λ c. search needs) (λ c. search needs) (λ c κs. search needs) returns returns-2 returns-3)
+    (tie.spec
+    (λ c. search needs) (λ c. search needs) (λ c κs. search needs) (λ c κs. search needs) (λ c κs. search needs)
+    returns
+    returns-2)

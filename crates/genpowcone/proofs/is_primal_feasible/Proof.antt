@@ -1,44 +1,30 @@
--- `is_primal_feasible` is its definition, whichever test fails first. Assumes nothing.
+-- `is_primal_feasible` asks the signs, and then tells by residue and margin. Assumes nothing.
 use borrow.Author.Needs.{needs}
-use Rattle.genpowcone.specs.Feasible.{primalFeasible}
+use Rattle.genpowcone.specs.Feasible.{signs, primalMargin, primalFeasible}
 use Rattle.genpowcone.proofs.is_primal_feasible.Statement.{statement}
 use Rattle.genpowcone.proofs.is_primal_feasible.Tie as tie
 
 returns : tie.Need-returns
-unfolding primalFeasible
+unfolding primalFeasible signs primalMargin
 returns c =
     let tested = c .before .before .before in
-    let heads = tested .before in
     simp (
-      ← heads .before .head .ensures,
-      ← heads .all-above-zero .ensures,
+      ← tested .before .before .head .ensures,
+      ← tested .before .all-above-zero .ensures,
       tested .if1 .taken,
       ← c .before .before .primal-residue .ensures,
-      c .if2 .taken,
+      ← c .before .power-margin .ensures,
+      c .told .ensures,
     )
 
 returns-2 : tie.Need-returns-2
-unfolding primalFeasible
-returns-2 c =
-    let tested = c .before .before .before in
-    let heads = tested .before in
-    simp (
-      ← heads .before .head .ensures,
-      ← heads .all-above-zero .ensures,
-      tested .if1 .taken,
-      ← c .before .before .primal-residue .ensures,
-      c .if2 .left,
-    )
-
-returns-3 : tie.Need-returns-3
-unfolding primalFeasible
-returns-3 c = simp (← c .before .before .head .ensures, ← c .before .all-above-zero .ensures, c .if1 .left)
+unfolding primalFeasible signs
+returns-2 c = simp (← c .before .before .head .ensures, ← c .before .all-above-zero .ensures, c .if1 .left)
 
 pub is-primal-feasible-spec : {M : Type 1} → statement M
 is-primal-feasible-spec =
     tie.close
     (tie.spec
-    (λ c κs. search needs) (λ c κs. search needs) (λ c κs. search needs)
+    (λ c κs. search needs) (λ c κs. search needs) (λ c κs. search needs) (λ c κs. search needs) (λ c κs. search needs)
     returns
-    returns-2
-    returns-3)
+    returns-2)

@@ -6,19 +6,23 @@ use lib.Ieee.{add, sub, mul, div, neg, lt, le, eq, ne, isNan, ofBits, toBits, of
 use Rattle.arith.specs.Turns.{iter}
 use Rattle.double.specs.Numbers.{dec}
 use Rattle.double.specs.Fields.{mag, shift, normalOf}
+use Rattle.double.specs.Sizes.{absOf}
 use Rattle.logarithm_table.specs.Table.{table as logarithms}
 use Rattle.logarithm.specs.Steps.{upper, ratioOf, shortSeriesOf, mantissaOf, scaledOf, positiveOf, byFieldOf, logOf}
 use Rattle.exponential.specs.Sum.{factorial}
 use Rattle.exponential.specs.Steps.{border, gap, placeOf, raised, rest, coefficient, horner, composed, expAt, expOf}
+use Rattle.verdict.specs.Answers.{toldOf}
+use Rattle.verdict.specs.Margins.{powerMargin}
 use Rattle.cone.specs.Fresh.{freshOf, noThree, noWide}
 use Rattle.cone.specs.Judges.{allOf, coneOk, threeOk, numelOf, threeFinite, recordFinite}
 use Rattle.cone.specs.Refusals.{firstRow, settle, lastRows}
-use Rattle.expcone.specs.Feasible.{primalResidueAt, primalResidue, dualResidueAt, dualResidue, primalFeasible, dualFeasible}
+use Rattle.expcone.specs.Feasible as expcone
 use Rattle.wright.specs.Omega.{taylorStart, startOf, refineOf, refinedAt, refinedOf, omegaOf, omegaArg, omegaAt}
 use Rattle.expcone.specs.PrimalGradient.{gradientBy, gradientPrimalOf}
 use Rattle.expcone.specs.DualGradient.{gradHAt, updateDualGradHOf}
 use Rattle.powcone.specs.Feasible as powcone
-use Rattle.kinds.specs.Passes.{expPasses, powPasses, passesIn}
+use Rattle.kinds.specs.Answers.{expAnswer, powAnswer, answerIn}
+use Rattle.kinds.specs.Passes.{passesIn}
 use Rattle.kinds.specs.Three as three
 use Rattle.kinds.specs.Cones as cones
 use Rattle.trials.specs.Trials.{trial}
@@ -35,8 +39,10 @@ use Rattle.border.specs.Rows.{AllRight, Border, table}
 pub border-rows : Border
 unfolding table isPrimalFeasibleOf isDualFeasibleOf dualGradHOf backtrackSearchOf record-entries.gradientPrimalOf
     readFaults searchFaults gradientRows firstRow settle lastRows coneOk threeOk numelOf allOf threeFinite recordFinite freshOf noThree
-    noWide passesIn expPasses powPasses cones.dualGradHOf three.updateDualGradHOf three.gradientPrimalOf searchOf scan trial movedOf
-    primalFeasible primalResidue primalResidueAt dualFeasible dualResidue dualResidueAt powcone.primalFeasible powcone.primalResidue
+    noWide passesIn answerIn expAnswer powAnswer cones.dualGradHOf three.updateDualGradHOf three.gradientPrimalOf searchOf scan trial
+    movedOf toldOf absOf powerMargin expcone.primalFeasible expcone.primalSigns expcone.primalResidue expcone.primalResidueAt
+    expcone.primalMargin expcone.primalMarginAt expcone.dualFeasible expcone.dualSigns expcone.dualResidue expcone.dualResidueAt
+    expcone.dualMargin expcone.dualMarginAt powcone.primalFeasible powcone.signs powcone.primalResidue powcone.primalMargin
     powcone.residueAt taylorStart startOf refineOf refinedAt refinedOf omegaOf omegaArg omegaAt gradientBy gradientPrimalOf gradHAt
     updateDualGradHOf iter dec logOf byFieldOf positiveOf normalOf scaledOf mantissaOf shortSeriesOf ratioOf upper logarithms expOf expAt
     composed horner coefficient factorial rest raised placeOf gap border mag shift add sub mul div neg lt le eq ne isNan toBits ofBits

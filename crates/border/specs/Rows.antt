@@ -2,16 +2,18 @@
 -- Definitions, and the one statement.
 use Prim.Native.Nat.{ℕ}
 use mathlib.Core.Path.{_≡_}
-use mathlib.Core.Bool.{Bool, true, false}
+use mathlib.Core.Bool.{true, false}
 use mathlib.Core.List.{List, [], _∷_}
 use lib.Ieee.{Float, neg}
 use lib.ListN.{replicate}
 use Rattle.double.specs.Numbers.{dec, #0, #½, #1, #2, #4}
+use Rattle.verdict.specs.declared.Answer.{Answer}
+use Rattle.verdict.specs.declared.Answer.the-variants.{Yes, Undecided}
 use Rattle.cone.specs.declared.Cone.{Cone}
 use Rattle.cone.specs.declared.Settings.{Settings}
 use Rattle.cone.specs.Fresh.{freshOf}
 use Rattle.wright.specs.Omega.{omegaOf}
-use Rattle.cone_entries.specs.Entries.{isPrimalFeasibleOf, isDualFeasibleOf, dualGradHOf}
+use Rattle.cone_entries.specs.Entries.{verdictOf, isPrimalFeasibleOf, isDualFeasibleOf, dualGradHOf}
 use Rattle.record_entries.specs.Entries.{gradientPrimalOf}
 use Rattle.search_entries.specs.Entries.{backtrackSearchOf}
 
@@ -38,8 +40,8 @@ settings start step smallest = record { start = start; step = step; smallest = s
 
 -- a row's input and its answer; the search rows are the exponential cone's, primal
 pub data Row : Type 0 where
-  primal : Cone → List Float → Bool → Row
-  dual : Cone → List Float → Bool → Row
+  primal : Cone → List Float → Answer → Row
+  dual : Cone → List Float → Answer → Row
   omega : Float → Float → Row
   primalGradientRefused : Cone → List Float → ℕ → Row
   dualGradient : Cone → List Float → List Float → Row
@@ -47,8 +49,8 @@ pub data Row : Type 0 where
 
 -- A row is right if the call answers so, whatever a slice that it only writes held before: `x y z` below.
 abbrev pub Right : Row → Type 0
-Right (primal c s answer) = isPrimalFeasibleOf c s ≡ record { code = 0; yes = answer }
-Right (dual c z answer) = isDualFeasibleOf c z ≡ record { code = 0; yes = answer }
+Right (primal c s answer) = isPrimalFeasibleOf c s ≡ verdictOf answer
+Right (dual c z answer) = isDualFeasibleOf c z ≡ verdictOf answer
 Right (omega x w) = omegaOf x ≡ record { panics = false; w = w }
 Right (primalGradientRefused c s k) =
     (x y z : Float)
@@ -59,15 +61,15 @@ Right (search q dq how step count point) =
     → backtrackSearchOf exponential true dq q (triple x y z) how
     ≡ record { answer = record { code = 0; count = count; step = step }; slice = point }
 
--- a to l, in the paper's order and with its numbers
+-- a to l, in the paper's order and with its numbers. 02, Order 5: "Border cases b, d and f become undecided."
 unfoldable pub table : List Row
 table =
-    primal exponential (triple (minus #1) #1 #1) true
-    ∷ primal exponential (triple #0 #1 #1) false
-    ∷ dual exponential (triple (minus #1) #0 #1) true
-    ∷ dual exponential (triple (minus #1) (minus #1) #1) false
-    ∷ primal (power #½) (triple #1 #1 #0) true
-    ∷ primal (power #½) (triple #1 #1 #1) false
+    primal exponential (triple (minus #1) #1 #1) Yes
+    ∷ primal exponential (triple #0 #1 #1) Undecided
+    ∷ dual exponential (triple (minus #1) #0 #1) Yes
+    ∷ dual exponential (triple (minus #1) (minus #1) #1) Undecided
+    ∷ primal (power #½) (triple #1 #1 #0) Yes
+    ∷ primal (power #½) (triple #1 #1 #1) Undecided
     ∷ omega #1 #1
     ∷ primalGradientRefused exponential (triple #2 #1 #1) 6
     ∷ dualGradient exponential (triple (minus #1) #0 #1) (triple #1 (minus #1) (minus #2))

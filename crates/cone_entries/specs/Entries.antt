@@ -5,6 +5,9 @@ use mathlib.Core.List.{List}
 use lib.Dec.{eqb}
 use lib.Ieee.{Float}
 use lib.ListN.{length, take}
+use Rattle.verdict.specs.declared.Verdict.{Verdict}
+use Rattle.verdict.specs.declared.Answer.{Answer}
+use Rattle.verdict.specs.Answers as verdict
 use Rattle.cone.specs.declared.Cone.{Cone}
 use Rattle.cone.specs.declared.Updated.{Updated}
 use Rattle.cone.specs.declared.YesNo.{YesNo}
@@ -14,7 +17,7 @@ use Rattle.cone.specs.declared.Attempt.{Attempt}
 use Rattle.cone.specs.Fresh as fresh
 use Rattle.cone.specs.Fresh.{emptyCone, noThree, noWide}
 use Rattle.cone.specs.Refusals.{lastRows, Lent, LentTwo, settle, refuse, refuseTwo, refuseNumber, publishOf, publishTwoOf, numberOf}
-use Rattle.kinds.specs.Passes.{passesOf}
+use Rattle.kinds.specs.Answers.{answerOf}
 use Rattle.kinds.specs.Cones as kinds
 use Rattle.kinds.specs.Cones.{alphaOf}
 use Rattle.kinds.specs.Three as three
@@ -31,17 +34,21 @@ freshOf c =
 
 -- ---- entries that read a point
 
--- 01: "A refusal returns .. no for a yes or no"
-abbrev pub refuseYesNo : ℕ → YesNo
-refuseYesNo k = record { code = k; yes = false }
+-- 01: "A refusal returns .. no for a yes or no", and 0 stands for no
+abbrev pub refuseVerdict : ℕ → Verdict
+refuseVerdict k = record { code = k; answer = 0 }
+
+-- an answer by its number
+abbrev pub verdictOf : Answer → Verdict
+verdictOf a = record { code = 0; answer = verdict.numberOf a }
 
 -- 000, 001, 002 is_primal_feasible
-unfoldable pub isPrimalFeasibleOf : Cone → List Float → YesNo
-isPrimalFeasibleOf c s = settle (readRows c s) (record { code = 0; yes = passesOf c true s }) refuseYesNo
+unfoldable pub isPrimalFeasibleOf : Cone → List Float → Verdict
+isPrimalFeasibleOf c s = settle (readRows c s) (verdictOf (answerOf c true s)) refuseVerdict
 
 -- 000, 001, 002 is_dual_feasible
-unfoldable pub isDualFeasibleOf : Cone → List Float → YesNo
-isDualFeasibleOf c z = settle (readRows c z) (record { code = 0; yes = passesOf c false z }) refuseYesNo
+unfoldable pub isDualFeasibleOf : Cone → List Float → Verdict
+isDualFeasibleOf c z = settle (readRows c z) (verdictOf (answerOf c false z)) refuseVerdict
 
 -- 000, 001, 002 barrier_dual
 unfoldable pub barrierDualOf : Cone → List Float → Number

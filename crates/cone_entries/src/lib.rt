@@ -21,7 +21,7 @@ use cone::refusal::publish;
 use cone::refusal::publish_two;
 use cone::refusal::store;
 use equilibration::rectified;
-use kinds::passes;
+use kinds::answer;
 use kinds::three;
 use kinds::wide;
 use rows::copy_rows;
@@ -29,6 +29,8 @@ use rows::fresh_rows;
 use rows::offset_rows;
 use rows::read_rows;
 use rows::unit_rows;
+use verdict::Verdict;
+use verdict::number;
 
 // A record for the cone that was never scaled.
 pub fn fresh(cone: Cone) -> Updated
@@ -46,26 +48,32 @@ pub fn fresh(cone: Cone) -> Updated
 
 // ---- entries that read a point
 
-pub fn is_primal_feasible(cone: Cone, s: &[f64]) -> YesNo
+pub fn is_primal_feasible(cone: Cone, s: &[f64]) -> Verdict
     ensures { λ r. ⌜ r ≡ isPrimalFeasibleOf cone (now (s .entry)) ⌝ }
 {
     let code = read_rows(cone, s);
     if code != 0 {
-        return YesNo { code, yes: false };
+        return Verdict { code, answer: 0 };
     }
-    let yes = passes(cone.kind, cone.dim1, &cone.exps, true, s);
-    YesNo { code: 0, yes }
+    let primal = answer(cone.kind, cone.dim1, &cone.exps, true, s);
+    Verdict {
+        code: 0,
+        answer: number(primal),
+    }
 }
 
-pub fn is_dual_feasible(cone: Cone, z: &[f64]) -> YesNo
+pub fn is_dual_feasible(cone: Cone, z: &[f64]) -> Verdict
     ensures { λ r. ⌜ r ≡ isDualFeasibleOf cone (now (z .entry)) ⌝ }
 {
     let code = read_rows(cone, z);
     if code != 0 {
-        return YesNo { code, yes: false };
+        return Verdict { code, answer: 0 };
     }
-    let yes = passes(cone.kind, cone.dim1, &cone.exps, false, z);
-    YesNo { code: 0, yes }
+    let dual = answer(cone.kind, cone.dim1, &cone.exps, false, z);
+    Verdict {
+        code: 0,
+        answer: number(dual),
+    }
 }
 
 pub fn barrier_dual(cone: Cone, z: &[f64]) -> Number

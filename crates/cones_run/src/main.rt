@@ -13,6 +13,14 @@ fn answer(b: bool) {
     }
 }
 
+fn told(a: verdict::Answer) {
+    match a {
+        verdict::Answer::No => word(b" no\n"),
+        verdict::Answer::Yes => word(b" yes\n"),
+        verdict::Answer::Undecided => word(b" undecided\n"),
+    }
+}
+
 fn number(x: f64) {
     word(b" ");
     io::print_hex(1, double::to_bits(x), 16);
@@ -37,13 +45,13 @@ fn six(x: [f64; 6]) {
 
 fn exponential() {
     word(b"a exp primal (-1,1,1)");
-    answer(expcone::is_primal_feasible([-1.0, 1.0, 1.0]));
+    told(expcone::is_primal_feasible([-1.0, 1.0, 1.0]));
     word(b"b exp primal (0,1,1)");
-    answer(expcone::is_primal_feasible([0.0, 1.0, 1.0]));
+    told(expcone::is_primal_feasible([0.0, 1.0, 1.0]));
     word(b"c exp dual (-1,0,1)");
-    answer(expcone::is_dual_feasible([-1.0, 0.0, 1.0]));
+    told(expcone::is_dual_feasible([-1.0, 0.0, 1.0]));
     word(b"d exp dual (-1,-1,1)");
-    answer(expcone::is_dual_feasible([-1.0, -1.0, 1.0]));
+    told(expcone::is_dual_feasible([-1.0, -1.0, 1.0]));
     let h = expcone::gradient_primal([2.0, 1.0, 1.0]);
     word(b"h exp primal gradient (2,1,1) panics");
     answer(h.panics);
@@ -64,9 +72,9 @@ fn exponential() {
 
 fn power() {
     word(b"e power 1/2 primal (1,1,0)");
-    answer(powcone::is_primal_feasible(0.5, [1.0, 1.0, 0.0]));
+    told(powcone::is_primal_feasible(0.5, [1.0, 1.0, 0.0]));
     word(b"f power 1/2 primal (1,1,1)");
-    answer(powcone::is_primal_feasible(0.5, [1.0, 1.0, 1.0]));
+    told(powcone::is_primal_feasible(0.5, [1.0, 1.0, 1.0]));
     let p = powcone::update_dual_grad_h(0.5, [0.5, 0.5, 0.0]);
     let grad = p.grad;
     let block = p.h;

@@ -2,7 +2,8 @@
 // through kinds 1, 2 and 3 alone.
 ghost use mathlib.Core.Path.{_≡_};
 ghost use Rattle.cone.specs.Calls.{WideCall};
-ghost use Rattle.kinds.specs.Passes.{expPasses, powPasses, genpowPasses, passesIn};
+ghost use Rattle.kinds.specs.Answers.{expAnswer, powAnswer, genpowAnswer, answerIn};
+ghost use Rattle.kinds.specs.Passes.{passesIn};
 ghost use Rattle.kinds.specs.Cones.{barrierDualOf, dualGradHOf};
 use algebra::vector::head;
 use cone::Attempt;
@@ -11,14 +12,16 @@ use cone::attempted;
 use cone::no_three;
 use cone::no_wide;
 use cone::three_of;
+use verdict::Answer;
+use verdict::is_yes;
 
 pub mod three;
 pub mod wide;
 
 // ---- step_length's two tests, is_primal_feasible and is_dual_feasible
 
-fn exp_passes(primal: bool, p: [f64; 3]) -> bool
-    ensures { λ r. ⌜ r ≡ expPasses primal p ⌝ }
+fn exp_answer(primal: bool, p: [f64; 3]) -> Answer
+    ensures { λ r. ⌜ r ≡ expAnswer primal p ⌝ }
 {
     if primal {
         expcone::is_primal_feasible(p)
@@ -27,8 +30,8 @@ fn exp_passes(primal: bool, p: [f64; 3]) -> bool
     }
 }
 
-fn pow_passes(alpha: f64, primal: bool, p: [f64; 3]) -> bool
-    ensures { λ r. ⌜ r ≡ powPasses alpha primal p ⌝ }
+fn pow_answer(alpha: f64, primal: bool, p: [f64; 3]) -> Answer
+    ensures { λ r. ⌜ r ≡ powAnswer alpha primal p ⌝ }
 {
     if primal {
         powcone::is_primal_feasible(alpha, p)
@@ -37,8 +40,8 @@ fn pow_passes(alpha: f64, primal: bool, p: [f64; 3]) -> bool
     }
 }
 
-fn genpow_passes(alpha: &[f64], primal: bool, p: &[f64]) -> bool
-    ensures { λ r. ⌜ r ≡ genpowPasses (now (alpha .entry)) primal (now (p .entry)) ⌝ }
+fn genpow_answer(alpha: &[f64], primal: bool, p: &[f64]) -> Answer
+    ensures { λ r. ⌜ r ≡ genpowAnswer (now (alpha .entry)) primal (now (p .entry)) ⌝ }
 {
     if primal {
         genpowcone::is_primal_feasible(alpha, p)
@@ -48,15 +51,21 @@ fn genpow_passes(alpha: &[f64], primal: bool, p: &[f64]) -> bool
 }
 
 // Whether the point lies in the cone, or in its dual. The cone comes in parts, so that a search copies none for a test.
+pub fn answer(kind: u32, dim1: u32, exps: &[f64; 32], primal: bool, point: &[f64]) -> Answer
+    ensures { λ r. ⌜ r ≡ answerIn kind dim1 (now (exps .entry)) primal (now (point .entry)) ⌝ }
+{
+    match kind {
+        1 => exp_answer(primal, three_of(point)),
+        2 => pow_answer(exps[0], primal, three_of(point)),
+        3 => genpow_answer(head(exps, dim1 as usize), primal, point),
+        _ => Answer::No,
+    }
+}
+
 pub fn passes(kind: u32, dim1: u32, exps: &[f64; 32], primal: bool, point: &[f64]) -> bool
     ensures { λ r. ⌜ r ≡ passesIn kind dim1 (now (exps .entry)) primal (now (point .entry)) ⌝ }
 {
-    match kind {
-        1 => exp_passes(primal, three_of(point)),
-        2 => pow_passes(exps[0], primal, three_of(point)),
-        3 => genpow_passes(head(exps, dim1 as usize), primal, point),
-        _ => false,
-    }
+    is_yes(answer(kind, dim1, exps, primal, point))
 }
 
 pub fn barrier_dual(cone: Cone, z: &[f64]) -> f64

@@ -29,10 +29,10 @@ pub fn same_places(xs: [f64; 64], n: usize) -> bool {
     same(&xs, n)
 }
 
-// The number, the yes, the counts and the values.
-pub fn reply(code: u32, yes: bool, counts: [u32; 2], values: [f64; 3]) -> bool {
+// The number, the answer, the counts and the values. An answer is 0 no, 1 yes, 2 undecided; 0 where a call gives none.
+pub fn reply(code: u32, answer: u32, counts: [u32; 2], values: [f64; 3]) -> bool {
     let told = word() == code as u64;
-    let said = (word() != 0) == yes;
+    let said = word() == answer as u64;
     let first = word() == counts[0] as u64;
     let second = word() == counts[1] as u64;
     let v0 = is(values[0], word());
@@ -43,7 +43,7 @@ pub fn reply(code: u32, yes: bool, counts: [u32; 2], values: [f64; 3]) -> bool {
 
 // An answer that is a number alone.
 pub fn told(code: u32) -> bool {
-    let answer = reply(code, false, [0; 2], [0.0; 3]);
+    let answer = reply(code, 0, [0; 2], [0.0; 3]);
     let nothing = no_record();
     answer & nothing
 }

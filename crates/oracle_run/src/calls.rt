@@ -13,14 +13,14 @@ use cone::Scaling;
 use cone::Settings;
 
 pub fn kernel(x: f64) -> bool {
-    let answer = reply(0, false, [0; 2], [x, 0.0, 0.0]);
+    let answer = reply(0, 0, [0; 2], [x, 0.0, 0.0]);
     let nothing = no_record();
     answer & nothing
 }
 
 pub fn house_settings(given: [f64; 64]) -> bool {
     let s = cone::house_settings(given[0]);
-    let answer = reply(0, false, [0; 2], [s.start, s.step, s.smallest]);
+    let answer = reply(0, 0, [0; 2], [s.start, s.step, s.smallest]);
     let nothing = no_record();
     answer & nothing
 }
@@ -29,7 +29,7 @@ pub fn house_settings(given: [f64; 64]) -> bool {
 pub fn fresh(cone: Cone) -> bool {
     let r = cone_entries::fresh(cone);
     let record = r.scaling;
-    let answer = reply(r.code, false, [0; 2], [0.0; 3]);
+    let answer = reply(r.code, 0, [0; 2], [0.0; 3]);
     let mut wanted = cone;
     if r.code != 0 {
         wanted = cone::empty_cone();
@@ -38,28 +38,36 @@ pub fn fresh(cone: Cone) -> bool {
     answer & all
 }
 
-fn said(code: u32, yes: bool) -> bool {
-    let answer = reply(code, yes, [0; 2], [0.0; 3]);
+fn said(code: u32, answer: u32) -> bool {
+    let answer = reply(code, answer, [0; 2], [0.0; 3]);
     let nothing = no_record();
     answer & nothing
+}
+
+fn said_yes(code: u32, yes: bool) -> bool {
+    let mut answer = 0;
+    if yes {
+        answer = 1;
+    }
+    said(code, answer)
 }
 
 pub fn is_primal_feasible(cone: Cone) -> bool {
     let n = count();
     let s = numbers(n);
     let r = cone_entries::is_primal_feasible(cone, head(&s, n));
-    said(r.code, r.yes)
+    said(r.code, r.answer)
 }
 
 pub fn is_dual_feasible(cone: Cone) -> bool {
     let n = count();
     let z = numbers(n);
     let r = cone_entries::is_dual_feasible(cone, head(&z, n));
-    said(r.code, r.yes)
+    said(r.code, r.answer)
 }
 
 fn valued(code: u32, value: f64) -> bool {
-    let answer = reply(code, false, [0; 2], [value, 0.0, 0.0]);
+    let answer = reply(code, 0, [0; 2], [value, 0.0, 0.0]);
     let nothing = no_record();
     answer & nothing
 }
@@ -77,7 +85,7 @@ pub fn dual_grad_h(cone: Cone) -> bool {
     let r = cone_entries::dual_grad_h(cone, head(&z, n));
     let three = r.three;
     let wide = r.wide;
-    let answer = reply(r.code, false, [0; 2], [0.0; 3]);
+    let answer = reply(r.code, 0, [0; 2], [0.0; 3]);
     let unscaled = crate::input::word() == 0;
     let all = numbers_of(cone, three, wide);
     answer & unscaled & all
@@ -101,7 +109,7 @@ pub fn rectify_equilibration(cone: Cone) -> bool {
     let ne = count();
     let e = numbers(ne);
     let r = cone_entries::rectify_equilibration(cone, &mut delta[..nd], head(&e, ne));
-    let answer = said(r.code, r.yes);
+    let answer = said_yes(r.code, r.yes);
     let slice = same_places(delta, nd);
     answer & slice
 }
@@ -154,7 +162,7 @@ pub fn backtrack_search(cone: Cone, option: u32, given: [f64; 64]) -> bool {
         &mut point[..np],
         settings,
     );
-    let answer = reply(r.code, false, [r.count, 0], [r.step, 0.0, 0.0]);
+    let answer = reply(r.code, 0, [r.count, 0], [r.step, 0.0, 0.0]);
     let nothing = no_record();
     let slice = same_places(point, np);
     answer & nothing & slice
@@ -186,7 +194,7 @@ pub fn step_length(cone: Cone, given: [f64; 64]) -> bool {
     );
     let answer = reply(
         r.code,
-        false,
+        0,
         [r.dualcount, r.primalcount],
         [r.dualstep, r.primalstep, 0.0],
     );
@@ -204,7 +212,7 @@ pub fn update_scaling(record: Scaling, option: u32, given: [f64; 64]) -> bool {
     let z = numbers(nz);
     let r = record_update::update_scaling(record, head(&s, ns), head(&z, nz), given[0], option);
     let scaling = r.scaling;
-    let answer = reply(r.code, false, [0; 2], [0.0; 3]);
+    let answer = reply(r.code, 0, [0; 2], [0.0; 3]);
     let all = same_record(scaling, cone);
     answer & all
 }
@@ -215,7 +223,7 @@ pub fn gradient_primal(record: Scaling) -> bool {
     let ns = count();
     let s = numbers(ns);
     let r = record_entries::gradient_primal(record, &mut g[..ng], head(&s, ns));
-    let answer = reply(r.code, false, [r.rounds, 0], [0.0; 3]);
+    let answer = reply(r.code, 0, [r.rounds, 0], [0.0; 3]);
     let nothing = no_record();
     let slice = same_places(g, ng);
     answer & nothing & slice

@@ -1,5 +1,5 @@
 -- The cone that a record gives back has all that a search reads of the cone that was given. Assumes nothing.
-use mathlib.Core.Path.{_≡_, refl, sym, ap, subst}
+use mathlib.Core.Path.{_≡_, refl, ap}
 use mathlib.Core.Bool.{Bool, true, false, _&&_}
 use mathlib.Core.List.{List, [], _∷_}
 use Prim.Native.Nat.{ℕ, _≤_}
@@ -8,14 +8,17 @@ use lib.Dec.{eqb, leb}
 use lib.Ieee.{Float}
 use lib.ListN.{length, take}
 use lib.Seq.{take-at, length-take-le}
-use borrow.Author.Tests.{eqb-true, leb-true}
-use Rattle.arith.proofs.Branches.{and-left, and-right, false-not-true}
+use borrow.Author.Tests.{leb-true}
+use Rattle.arith.proofs.Branches.{and-left, and-right}
 use Rattle.double.specs.Operators.{at}
 use Rattle.double.specs.Numbers.{#tolerance}
 use Rattle.cone.specs.declared.Cone.{Cone}
 use Rattle.cone.specs.Judges.{allOf, exponentOk, sumOk, wideOk, threeOk, coneOk, numelOf}
 use Rattle.cone.specs.Points.{threeOf}
-use Rattle.kinds.specs.Passes.{passesIn, powPasses, genpowPasses}
+use Rattle.verdict.specs.Answers.{isYes}
+use Rattle.kinds.specs.Answers.{answerIn, powAnswer, genpowAnswer}
+use Rattle.kinds.specs.Passes.{passesIn}
+use Rattle.kinds.proofs.EachKind.{cone, each-kind}
 use Rattle.trace_layout.specs.Records.{exponents}
 use Rattle.trace_entries.specs.Given.{dim1Of, dim2Of, usedExps}
 use Rattle.recorded.specs.Recorded.{padded}
@@ -38,11 +41,8 @@ pub take-padded : (m n : ℕ) (xs : List Float) → length xs ≡ n → take n (
 unfolding padded
 take-padded m n xs h = take-at xs _ n h
 
-abbrev cone : ℕ → ℕ → ℕ → List Float → Cone
-cone kind dim1 dim2 exps = record { kind = kind; dim1 = dim1; dim2 = dim2; exps = exps }
-
 alike-1 : (d₁ d₂ : ℕ) (exps : List Float) → Alike (keptCone (cone 1 d₁ d₂ exps)) (cone 1 d₁ d₂ exps)
-unfolding numelOf coneOk threeOk passesIn
+unfolding numelOf coneOk threeOk passesIn answerIn
 alike-1 d₁ d₂ exps = record { numel = refl; ok = refl; dual = refl; primal = refl }
 
 first-kept : (exps : List Float) → length exps ≡ 32 → at (padded 32 (take 1 exps)) 0 ≡ at exps 0
@@ -52,22 +52,22 @@ first-kept (x ∷ xs) h = refl
 
 alike-2 : (d₁ d₂ : ℕ) (exps : List Float) → at (padded 32 (take 1 exps)) 0 ≡ at exps 0
     → Alike (keptCone (cone 2 d₁ d₂ exps)) (cone 2 d₁ d₂ exps)
-unfolding numelOf coneOk threeOk passesIn exponents
+unfolding numelOf coneOk threeOk passesIn answerIn exponents
 alike-2 d₁ d₂ exps first = record {
   numel = refl;
   ok = ap (threeOk 2) first;
-  dual = ap {B = List Float → Bool} (λ (α : Float) (p : List Float). powPasses α false (threeOf p)) first;
-  primal = ap {B = List Float → Bool} (λ (α : Float) (p : List Float). powPasses α true (threeOf p)) first;
+  dual = ap {B = List Float → Bool} (λ (α : Float) (p : List Float). isYes (powAnswer α false (threeOf p))) first;
+  primal = ap {B = List Float → Bool} (λ (α : Float) (p : List Float). isYes (powAnswer α true (threeOf p))) first;
 }
 
 alike-3 : (d₁ d₂ : ℕ) (exps : List Float) → take d₁ (padded 32 (take d₁ exps)) ≡ take d₁ exps
     → Alike (keptCone (cone 3 d₁ d₂ exps)) (cone 3 d₁ d₂ exps)
-unfolding numelOf coneOk wideOk passesIn exponents
+unfolding numelOf coneOk wideOk passesIn answerIn exponents
 alike-3 d₁ d₂ exps those = record {
   numel = refl;
   ok = ap (λ (α : List Float). leb 1 d₁ && leb d₁ 32 && leb 1 d₂ && leb d₂ 32 && allOf exponentOk α && sumOk α #tolerance) those;
-  dual = ap {B = List Float → Bool} (λ (α : List Float) (p : List Float). genpowPasses α false p) those;
-  primal = ap {B = List Float → Bool} (λ (α : List Float) (p : List Float). genpowPasses α true p) those;
+  dual = ap {B = List Float → Bool} (λ (α : List Float) (p : List Float). isYes (genpowAnswer α false p)) those;
+  primal = ap {B = List Float → Bool} (λ (α : List Float) (p : List Float). isYes (genpowAnswer α true p)) those;
 }
 
 -- ---- of any cone that a search takes
@@ -91,30 +91,18 @@ wide-few-2 d₁ d₂ exps ok =
     let first = and-left (a && leb d₂ 32 && allOf exponentOk α) (sumOk α #tolerance) ok in
     leb-true d₂ 32 (and-right a (leb d₂ 32) (and-left (a && leb d₂ 32) (allOf exponentOk α) first))
 
--- the kinds in turn: what a good cone has that is none of them is no kind
-no-kind : (kind : ℕ) (α : Float) → eqb kind 1 ≡ false → eqb kind 2 ≡ false → threeOk kind α ≡ true → ⊥
-unfolding threeOk
-no-kind kind α one two ok = false-not-true (rw (one, two) at ok)
-
-module _ (d₁ d₂ : ℕ) (exps : List Float) (places : length exps ≡ 32) where
-  abbrev AlikeAt : ℕ → Type 0
-  AlikeAt kind = Alike (keptCone (cone kind d₁ d₂ exps)) (cone kind d₁ d₂ exps)
-
-  alike-one : (kind : ℕ) (one two : Bool) → eqb kind 1 ≡ one → eqb kind 2 ≡ two → threeOk kind (at exps 0) ≡ true → AlikeAt kind
-  alike-one kind true two e f ok = subst AlikeAt (sym (eqb-true kind 1 e)) (alike-1 d₁ d₂ exps)
-  alike-one kind false true e f ok = subst AlikeAt (sym (eqb-true kind 2 f)) (alike-2 d₁ d₂ exps (first-kept exps places))
-  alike-one kind false false e f ok = absurd (no-kind kind (at exps 0) e f ok)
-
-  alike-with : (kind : ℕ) (three : Bool) → eqb kind 3 ≡ three → coneOk (cone kind d₁ d₂ exps) ≡ true → AlikeAt kind
-  unfolding coneOk
-  alike-with kind true e ok =
-      let few = wide-few d₁ d₂ exps (rw e at ok) in
-      subst AlikeAt (sym (eqb-true kind 3 e))
-      (alike-3 d₁ d₂ exps (take-padded 32 d₁ (take d₁ exps) (length-take-le d₁ exps (omega (arith, few, places)))))
-  alike-with kind false e ok = alike-one kind (eqb kind 1) (eqb kind 2) refl refl (rw e at ok)
-
 pub kept-alike : (c : Cone) → length (c .exps) ≡ 32 → coneOk c ≡ true → Alike (keptCone c) c
-kept-alike c places ok = alike-with (c .dim1) (c .dim2) (c .exps) places (c .kind) (eqb (c .kind) 3) refl ok
+kept-alike c places ok =
+    each-kind (λ (d : Cone). Alike (keptCone d) d) (c .dim1) (c .dim2) (c .exps)
+    (alike-1 (c .dim1) (c .dim2) (c .exps))
+    (λ _. alike-2 (c .dim1) (c .dim2) (c .exps) (first-kept (c .exps) places))
+    (λ wide. alike-3 (c .dim1) (c .dim2) (c .exps) (heads-kept wide)) (c .kind) ok
+  where
+    heads-kept : wideOk (c .dim1) (c .dim2) (c .exps) ≡ true
+        → take (c .dim1) (padded 32 (take (c .dim1) (c .exps))) ≡ take (c .dim1) (c .exps)
+    heads-kept wide =
+        let few = wide-few (c .dim1) (c .dim2) (c .exps) wide in
+        take-padded 32 (c .dim1) (take (c .dim1) (c .exps)) (length-take-le (c .dim1) (c .exps) (omega (arith, few, places)))
 
 numel-with : (d₁ d₂ kind : ℕ) (exps : List Float) (three : Bool) → eqb kind 3 ≡ three → coneOk (cone kind d₁ d₂ exps) ≡ true
     → numelOf (cone kind d₁ d₂ exps) ≤ 64

@@ -26,6 +26,7 @@ use recorded::Recorded;
 use replayed::Replayed;
 use trace_entries::Opened;
 use trace_entries::Written;
+use verdict::Verdict;
 
 // The four kernels. Every double is taken, nothing refused.
 
@@ -67,14 +68,14 @@ pub extern "C" fn spindle_fresh(cone: Cone) -> Updated
 }
 
 #[no_mangle]
-pub extern "C" fn spindle_is_primal_feasible(cone: Cone, s: &[f64]) -> YesNo
+pub extern "C" fn spindle_is_primal_feasible(cone: Cone, s: &[f64]) -> Verdict
     ensures { λ r. ⌜ r ≡ isPrimalFeasibleOf cone (now (s .entry)) ⌝ }
 {
     cone_entries::is_primal_feasible(cone, s)
 }
 
 #[no_mangle]
-pub extern "C" fn spindle_is_dual_feasible(cone: Cone, z: &[f64]) -> YesNo
+pub extern "C" fn spindle_is_dual_feasible(cone: Cone, z: &[f64]) -> Verdict
     ensures { λ r. ⌜ r ≡ isDualFeasibleOf cone (now (z .entry)) ⌝ }
 {
     cone_entries::is_dual_feasible(cone, z)

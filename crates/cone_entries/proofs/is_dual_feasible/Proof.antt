@@ -12,8 +12,8 @@ returns c = refused _ _ _ _ (c .before .read-rows .ensures) (c .if1 .taken)
 returns-2 : tie.Need-returns-2
 unfolding isDualFeasibleOf
 returns-2 c =
-    let let-through = c .before .before .before in
-    simp (c .passes .ensures) (done _ _ _ _ (let-through .before .read-rows .ensures) (let-through .if1 .left))
+    let let-through = c .before .before .before .before in
+    simp (c .number .ensures, c .before .answer .ensures) (done _ _ _ _ (let-through .before .read-rows .ensures) (let-through .if1 .left))
 
 pub is-dual-feasible-spec : {M : Type 1} → statement M
-is-dual-feasible-spec = tie.close (tie.spec (λ c κs. search needs) returns (λ c κs. search needs) returns-2)
+is-dual-feasible-spec = tie.close (tie.spec (λ c κs. search needs) returns (λ c κs. search needs) (λ c κs. search needs) returns-2)

@@ -1,43 +1,14 @@
--- `passes` asks the test of the kind, on the point's three places or on the slice as it is. Assumes nothing.
+-- `passes` says yes where `answer` does, and nowhere else. Assumes nothing.
 use mathlib.Core.Path.{ap, _∙_}
-use mathlib.Core.List.{List}
-use lib.Ieee.{Float}
-use denote.Ref.{now}
+use Rattle.verdict.specs.Answers.{isYes}
 use borrow.Author.Needs.{needs}
-use borrow.Author.Tests.{ne-eqb}
-use Rattle.kinds.specs.Passes.{expPasses, powPasses, genpowPasses, passesIn}
+use Rattle.kinds.specs.Passes.{passesIn}
 use Rattle.kinds.proofs.passes.Statement.{statement}
 use Rattle.kinds.proofs.passes.Tie as tie
 
 returns : tie.Need-returns
 unfolding passesIn
-returns c = simp (c .before .before .match .keys1) (c .exp-passes .ensures ∙ ap (expPasses _) (c .before .three-of .ensures))
-
-returns-2 : tie.Need-returns-2
-unfolding passesIn
-returns-2 c =
-    let arm = c .before .before .before in
-    simp (arm .match .keys2) (c .pow-passes .ensures ∙ ap (powPasses _ _) (c .before .three-of2 .ensures))
-
-returns-3 : tie.Need-returns-3
-unfolding passesIn
-returns-3 c =
-    let arm = c .before .before .before in
-    let s = arm .before .before .args in
-    let in-use = ap (λ (α : List Float). genpowPasses α (s .primal) (now (s .point))) (c .before .head .ensures) in
-    simp (arm .match .keys3) (c .genpow-passes .ensures ∙ in-use)
-
-returns-4 : tie.Need-returns-4
-unfolding passesIn
-returns-4 c = simp (ne-eqb _ _ (c .match .rest .1), ne-eqb _ _ (c .match .rest .0 .1), ne-eqb _ _ (c .match .rest .0 .0 .1))
+returns c = c .is-yes .ensures ∙ ap isYes (c .before .answer .ensures)
 
 pub passes-spec : {M : Type 1} → statement M
-passes-spec =
-    tie.close
-    (tie.spec
-    (λ c κs. search needs) (λ c κs. search needs) (λ c. search needs) (λ c κs. search needs) (λ c κs. search needs) (λ c κs. search needs)
-    (λ c κs. search needs)
-    returns
-    returns-2
-    returns-3
-    returns-4)
+passes-spec = tie.close (tie.spec (λ c κs. search needs) (λ c κs. search needs) returns)

@@ -1,18 +1,18 @@
--- `pow_passes` asks the test of its side. Assumes nothing.
+-- `genpow_answer` asks the test of its side. Assumes nothing.
 use borrow.Author.Needs.{needs}
 use Rattle.arith.proofs.Branches.{taken, left}
-use Rattle.kinds.specs.Passes.{powPasses}
-use Rattle.kinds.proofs.pow_passes.Statement.{statement}
-use Rattle.kinds.proofs.pow_passes.Tie as tie
+use Rattle.kinds.specs.Answers.{genpowAnswer}
+use Rattle.kinds.proofs.genpow_answer.Statement.{statement}
+use Rattle.kinds.proofs.genpow_answer.Tie as tie
 
 returns : tie.Need-returns
-unfolding powPasses
+unfolding genpowAnswer
 returns c = taken _ (c .before .if1 .taken) (c .is-primal-feasible .ensures)
 
 returns-2 : tie.Need-returns-2
-unfolding powPasses
+unfolding genpowAnswer
 returns-2 c = left _ (c .before .if1 .left) (c .is-dual-feasible .ensures)
 
-pub pow-passes-spec : {M : Type 1} → statement M
-pow-passes-spec =
+pub genpow-answer-spec : {M : Type 1} → statement M
+genpow-answer-spec =
     tie.close (tie.spec (λ c κs. search needs) (λ c κs. search needs) returns returns-2)

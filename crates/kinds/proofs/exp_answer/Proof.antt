@@ -1,18 +1,18 @@
--- `exp_passes` asks the test of its side. Assumes nothing.
+-- `exp_answer` asks the test of its side. Assumes nothing.
 use borrow.Author.Needs.{needs}
 use Rattle.arith.proofs.Branches.{taken, left}
-use Rattle.kinds.specs.Passes.{expPasses}
-use Rattle.kinds.proofs.exp_passes.Statement.{statement}
-use Rattle.kinds.proofs.exp_passes.Tie as tie
+use Rattle.kinds.specs.Answers.{expAnswer}
+use Rattle.kinds.proofs.exp_answer.Statement.{statement}
+use Rattle.kinds.proofs.exp_answer.Tie as tie
 
 returns : tie.Need-returns
-unfolding expPasses
+unfolding expAnswer
 returns c = taken _ (c .before .if1 .taken) (c .is-primal-feasible .ensures)
 
 returns-2 : tie.Need-returns-2
-unfolding expPasses
+unfolding expAnswer
 returns-2 c = left _ (c .before .if1 .left) (c .is-dual-feasible .ensures)
 
-pub exp-passes-spec : {M : Type 1} → statement M
-exp-passes-spec =
+pub exp-answer-spec : {M : Type 1} → statement M
+exp-answer-spec =
     tie.close (tie.spec (λ c κs. search needs) (λ c κs. search needs) returns returns-2)

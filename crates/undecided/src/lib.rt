@@ -1,0 +1,1 @@
+// Laws only: what the three answers of a cone test say. No code.

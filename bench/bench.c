@@ -38,6 +38,8 @@ void *rust_made(uint32_t numbers, const Inputs *);
 void rust_entry(uint32_t numbers, void *cones, uint32_t entry, const Inputs *, Outputs *);
 void rust_record(void *cones, size_t i, Scaling *record);
 uint32_t rust_search(uint32_t numbers, void *cones, size_t i, const double *dq, const double *q, double *point, const double *settings);
+typedef struct { uint64_t searches, tests, turned[2], steps; } Changed;
+void rust_changed(void *cones, const Inputs *, Changed *);
 uint64_t rust_calls(uint32_t kernel);
 const double *rust_arguments(uint32_t kernel);
 
@@ -600,15 +602,16 @@ static void stacks(void)
 
 static void usage(FILE *to)
 {
-    fprintf(to, "bench [--rounds N] [--runs N] [--seed N] [--only port|rust|own] [--brief]\n"
+    fprintf(to, "bench [--rounds N] [--runs N] [--seed N] [--only port|rust|own] [--brief] [--margins]\n"
                 "  --rounds  rounds of the plan (60)\n  --runs    the plan is run so often, and the least time of each entry taken (5)\n"
                 "  --seed    of cones, points and directions (1)\n  --only    this side alone, no tables: for a profiler\n"
-                "  --brief   totals and entries alone\n");
+                "  --brief   totals and entries alone\n"
+                "  --margins times nothing: how many trials of the plan are undecided where the Rust says yes or no, and how many steps change\n");
 }
 
 int main(int count, char **words)
 {
-    int rounds = 60, runs = 5, only = -1, brief = 0;
+    int rounds = 60, runs = 5, only = -1, brief = 0, margins = 0;
     for (int i = 1; i < count; i++) {
         const char *word = words[i], *value = i + 1 < count ? words[i + 1] : "";
         if (!strcmp(word, "--rounds") && atoi(value) > 0) rounds = atoi(words[++i]);
@@ -618,6 +621,7 @@ int main(int count, char **words)
         else if (!strcmp(word, "--only") && !strcmp(value, "rust")) only = RUST, i++;
         else if (!strcmp(word, "--only") && !strcmp(value, "own")) only = OWN, i++;
         else if (!strcmp(word, "--brief")) brief = 1;
+        else if (!strcmp(word, "--margins")) margins = 1;
         else { usage(stderr); return 2; }
     }
 
@@ -641,6 +645,18 @@ int main(int count, char **words)
             moved(&p);
             for (int entry = 0; entry < ENTRIES; entry++) run_entry(only, side, entry, &p.in, &out);
         }
+        return 0;
+    }
+
+    if (margins) {
+        void *rust = rust_made(0, &p.in);
+        Changed c = { 0, 0, { 0, 0 }, 0 };
+        for (int round = 0; round < rounds; round++) {
+            moved(&p);
+            rust_changed(rust, &p.in, &c);
+        }
+        printf("%llu searches, %llu tests; undecided now: yes %llu, no %llu; other steps %llu\n", (unsigned long long)c.searches, (unsigned long long)c.tests,
+               (unsigned long long)c.turned[0], (unsigned long long)c.turned[1], (unsigned long long)c.steps);
         return 0;
     }
 

@@ -1,4 +1,5 @@
-/* One cone's work in a round of a plan, from C: make a record, scale it, take the Hessian block, search a step, keep the search in a trace, and see a refusal.
+/* One cone's work in a round of a plan, from C: make a record, scale it, take the Hessian block, search a step, test a point, keep the search in a trace,
+   and see a refusal.
    Built and run by `sh build.sh`; on x86-64 also by
 
        cc -Iinclude examples/plan.c target/staticlib/libspindle.a && ./a.out */
@@ -36,6 +37,12 @@ int main(void) {
            steps.primal_step, (unsigned)steps.primal_count);
     row("  tested dual point =", dual_point, 3);
     row("  tested primal point =", primal_point, 3);
+
+    /* a point that a search hands back with a step above 0 tests as yes; on the cone's wall the sign of the residue is noise */
+    double wall[3] = {0, 1, 1};
+    static const char *const answers[] = {[SPINDLE_NO] = "no", [SPINDLE_YES] = "yes", [SPINDLE_UNDECIDED] = "undecided"};
+    printf("  feasible: the tested primal point %s, the point (0, 1, 1) %s\n", answers[spindle_is_primal_feasible(cone, primal_point, 3).answer],
+           answers[spindle_is_primal_feasible(cone, wall, 3).answer]);
 
     /* what a search was given and what it answered, as bytes for a file; flag 1: it ran with the house's settings */
     uint8_t bytes[400];

@@ -1,4 +1,4 @@
-//! One cone's work in a round of a plan: scale, take the Hessian block, search both steps and record the search, and see a refusal.
+//! One cone's work in a round of a plan: scale, take the Hessian block, search both steps, test a point, record the search, and see a refusal.
 use spindle::{Cone, Recorder, Refusal, Strategy, Trace};
 
 fn main() -> Result<(), Refusal> {
@@ -20,6 +20,9 @@ fn main() -> Result<(), Refusal> {
     let (d, p) = recorder.step_length(&cone, &dz, &ds, &z, &s, &mut dual, &mut primal, 1.0)?;
     println!("dual step {} after {} tests, at {dual:?}", d.step, d.tests);
     println!("primal step {} after {} tests, at {primal:?}", p.step, p.tests);
+
+    // a point that a search took tests as yes; on the wall of a cone a test is undecided
+    println!("tested: {:?}, on the wall: {:?}", cone.is_primal_feasible(&primal)?, cone.is_primal_feasible(&[1.0, 1.0, 0.6, 0.8])?);
 
     // what was recorded are bytes: they go into a file, and whoever reads that sees the search
     for record in Trace::open(recorder.bytes())? {

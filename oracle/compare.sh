@@ -9,6 +9,7 @@
 #        --seed S         other calls (1)
 #        --entry NAME     one entry alone, as update_scaling
 #        --vectors FILE   write the fixed list that crates/oracle_run replays, and compare nothing
+#        --margins N      count over N points at the wall and N searches what document 02's Order 5 changes, and compare nothing
 #
 # Exit status 0: every answer the same, or the list is written; 1: a difference, which is shown; 2: bad words, or it could not be built.
 set -eu
@@ -20,7 +21,7 @@ awaited=name
 for word in "$@"; do
     case $awaited:$word in
     name:--standin) ;;
-    name:--calls | name:--seed | name:--entry | name:--vectors) awaited=value ;;
+    name:--calls | name:--seed | name:--entry | name:--vectors | name:--margins) awaited=value ;;
     value:*) awaited=name ;;
     *) echo "compare: no such word: $word (try oracle/compare.sh --help)" >&2; exit 2 ;;
     esac

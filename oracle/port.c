@@ -12,7 +12,7 @@
 
 typedef struct { uint64_t len; double room[ROOM]; } Slice;
 typedef struct { uint32_t entry, option; Scaling record; Slice slices[SLICES]; double numbers[3]; } Call;
-typedef struct { uint32_t code, yes, counts[2]; double values[3]; Three three; Wide wide; Scaling record; } Reply;
+typedef struct { uint32_t code, answer, counts[2]; double values[3]; Three three; Wide wide; Scaling record; } Reply;
 
 _Static_assert(sizeof(Call) == 4 + 4 + sizeof(Scaling) + SLICES * (8 + 8 * ROOM) + 24, "Call is laid out as in types.rs");
 
@@ -24,8 +24,8 @@ void oracle_port(Call *call, Reply *reply)
     Settings settings = { call->numbers[0], call->numbers[1], call->numbers[2] };
     switch (call->entry) {
     case 0: { Updated r = spindle_fresh(cone); reply->code = r.code; reply->record = r.record; break; }
-    case 1: { YesNo r = spindle_is_primal_feasible(cone, IN(0)); reply->code = r.code; reply->yes = r.yes; break; }
-    case 2: { YesNo r = spindle_is_dual_feasible(cone, IN(0)); reply->code = r.code; reply->yes = r.yes; break; }
+    case 1: { Verdict r = spindle_is_primal_feasible(cone, IN(0)); reply->code = r.code; reply->answer = r.answer; break; }
+    case 2: { Verdict r = spindle_is_dual_feasible(cone, IN(0)); reply->code = r.code; reply->answer = r.answer; break; }
     case 3: { Number r = spindle_barrier_dual(cone, IN(0)); reply->code = r.code; reply->values[0] = r.value; break; }
     case 4: { DualGrad r = spindle_dual_grad_h(cone, IN(0)); reply->code = r.code; reply->three = r.three; reply->wide = r.wide; break; }
     case 5: { Settings r = spindle_house_settings(call->numbers[0]); reply->values[0] = r.start; reply->values[1] = r.step; reply->values[2] = r.smallest; break; }
@@ -41,7 +41,7 @@ void oracle_port(Call *call, Reply *reply)
         break;
     }
     case 8: reply->code = spindle_unit_initialization(cone, IN(0), IN(1)); break;
-    case 9: { YesNo r = spindle_rectify_equilibration(cone, IN(0), IN(1)); reply->code = r.code; reply->yes = r.yes; break; }
+    case 9: { YesNo r = spindle_rectify_equilibration(cone, IN(0), IN(1)); reply->code = r.code; reply->answer = r.yes; break; }
     case 10: reply->code = spindle_affine_ds(cone, IN(0), IN(1)); break;
     case 11: reply->code = spindle_ds_from_dz_offset(cone, IN(0), IN(1), IN(2)); break;
     case 12: {

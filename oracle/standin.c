@@ -55,23 +55,30 @@ static uint32_t bad_settings(Settings s)
     return !(s.start > 0) || !(s.step > 0 && s.step <= 0.99) || !(s.smallest >= 0x1p-1022) ? 4 : 0;
 }
 
-/* tests */
-static bool inside(const Cone *c, bool primal, const double *x)
+/* tests: 0 no, 1 yes, 2 undecided. Document 02, Order 5: "Yes if the residue is above the margin, no if it is below minus the margin or a sign test fails, else
+   undecided, NaN and infinite margins included." */
+static uint32_t told(double residue, double margin) { return residue > margin ? 1 : residue < -margin ? 0 : 2; }
+static uint32_t inside(const Cone *c, bool primal, const double *x)
 {
     if (c->kind == 1) {
-        if (primal) return x[2] > 0 && x[1] > 0 && x[1] * L(x[2] / x[1]) - x[0] > 0;
-        return x[2] > 0 && x[0] < 0 && (x[1] - x[0]) - x[0] * L(-x[2] / x[0]) > 0;
+        if (!(x[2] > 0 && (primal ? x[1] > 0 : x[0] < 0))) return 0;
+        double l = L(primal ? x[2] / x[1] : -x[2] / x[0]);
+        if (primal) return told(x[1] * l - x[0], 0x1p-40 * (x[1] * (1 + abs_(l)) + abs_(x[0])));
+        return told((x[1] - x[0]) - x[0] * l, 0x1p-40 * (abs_(x[1]) + abs_(x[0]) * (1 + abs_(l))));
     }
+    double e = 0, q;
     if (c->kind == 2) {
         double a = c->exps[0], b = 1 - a;
-        if (!(x[0] > 0 && x[1] > 0)) return false;
-        if (primal) return E(((2 * a) * L(x[0])) + ((2 * b) * L(x[1]))) - x[2] * x[2] > 0;
-        return E(((a * 2) * L(x[0] / a)) + ((b * L(x[1] / b)) * 2)) - x[2] * x[2] > 0;
+        if (!(x[0] > 0 && x[1] > 0)) return 0;
+        q = x[2] * x[2];
+        e = primal ? ((2 * a) * L(x[0])) + ((2 * b) * L(x[1])) : ((a * 2) * L(x[0] / a)) + ((b * L(x[1] / b)) * 2);
+    } else {
+        for (uint32_t i = 0; i < c->dim1; i++) if (!(x[i] > 0)) return 0;
+        for (uint32_t i = 0; i < c->dim1; i++) e = e + (2 * c->exps[i]) * L(primal ? x[i] : x[i] / c->exps[i]);
+        q = dot(x + c->dim1, x + c->dim1, c->dim2);
     }
-    double t = 0;
-    for (uint32_t i = 0; i < c->dim1; i++) if (!(x[i] > 0)) return false;
-    for (uint32_t i = 0; i < c->dim1; i++) t = t + (2 * c->exps[i]) * L(primal ? x[i] : x[i] / c->exps[i]);
-    return E(t) - dot(x + c->dim1, x + c->dim1, c->dim2) > 0;
+    e = E(e);
+    return told(e - q, 0x1p-30 * (e + q));
 }
 
 static double search(const Cone *c, bool primal, const double *dq, const double *q, double *point, Settings s, uint32_t *count)
@@ -82,7 +89,7 @@ static double search(const Cone *c, bool primal, const double *dq, const double 
     for (;;) {
         for (size_t i = 0; i < n; i++) point[i] = q[i] + a * dq[i];
         ++*count;
-        if (inside(c, primal, point)) return a;
+        if (inside(c, primal, point) == 1) return a;
         a = a * s.step;
         if (a < s.smallest) { for (size_t i = 0; i < n; i++) point[i] = q[i]; return 0; }
     }
@@ -258,14 +265,14 @@ static void block_mul(const double *h, const double *x, double *y)
 
 /* entries over a cone */
 Updated spindle_fresh(Cone c) { Updated u = { 0, no_record }; if (bad_cone(&c)) u.code = 1; else u.record.cone = c; return u; }
-static YesNo feasible(const Cone *c, bool primal, const double *x, size_t n)
+static Verdict feasible(const Cone *c, bool primal, const double *x, size_t n)
 {
-    YesNo r = { bad_cone(c) ? 1 : n != len(c) ? 2 : !fins(x, n) ? 3 : 0, false };
-    if (!r.code) r.yes = inside(c, primal, x);
+    Verdict r = { bad_cone(c) ? 1 : n != len(c) ? 2 : !fins(x, n) ? 3 : 0, 0 };
+    if (!r.code) r.answer = inside(c, primal, x);
     return r;
 }
-YesNo spindle_is_primal_feasible(Cone c, const double *s, size_t n) { return feasible(&c, true, s, n); }
-YesNo spindle_is_dual_feasible(Cone c, const double *z, size_t n) { return feasible(&c, false, z, n); }
+Verdict spindle_is_primal_feasible(Cone c, const double *s, size_t n) { return feasible(&c, true, s, n); }
+Verdict spindle_is_dual_feasible(Cone c, const double *z, size_t n) { return feasible(&c, false, z, n); }
 Number spindle_barrier_dual(Cone c, const double *z, size_t n)
 {
     Number r = { bad_cone(&c) ? 1 : n != len(&c) ? 2 : !fins(z, n) ? 3 : 0, 0 };

@@ -15,6 +15,8 @@ mod cones;
 mod solver;
 #[path = "../../oracle/src/types.rs"]
 mod types;
+#[path = "../../oracle/src/verdict.rs"]
+mod verdict;
 
 mod numbers;
 mod work;

@@ -1,7 +1,7 @@
 // One entry of a round over all cones of a plan, by the Rust text. `Inputs` and `Outputs` are laid out as in bench.c.
 
 use crate::algebra::FloatT;
-use crate::cones::nonsymmetric_common::{backtrack_search, SEEN};
+use crate::cones::nonsymmetric_common::{backtrack_search, SEEN, TESTED};
 use crate::cones::{
     expcone::ExponentialCone, genpowcone::GenPowerCone, powcone::PowerCone, Cone, CoreSettings, NonsymmetricCone, NonsymmetricNDCone,
     ScalingStrategy,
@@ -172,6 +172,47 @@ unsafe fn whole<T: FloatT, const ENTRY: u32>(cones: &mut [Any<T>], inputs: &Inpu
                 *outputs.barrier.add(i) = each!(cone, c => c.compute_barrier(z, s, dz, ds, number(alpha))).to_f64();
             }
         }
+    }
+}
+
+// What document 02's Order 5 changes.
+#[repr(C)]
+pub struct Changed {
+    searches: u64,
+    tests: u64,
+    // tests that the text says yes to, and no, and that are undecided now
+    turned: [u64; 2],
+    steps: u64,
+}
+
+// Adds a round's searches to the counts: each by the three answers of oracle/src/verdict.rs, and by the text's own yes or no.
+#[no_mangle]
+pub unsafe extern "C" fn rust_changed(cones: *mut u8, inputs: *const Inputs, counts: *mut Changed) {
+    let cones = &mut *(cones as *mut Vec<Any<f64>>);
+    let (inputs, counts) = (&*inputs, &mut *counts);
+    let [start, step, smallest] = inputs.settings;
+    let settings = CoreSettings { linesearch_backtrack_step: step, min_terminate_step_length: smallest };
+    for (i, cone) in cones.iter_mut().enumerate() {
+        let at = *inputs.at.add(i);
+        let n = *inputs.at.add(i + 1) - at;
+        let lent = |vector: *const f64| part::<f64>(vector, at, n);
+        let (dz, ds, z, s) = (lent(inputs.dz), lent(inputs.ds), lent(inputs.z), lent(inputs.s));
+        TESTED = Some((*inputs.cone.add(i), [false, true]));
+        SEEN.searches = 0;
+        SEEN.turned = [0; 2];
+        SEEN.contradicted = 0;
+        let now = each!(cone, c => c.step_length(dz, ds, z, s, &settings, start));
+        if SEEN.contradicted != 0 {
+            panic!("the residue of oracle/src/verdict.rs has another sign than the text's");
+        }
+        counts.searches += 2;
+        counts.tests += (SEEN.tests[0] + SEEN.tests[1]) as u64;
+        counts.turned[0] += SEEN.turned[0] as u64;
+        counts.turned[1] += SEEN.turned[1] as u64;
+        TESTED = None;
+        SEEN.searches = 0;
+        let before = each!(cone, c => c.step_length(dz, ds, z, s, &settings, start));
+        counts.steps += (now.0.to_bits() != before.0.to_bits()) as u64 + (now.1.to_bits() != before.1.to_bits()) as u64;
     }
 }
 

@@ -1,9 +1,10 @@
 // Calls that random numbers hardly make: exactly at a limit of the Rust, or one unit beside it.
 
-use crate::cases::{exponent, good_cone, multiplier, point, record, Where};
+use crate::cases::{coordinate, exponent, good_cone, multiplier, point, record, scaled, Where};
 use crate::expected::{expected, finite, length_of};
 use crate::random::*;
 use crate::types::*;
+use crate::verdict;
 
 pub fn case(random: &mut Random, entry: u32) -> Option<Call> {
     match entry {
@@ -16,8 +17,13 @@ pub fn case(random: &mut Random, entry: u32) -> Option<Call> {
             1 => tail_limit(random, entry),
             _ => small_tail(random, entry),
         },
-        IS_PRIMAL_FEASIBLE | IS_DUAL_FEASIBLE => Some(on_the_wall(random, entry)),
-        BACKTRACK_SEARCH => Some(counted_search(random)),
+        IS_PRIMAL_FEASIBLE | IS_DUAL_FEASIBLE => Some(match random.below(8) {
+            0 => on_the_wall(random, entry),
+            1 => vast_point(random, entry),
+            _ => at_a_margin(random, entry),
+        }),
+        BACKTRACK_SEARCH => Some(if random.chance(25) { counted_search(random) } else { search_at_a_margin(random, entry) }),
+        STEP_LENGTH => Some(search_at_a_margin(random, entry)),
         HIGHER_CORRECTION | COMBINED_DS_SHIFT => Some(flat_block(random, entry)),
         DUAL_GRAD_H => Some(zeta_limit(random)),
         _ => None,
@@ -145,6 +151,150 @@ fn on_the_wall(random: &mut Random, entry: u32) -> Call {
         x[n - 1] = 0.0;
     }
     call_of(entry, Scaling { cone, ..Scaling::ZERO }, &[&x[..n]])
+}
+
+// ---- the margins of document 02, Order 5
+
+// Writes a point whose residue is at its margin or at minus its margin, or a few units in the last place beside; hands back the coordinate
+// that was moved there.
+fn margin_point(random: &mut Random, cone: &Cone, dual: bool, out: &mut [f64]) -> usize {
+    let style = random.below(9);
+    let above = random.chance(50);
+    if cone.kind == 1 {
+        let (x, mut y) = (coordinate(random, style), coordinate(random, style));
+        if random.chance(20) {
+            y = x;
+        }
+        let unit = 1.0 / 1099511627776.0;
+        let product = x * ln(y / x);
+        let wall = if dual { -x - product } else { product };
+        let margin = unit * (x * (1.0 + size(ln(y / x))) + size(wall));
+        let at = if above == dual { wall + margin } else { wall - margin };
+        out.copy_from_slice(&if dual { [-x, at, y] } else { [at, x, y] });
+        if !dual && random.chance(10) {
+            // exactly the margin: with l = 0 and s2 = 1 it is 2^-40·(1 + 2^-40) at |s1| of that size
+            out.copy_from_slice(&[if above { -unit * (1.0 + unit) } else { unit * (1.0 + unit) }, 1.0, 1.0]);
+            let by = random.whole(-400, 400);
+            scaled(out, by);
+            return 0;
+        }
+        let moved = dual as usize;
+        out[moved] = random.beside(out[moved]);
+        return moved;
+    }
+    let heads = if cone.kind == 3 { cone.dim1 as usize } else { 2 };
+    for x in out.iter_mut() {
+        *x = 0.0;
+    }
+    for x in out[..heads].iter_mut() {
+        *x = coordinate(random, style);
+    }
+    // with a tail of 0 the residue is the exponential itself
+    let exponential = verdict::measured(cone, !dual, out).map_or(1.0, |(residue, _)| residue);
+    let unit = 1.0 / 1073741824.0;
+    let norm = root(if above { exponential * ((1.0 - unit) / (1.0 + unit)) } else { exponential * ((1.0 + unit) / (1.0 - unit)) });
+    let tail = &mut out[heads..];
+    if tail.len() > 1 && random.chance(60) {
+        for x in tail.iter_mut() {
+            *x = random.unit() * 2.0 - 1.0;
+        }
+    } else {
+        let at = random.below(tail.len());
+        tail[at] = random.sign();
+    }
+    let long = root(tail.iter().fold(0.0, |sum, &x| sum + x * x));
+    for x in tail.iter_mut() {
+        *x = *x / long * norm;
+    }
+    let moved = (heads..out.len()).fold(heads, |best, i| if size(out[i]) > size(out[best]) { i } else { best });
+    out[moved] = random.beside(out[moved]);
+    for x in out.iter_mut() {
+        if !finite(*x) {
+            *x = 1.0;
+        }
+    }
+    moved
+}
+
+fn at_a_margin(random: &mut Random, entry: u32) -> Call {
+    let kind = 1 + random.below(3) as u32;
+    let cone = good_cone(random, kind);
+    let n = length_of(&cone);
+    let mut x = [0.0; MOST];
+    margin_point(random, &cone, entry == IS_DUAL_FEASIBLE, &mut x[..n]);
+    call_of(entry, Scaling { cone, ..Scaling::ZERO }, &[&x[..n]])
+}
+
+// A finite point whose residue or margin overflows, or nearly: heads, tails, or both.
+fn vast_point(random: &mut Random, entry: u32) -> Call {
+    let kind = 1 + random.below(3) as u32;
+    let cone = good_cone(random, kind);
+    let n = length_of(&cone);
+    let heads = if kind == 3 { cone.dim1 as usize } else { 2 };
+    let vast = random.below(3);
+    let mut x = [0.0; MOST];
+    for (i, x) in x[..n].iter_mut().enumerate() {
+        let high = if vast == 2 { random.chance(50) } else { (i < heads) == (vast == 0) };
+        *x = if high { random.spread(505, 1023) } else { random.spread(-4, 4) };
+        if i >= heads {
+            *x *= random.sign();
+        }
+    }
+    if kind == 1 {
+        let high = random.below(3);
+        for (i, x) in x[..3].iter_mut().enumerate() {
+            *x = if i == high || random.chance(30) { random.spread(1000, 1023) } else { random.spread(-4, 4) };
+        }
+        x[if entry == IS_DUAL_FEASIBLE { 0 } else { 1 }] *= if entry == IS_DUAL_FEASIBLE { -1.0 } else { 1.0 };
+        x[if entry == IS_DUAL_FEASIBLE { 1 } else { 0 }] *= random.sign();
+    }
+    call_of(entry, Scaling { cone, ..Scaling::ZERO }, &[&x[..n]])
+}
+
+// Searches of which a trial has its residue at a margin, or of which the first trials overflow.
+fn search_at_a_margin(random: &mut Random, entry: u32) -> Call {
+    let kind = 1 + random.below(3) as u32;
+    let cone = good_cone(random, kind);
+    let n = length_of(&cone);
+    let overflows = random.chance(20);
+    let exponent = if overflows { random.whole(20, 120) } else { random.whole(-3, 3) };
+    let start = f64::from_bits(((exponent + 1023) as u64) << 52);
+    let step = random.pick(&[0.5, 0.5, 0.8, 0.25, 0.99]);
+    let smallest = if overflows { start * random.pick(&[0.25, 0.001, 1e-30]) } else { start * random.pick(&[0.5, 0.05, 0.0001]) };
+    let option = random.below(2) as u32;
+    let mut sides = [([0.0; MOST], [0.0; MOST]); 2];
+    for (side, (dq, q)) in sides.iter_mut().enumerate() {
+        // step_length: the dual side first
+        let dual = if entry == STEP_LENGTH { side == 0 } else { option == 0 };
+        if overflows {
+            point(random, &cone, dual, Where::Inside, &mut q[..n]);
+            for x in dq[..n].iter_mut() {
+                *x = if random.chance(50) { 0.0 } else { random.spread(880, 1023) * random.sign() };
+            }
+            continue;
+        }
+        let moved = margin_point(random, &cone, dual, &mut q[..n]);
+        if random.chance(60) {
+            let mut trial = start;
+            for _ in 0..random.below(4) {
+                trial *= step;
+            }
+            let by = random.spread(-45, 0) * random.sign();
+            dq[moved] = q[moved] * by;
+            q[moved] -= trial * dq[moved];
+        }
+    }
+    let record = Scaling { cone, ..Scaling::ZERO };
+    let [(dz, z), (ds, s)] = &sides;
+    let untouched = [1.0; MOST];
+    let mut call = if entry == STEP_LENGTH {
+        call_of(entry, record, &[&dz[..n], &ds[..n], &z[..n], &s[..n], &untouched[..n], &untouched[..n]])
+    } else {
+        call_of(entry, record, &[&dz[..n], &z[..n], &untouched[..n]])
+    };
+    call.option = if entry == STEP_LENGTH { 0 } else { option };
+    call.numbers = [start, step, smallest];
+    call
 }
 
 // Searches whose number of tests is known: none passes, or the last one does.

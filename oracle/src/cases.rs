@@ -28,7 +28,12 @@ pub fn case(random: &mut Random, only: Option<u32>) -> Case {
     if is_plain(entry) {
         return Case { call: plain_case(random, entry), flaws: 0, aimed: false };
     }
-    if random.below(1000) < 20 {
+    let share = match entry {
+        IS_PRIMAL_FEASIBLE | IS_DUAL_FEASIBLE => 250,
+        BACKTRACK_SEARCH | STEP_LENGTH => 100,
+        _ => 20,
+    };
+    if random.below(1000) < share {
         if let Some(call) = aimed::case(random, entry) {
             return Case { call, flaws: 0, aimed: true };
         }
@@ -229,7 +234,7 @@ pub fn place(random: &mut Random) -> Where {
 }
 
 // the sizes of a point's coordinates
-fn coordinate(random: &mut Random, style: usize) -> f64 {
+pub fn coordinate(random: &mut Random, style: usize) -> f64 {
     match style {
         0 => 0.25 * (1 + random.below(16)) as f64,
         1 => random.spread(-20, 20),
@@ -606,7 +611,7 @@ pub fn kind_of(random: &mut Random, entry: u32) -> u32 {
     1 + random.below(3) as u32
 }
 
-fn good_case(random: &mut Random, entry: u32) -> Call {
+pub fn good_case(random: &mut Random, entry: u32) -> Call {
     let kind = kind_of(random, entry);
     let cone = good_cone(random, kind);
     let n = length_of(&cone);

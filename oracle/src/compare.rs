@@ -2,7 +2,9 @@
 // with a call that it has made as small as it can.
 
 use crate::cases::{case, used, Case};
+use crate::cones::nonsymmetric_common::SEEN;
 use crate::expected::expected;
+use crate::margins;
 use crate::mutants;
 use crate::paper;
 use crate::random::Random;
@@ -28,7 +30,7 @@ fn ported(call: &Call) -> Answer {
 pub fn words(call: &Call, answer: &Answer, f: &mut dyn FnMut(&str, &str, usize, u64)) {
     let reply = &answer.reply;
     f("number", "", 0, reply.code as u64);
-    f("yes", "", 0, reply.yes as u64);
+    f("answer", "", 0, reply.answer as u64);
     for (i, &n) in reply.counts.iter().enumerate() {
         f("count", "", i, n as u64);
     }
@@ -312,6 +314,7 @@ const HELP: &str = "compare: the port against the Rust oracle, call by call, eve
   --seed S       which ones (default 1)
   --entry NAME   one entry only, as update_scaling
   --vectors FILE write the fixed list of calls with the oracle's answers, and compare nothing; with --calls N, N calls as they come
+  --margins N    N points at the wall and N searches, by the Rust's yes or no and by the three answers: what is undecided now, which steps change
   --mutants N    at most N calls of the oracle against oracles of changed Rust (mutants.py); 0: the fixed list's
   --help
 
@@ -325,6 +328,7 @@ struct Options {
     vectors: *const u8,
     // --calls was given
     chosen: Option<u64>,
+    margins: u64,
     mutants: u64,
     help: bool,
 }
@@ -353,7 +357,8 @@ fn whole_of(digits: &str) -> Option<u64> {
 }
 
 unsafe fn options(count: i32, words: *const *const u8) -> Option<Options> {
-    let mut all = Options { calls: 1_000_000, seed: 1, entry: None, vectors: core::ptr::null(), chosen: None, mutants: 0, help: false };
+    let mut all =
+        Options { calls: 1_000_000, seed: 1, entry: None, vectors: core::ptr::null(), chosen: None, margins: 0, mutants: 0, help: false };
     let mut i = 1;
     while i < count {
         let name = word(*words.add(i as usize));
@@ -375,6 +380,8 @@ unsafe fn options(count: i32, words: *const *const u8) -> Option<Options> {
             all.entry = Some(ENTRIES.iter().position(|e| e.name == value)? as u32);
         } else if name == "--vectors" {
             all.vectors = at;
+        } else if name == "--margins" {
+            all.margins = whole_of(value)?;
         } else if name == "--mutants" {
             all.mutants = whole_of(value)?;
         } else {
@@ -424,6 +431,9 @@ fn see_mutants(options: &Options) {
 // by entry, kind (0 for any other) and number
 type Tally = [[[u64; 8]; 4]; 24];
 
+// by side (primal first), kind and answer
+type Answers = [[[u64; 3]; 4]; 2];
+
 #[no_mangle]
 pub extern "C" fn oracle_main(count: i32, words: *const *const u8) -> i32 {
     let Some(options) = (unsafe { options(count, words) }) else {
@@ -440,6 +450,10 @@ pub extern "C" fn oracle_main(count: i32, words: *const *const u8) -> i32 {
     if !options.vectors.is_null() {
         return if vectors::write(options.vectors, options.seed, options.chosen) { 0 } else { 2 };
     }
+    if options.margins != 0 {
+        margins::count(options.margins, options.seed);
+        return 0;
+    }
     if !mutants::NAMES.is_empty() {
         see_mutants(&options);
         return 0;
@@ -448,6 +462,8 @@ pub extern "C" fn oracle_main(count: i32, words: *const *const u8) -> i32 {
     let mut pairs = [[0u64; 8]; 8];
     let mut rounds = [[0u64; 101]; 2];
     let mut tests = 0;
+    let mut answers: Answers = [[[0; 3]; 4]; 2];
+    let mut undecided = 0;
     let started = unsafe { seconds() };
     for i in 0..options.calls {
         let Case { call, flaws, .. } = case(&mut source(&options, i), options.entry);
@@ -478,6 +494,12 @@ pub extern "C" fn oracle_main(count: i32, words: *const *const u8) -> i32 {
         if call.entry == BACKTRACK_SEARCH && wanted.reply.counts[0] > tests {
             tests = wanted.reply.counts[0];
         }
+        if wanted.reply.code == 0 && (call.entry == IS_PRIMAL_FEASIBLE || call.entry == IS_DUAL_FEASIBLE) {
+            answers[(call.entry - IS_PRIMAL_FEASIBLE) as usize][kind][wanted.reply.answer as usize] += 1;
+        }
+        if wanted.reply.code == 0 && (call.entry == BACKTRACK_SEARCH || call.entry == STEP_LENGTH) {
+            undecided += unsafe { (SEEN.turned[0] + SEEN.turned[1]) as u64 };
+        }
         if i % 100_000 == 99_999 {
             say::whole(i + 1);
             say::text(" calls, ");
@@ -487,7 +509,8 @@ pub extern "C" fn oracle_main(count: i32, words: *const *const u8) -> i32 {
         }
     }
     say_tally(&tally, &pairs, &rounds, tests);
-    say::line("the oracle gives document 01's answers at its border points");
+    say_answers(&answers, undecided);
+    say::line("the oracle gives the documents' answers at the border points");
     say::text("same: ");
     say::whole(options.calls);
     say::text(" calls, seed ");
@@ -542,5 +565,23 @@ fn say_tally(tally: &Tally, pairs: &[[u64; 8]; 8], rounds: &[[u64; 101]; 2], tes
     }
     say::text("most tests of one search: ");
     say::whole(tests as u64);
+    say::line("");
+}
+
+fn say_answers(answers: &Answers, undecided: u64) {
+    for (side, kinds) in ["primal", "dual"].iter().zip(answers) {
+        for (kind, counts) in kinds.iter().enumerate().skip(1) {
+            say::text(side);
+            say::text(" feasibility of kind ");
+            say::whole(kind as u64);
+            for (words, &n) in [": no ", ", yes ", ", undecided "].iter().zip(counts) {
+                say::text(words);
+                say::whole(n);
+            }
+            say::line("");
+        }
+    }
+    say::text("undecided trials of searches: ");
+    say::whole(undecided);
     say::line("");
 }

@@ -55,11 +55,14 @@ mod text_of_003 {
     include!(concat!(env!("SPINDLE_RUST"), "/nonsymmetric_common.rs"));
 }
 
-// 003 under its own name, its two searches wrapped: the text stays as it is and is watched through its closures.
+// 003 under its own name, its two searches wrapped: the text stays as it is and is watched through its closures, of which a search's is
+// asked and then overruled (document 02, Order 5).
 pub(crate) mod nonsymmetric_common {
     use super::text_of_003 as text;
     pub(crate) use super::text_of_003::{Nonsymmetric3DCone, Nonsymmetric3DConeUtils, NonsymmetricCone, NonsymmetricNDCone};
     use crate::algebra::FloatT;
+    use crate::types::Cone;
+    use crate::verdict;
 
     // What the text does not hand back.
     pub(crate) struct Seen {
@@ -67,9 +70,28 @@ pub(crate) mod nonsymmetric_common {
         pub searches: usize,
         pub tests: [u32; 2],
         pub points: [[f64; crate::types::MOST]; 2],
+        // of the tests: yes by the text and undecided here, no and undecided, and those at which the text has another residue
+        pub turned: [u32; 2],
+        pub contradicted: u32,
     }
 
-    pub(crate) static mut SEEN: Seen = Seen { rounds: 0, searches: 0, tests: [0; 2], points: [[0.0; crate::types::MOST]; 2] };
+    pub(crate) static mut SEEN: Seen =
+        Seen { rounds: 0, searches: 0, tests: [0; 2], points: [[0.0; crate::types::MOST]; 2], turned: [0; 2], contradicted: 0 };
+
+    // The cone of the searches to come, and for each whether it is on the primal side: a trial then passes by verdict.rs. With none it passes
+    // by the text alone.
+    pub(crate) static mut TESTED: Option<(Cone, [bool; 2])> = None;
+
+    // Whether a trial of this search passes, of which the text says `text`.
+    fn passes<T: FloatT>(place: usize, point: &[T], text: bool) -> bool {
+        let seen = unsafe { &mut SEEN };
+        seen.tests[place] += 1;
+        let Some((cone, primal)) = (unsafe { &TESTED }) else { return text };
+        let answer = verdict::answer(cone, primal[place], point, text);
+        seen.turned[!text as usize] += (answer == verdict::UNDECIDED) as u32;
+        seen.contradicted += (answer == verdict::CONTRADICTED) as u32;
+        answer == verdict::YES
+    }
 
     // The text evaluates f1 once in each round.
     pub(crate) fn newton_raphson_onesided<T: FloatT>(x0: T, f0: impl Fn(T) -> T, f1: impl Fn(T) -> T) -> T {
@@ -91,10 +113,7 @@ pub(crate) mod nonsymmetric_common {
     ) -> T {
         let place = unsafe { SEEN.searches };
         unsafe { SEEN.tests[place] = 0 };
-        let is_in_cone = |point: &[T]| {
-            unsafe { SEEN.tests[place] += 1 };
-            is_in_cone_fcn(point)
-        };
+        let is_in_cone = |point: &[T]| passes(place, point, is_in_cone_fcn(point));
         let α = text::backtrack_search(dq, q, α_init, α_min, step, is_in_cone, work);
         // the point that was tested, or q where the step is zero
         let point: &[T] = if α == T::zero() { q } else { work };

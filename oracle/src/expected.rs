@@ -1,9 +1,10 @@
 // The one answer that document 01 allows to a call: its table of refusals around the Rust of 000 to 003.
 
-use super::cones::nonsymmetric_common::{backtrack_search, SEEN};
+use super::cones::nonsymmetric_common::{backtrack_search, SEEN, TESTED};
 use super::cones::{CoreSettings, Oracle, ScalingStrategy};
 use crate::algebra::VectorMath;
 use crate::types::*;
+use crate::verdict;
 
 extern "C" {
     // Runs f(arg); 1 if the text panicked in it, else 0.
@@ -169,6 +170,28 @@ fn finished(call: &Call, answer: &Answer) -> bool {
     }
 }
 
+// Searches pass as before Order 5: where the Rust says yes (margins.rs).
+pub static mut BY_THE_RUST: bool = false;
+
+// The searches to come pass by the three answers, on these sides of the cone.
+fn by_verdict(cone: &Cone, primal: [bool; 2]) {
+    unsafe {
+        TESTED = if BY_THE_RUST { None } else { Some((*cone, primal)) };
+        SEEN.searches = 0;
+        SEEN.turned = [0; 2];
+        SEEN.contradicted = 0;
+    }
+}
+
+// A search has no answer of its own: 0, unless the Rust and verdict.rs were not of one mind at a trial.
+fn contradicted() -> u32 {
+    if unsafe { SEEN.contradicted } == 0 {
+        0
+    } else {
+        verdict::CONTRADICTED
+    }
+}
+
 // A call that rows 1 to 5 let through, by the Rust.
 fn run(call: &Call, oracle: &mut Oracle, answer: &mut Answer) {
     let cone = call.record.cone;
@@ -181,8 +204,8 @@ fn run(call: &Call, oracle: &mut Oracle, answer: &mut Answer) {
             // "It also holds the cone it was made for, as given, and whether it was ever scaled (fresh: no, and all its numbers +0)"
             reply.record.cone = cone;
         }
-        IS_PRIMAL_FEASIBLE => reply.yes = oracle.nonsymmetric().is_primal_feasible(lent(0)) as u32,
-        IS_DUAL_FEASIBLE => reply.yes = oracle.nonsymmetric().is_dual_feasible(lent(0)) as u32,
+        IS_PRIMAL_FEASIBLE => reply.answer = verdict::answer(&cone, true, lent(0), oracle.nonsymmetric().is_primal_feasible(lent(0))),
+        IS_DUAL_FEASIBLE => reply.answer = verdict::answer(&cone, false, lent(0), oracle.nonsymmetric().is_dual_feasible(lent(0))),
         BARRIER_DUAL => reply.values[0] = oracle.nonsymmetric().barrier_dual(lent(0)),
         DUAL_GRAD_H => {
             // from a fresh record: the answer is this call's
@@ -196,21 +219,23 @@ fn run(call: &Call, oracle: &mut Oracle, answer: &mut Answer) {
         BACKTRACK_SEARCH => {
             let [start, step, smallest] = call.numbers;
             let mut work = [0.0; MOST];
-            unsafe { SEEN.searches = 0 };
+            by_verdict(&cone, [call.option == 1; 2]);
             let cone = oracle.nonsymmetric();
             let is_in_cone = |q: &[f64]| if call.option == 1 { cone.is_primal_feasible(q) } else { cone.is_dual_feasible(q) };
             reply.values[0] = backtrack_search(lent(0), lent(1), start, smallest, step, is_in_cone, &mut work[..n]);
             reply.counts[0] = unsafe { SEEN.tests[0] };
+            reply.answer = contradicted();
             slices[2].numbers_mut().copy_from_slice(unsafe { &SEEN.points[0][..n] });
         }
         STEP_LENGTH => {
             let [start, step, smallest] = call.numbers;
             let settings = CoreSettings { linesearch_backtrack_step: step, min_terminate_step_length: smallest };
-            unsafe { SEEN.searches = 0 };
+            by_verdict(&cone, [false, true]);
             let (dual, primal) = oracle.cone().step_length(lent(0), lent(1), lent(2), lent(3), &settings, start);
             reply.values[0] = dual;
             reply.values[1] = primal;
             reply.counts = unsafe { SEEN.tests };
+            reply.answer = contradicted();
             for side in 0..2 {
                 slices[4 + side].numbers_mut().copy_from_slice(unsafe { &SEEN.points[side][..n] });
             }
@@ -221,7 +246,7 @@ fn run(call: &Call, oracle: &mut Oracle, answer: &mut Answer) {
             slices[0].numbers_mut().copy_from_slice(&z[..n]);
             slices[1].numbers_mut().copy_from_slice(&s[..n]);
         }
-        RECTIFY_EQUILIBRATION => reply.yes = oracle.cone().rectify_equilibration(slices[0].numbers_mut(), lent(1)) as u32,
+        RECTIFY_EQUILIBRATION => reply.answer = oracle.cone().rectify_equilibration(slices[0].numbers_mut(), lent(1)) as u32,
         AFFINE_DS => oracle.cone().affine_ds(slices[0].numbers_mut(), lent(1)),
         DS_FROM_DZ_OFFSET => oracle.cone().Δs_from_Δz_offset(slices[0].numbers_mut(), lent(1), &mut [], lent(2)),
         UPDATE_SCALING => {

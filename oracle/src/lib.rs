@@ -14,6 +14,7 @@ mod cases;
 mod compare;
 mod cones;
 mod expected;
+mod margins;
 mod mutants;
 mod paper;
 mod random;
@@ -22,6 +23,7 @@ mod say;
 mod solver;
 mod types;
 mod vectors;
+mod verdict;
 
 use core::alloc::{GlobalAlloc, Layout};
 

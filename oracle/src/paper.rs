@@ -1,8 +1,10 @@
-// What document 01 says outright of single calls: "Points at the border", "Also run". The oracle itself is held to it before it judges the port.
+// What documents 01 and 02 say outright of single calls: "Points at the border", "Also run"; "Border cases b, d and f become undecided". The
+// oracle itself is held to it before it judges the port.
 
 use crate::expected::expected;
 use crate::say;
 use crate::types::*;
+use crate::verdict::{UNDECIDED, YES};
 
 const HALF: f64 = 0.5;
 
@@ -26,7 +28,7 @@ fn search(q: [f64; 3], dq: [f64; 3], settings: [f64; 3]) -> Call {
     Call { option: 1, numbers: settings, ..call(BACKTRACK_SEARCH, 1, &[dq, q, [9.0; 3]]) }
 }
 
-pub const ROWS: usize = 14;
+pub const ROWS: usize = 16;
 
 pub fn row(i: usize) -> (&'static str, Call) {
     match i {
@@ -44,7 +46,11 @@ pub fn row(i: usize) -> (&'static str, Call) {
         10 => ("k", search([-1.0, 1.0, 1.0], [0.0; 3], [0.1, 0.5, 0.25])),
         11 => ("l", search([-1.0, 1.0, 1.0], [0.0, -4.0, 0.0], [1.0, 0.5, 0.125])),
         12 => ("power block", call(DUAL_GRAD_H, 2, &[[HALF, HALF, 0.0]])),
-        _ => ("42 tests", search([0.0, -1.0, 1.0], [0.0; 3], [1.0, 0.8, 0.0001])),
+        13 => ("42 tests", search([0.0, -1.0, 1.0], [0.0; 3], [1.0, 0.8, 0.0001])),
+        // a finite point whose margin is infinite
+        14 => ("infinite margin", call(IS_PRIMAL_FEASIBLE, 2, &[[1.0, 1.0, 1e200]])),
+        // undecided does not pass: row b's point, tried three times
+        _ => ("undecided trials", search([0.0, 1.0, 1.0], [0.0; 3], [1.0, 0.5, 0.25])),
     }
 }
 
@@ -62,8 +68,8 @@ fn found(answer: &Answer, step: f64, count: u32, point: [f64; 3]) -> bool {
 fn keeps(i: usize, answer: &Answer) -> bool {
     let reply = &answer.reply;
     match i {
-        0 | 2 | 4 => reply.code == 0 && reply.yes == 1,
-        1 | 3 | 5 => reply.code == 0 && reply.yes == 0,
+        0 | 2 | 4 => reply.code == 0 && reply.answer == YES,
+        1 | 3 | 5 | 14 => reply.code == 0 && reply.answer == UNDECIDED,
         6 => reply.code == 7,
         7 => reply.code == 6,
         8 => reply.code == 0 && bits(&reply.three.grad, [1.0, -1.0, -2.0]) && bits(&reply.three.h_dual, [2.0, -0.0, 1.0, 1.0, 1.0, 3.0]),
@@ -71,7 +77,8 @@ fn keeps(i: usize, answer: &Answer) -> bool {
         10 => found(answer, 0.1, 1, [-1.0, 1.0, 1.0]),
         11 => found(answer, 0.125, 4, [-1.0, 0.5, 1.0]),
         12 => reply.code == 0 && bits(&reply.three.grad, [-3.0, -3.0, 0.0]) && bits(&reply.three.h_dual, [6.0, 0.0, 6.0, -0.0, -0.0, 2.0]),
-        _ => found(answer, 0.0, 42, [0.0, -1.0, 1.0]),
+        13 => found(answer, 0.0, 42, [0.0, -1.0, 1.0]),
+        _ => found(answer, 0.0, 3, [0.0, 1.0, 1.0]),
     }
 }
 
@@ -81,7 +88,7 @@ pub fn holds() -> bool {
     for i in 0..ROWS {
         let (name, call) = row(i);
         if !keeps(i, &expected(&call)) {
-            say::text("the oracle does not give document 01's answer: ");
+            say::text("the oracle does not give the documents' answer: ");
             say::line(name);
             all = false;
         }

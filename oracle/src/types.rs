@@ -113,7 +113,8 @@ impl Call {
 #[repr(C)]
 pub struct Reply {
     pub code: u32,
-    pub yes: u32,
+    // of a feasibility test NO, YES or UNDECIDED (verdict.rs), of an equilibration 1 for yes
+    pub answer: u32,
     pub counts: [u32; 2],
     pub values: [f64; 3],
     pub three: Three,
@@ -123,7 +124,7 @@ pub struct Reply {
 
 impl Reply {
     pub const ZERO: Reply =
-        Reply { code: 0, yes: 0, counts: [0; 2], values: [0.0; 3], three: Three::ZERO, wide: Wide::ZERO, record: Scaling::ZERO };
+        Reply { code: 0, answer: 0, counts: [0; 2], values: [0.0; 3], three: Three::ZERO, wide: Wide::ZERO, record: Scaling::ZERO };
 }
 
 // What a call leaves: its answer and every lent slice with the canaries beside it.

@@ -5,7 +5,7 @@
 //               n, then n exponents (the other places +0);
 //               scaled; n, then the n used numbers of the record passed, in order (0 for an entry that takes a cone);
 //               n, then n plain numbers; n, then n slices, each its length and its numbers as lent;
-//               number; yes; two counts; three values;
+//               number; answer; two counts; three values;
 //               scaled; n, then the n used numbers of the record, or gradient and block, handed back (0 for other entries);
 //               for each slice that is written its numbers afterwards
 //
@@ -111,7 +111,7 @@ fn record_of(call: &Call, answer: &Answer) -> Vec<u64> {
         list(&mut words, slice.numbers());
     }
     let reply = &answer.reply;
-    words.extend([reply.code as u64, reply.yes as u64, reply.counts[0] as u64, reply.counts[1] as u64]);
+    words.extend([reply.code as u64, reply.answer as u64, reply.counts[0] as u64, reply.counts[1] as u64]);
     words.extend(reply.values.iter().map(|x| x.to_bits()));
     match call.entry {
         DUAL_GRAD_H => record_list(&mut words, &Scaling { cone: *cone, scaled: false, three: reply.three, wide: reply.wide }, true),
@@ -133,6 +133,8 @@ const REFUSED: u32 = 2;
 const KERNEL: u32 = 25;
 // How many of one entry and number that are at a limit of the Rust.
 const LIMITS: u32 = 8;
+// How many of one feasibility entry, kind and answer.
+const ANSWERED: u32 = 6;
 // A record above this many words is rare, so that the list stays small.
 const LONG: usize = 90;
 
@@ -142,6 +144,7 @@ pub fn chosen(seed: u64, all: Option<u64>) -> Vec<(Call, Answer)> {
     let mut long = [[[0u32; 8]; 4]; 24];
     let mut rounds = [[0u32; 101]; 4];
     let mut limits = [[0u32; 8]; 24];
+    let mut answers = [[[0u32; 3]; 4]; 24];
     let mut list: Vec<(Call, Answer)> = Vec::new();
     for i in 0..paper::ROWS {
         let call = plain(paper::row(i).1);
@@ -167,7 +170,9 @@ pub fn chosen(seed: u64, all: Option<u64>) -> Vec<(Call, Answer)> {
         // each number of Newton's rounds a few times, and calls at a limit of the Rust
         let turns = &mut rounds[kind][answer.reply.counts[0].min(100) as usize];
         let limit = &mut limits[entry][code];
-        let more = call.entry == GRADIENT_PRIMAL && code == 0 && *turns < 4 || made.aimed && *limit < LIMITS;
+        let tested = code == 0 && (call.entry == IS_PRIMAL_FEASIBLE || call.entry == IS_DUAL_FEASIBLE);
+        let alike = &mut answers[entry][kind][answer.reply.answer as usize];
+        let more = call.entry == GRADIENT_PRIMAL && code == 0 && *turns < 4 || made.aimed && *limit < LIMITS || tested && *alike < ANSWERED;
         let most = match code {
             _ if call.entry >= SQRT => KERNEL,
             0 => DONE,
@@ -187,6 +192,7 @@ pub fn chosen(seed: u64, all: Option<u64>) -> Vec<(Call, Answer)> {
         }
         *cell += 1;
         *limit += made.aimed as u32;
+        *alike += 1;
         if call.entry == GRADIENT_PRIMAL {
             *turns += 1;
         }

@@ -1,6 +1,7 @@
 /* Replay through include/spindle.h, over libspindle.a or over oracle/traces.c and oracle/standin.c. See run.
    replay calls          searches of the three kinds recorded and replayed: all the same; each changed step or count differs, at its offset alone; what a search
-                         refuses differs; no room, bytes that are no trace, and places that must not move
+                         refuses differs; so does what a library before 0.6.0 answered to a trial that is undecided now; no room, bytes that are no trace, and
+                         places that must not move
    replay files FOLDER   writes traces there for the program replay, each beside the text that it must print
    Exit status 1: something did not hold; 2: bad usage, or a file cannot be written. */
 #include <inttypes.h>
@@ -51,6 +52,21 @@ static void record_all(void)
 {
     used = spindle_trace_create(bytes, sizeof bytes).length;
     for (size_t i = 0; i < RECORDS; i++) record(i);
+}
+
+/* Two records of one search, whose primal trials are 2^-42 times the step inside the wall: within the margin of document 02's Order 5. First what a library before
+   that answered, which took the start; then what is answered now: none of 42 trials passes. The dual side passes at the start by both. */
+static void record_old_and_new(void)
+{
+    static const Steps answers[2] = {{0, 1, 1, 1, 1}, {0, 1, 42, 1, 0}};
+    Cone cone = cones[0];
+    double z[3] = {-1, 0, 1}, dz[3] = {0, 0, 0}, s[3] = {0, 1, 1}, ds[3] = {-0x1p-42, 0, 0};
+    used = spindle_trace_create(changed, sizeof changed).length;
+    for (int i = 0; i < 2; i++) {
+        Written w = spindle_trace_append(changed, sizeof changed, used, cone, 1, spindle_house_settings(1.0), dz, 3, ds, 3, z, 3, s, 3, answers[i]);
+        expect(w.code == 0, "an append");
+        used = w.length;
+    }
 }
 
 /* ---- the calls */
@@ -107,6 +123,13 @@ static void calls(void)
     fill();
     expect(spindle_replay(changed, used, at, 4).differ == 4 && !memcmp(at, those, sizeof those) && untouched(4), "just room for the offsets");
 
+    size_t all = used;
+    record_old_and_new();
+    fill();
+    Replayed old = spindle_replay(changed, used, at, PLACES);
+    expect(old.code == 0 && old.records == 2 && old.same == 1 && old.differ == 1 && at[0] == 0 && untouched(1), "the old record differs, the new one does not");
+    used = all;
+
     memcpy(changed, bytes, used);
     for (size_t n = 0; n < used; n++) expect(refused(n, PLACES, 9), "a cut trace");
     changed[0] ^= 1;
@@ -149,6 +172,8 @@ static void files(const char *folder)
     pair(folder, "too-large", changed, 65537, "refused 8\n");
     used = spindle_trace_create(changed, sizeof changed).length;
     pair(folder, "empty", changed, used, "records 0\nsame 0\ndiffer 0\n");
+    record_old_and_new();
+    pair(folder, "before-order-5", changed, used, "records 2\nsame 1\ndiffer 1\nat 0\n");
     /* as many records as 65,536 bytes have room for, the largest trace that the program takes */
     uint32_t count = 0;
     for (begins[0] = 0, used = spindle_trace_create(bytes, 65536).length;; count++) {

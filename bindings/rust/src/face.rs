@@ -8,6 +8,14 @@ pub struct YesNo {
 }
 
 #[repr(C)]
+pub struct Verdict {
+    pub code: u32,
+    pub answer: u32,
+}
+
+const _: () = assert!(core::mem::size_of::<Verdict>() == 8);
+
+#[repr(C)]
 pub struct Number {
     pub code: u32,
     pub value: f64,
@@ -80,8 +88,8 @@ extern "C" {
     pub fn spindle_powf(x: f64, y: f64) -> f64;
 
     pub fn spindle_fresh(cone: Cone) -> Updated;
-    pub fn spindle_is_primal_feasible(cone: Cone, s: In, ns: usize) -> YesNo;
-    pub fn spindle_is_dual_feasible(cone: Cone, z: In, nz: usize) -> YesNo;
+    pub fn spindle_is_primal_feasible(cone: Cone, s: In, ns: usize) -> Verdict;
+    pub fn spindle_is_dual_feasible(cone: Cone, z: In, nz: usize) -> Verdict;
     pub fn spindle_barrier_dual(cone: Cone, z: In, nz: usize) -> Number;
     pub fn spindle_dual_grad_h(cone: Cone, z: In, nz: usize) -> DualGrad;
     pub fn spindle_house_settings(start: f64) -> Settings;

@@ -2,15 +2,18 @@
 //! proved to meet its contract.
 //!
 //! ```
-//! use spindle::{Cone, Settings};
+//! use spindle::{Answer, Cone, Settings};
 //!
 //! let cone = Cone::power(0.5)?;
 //! let (dq, q) = ([-1.0, 0.0, 0.0], [1.0, 1.0, 0.5]);
 //! let mut point = [0.0; 3];
 //! let found = cone.search_primal(&dq, &q, &mut point, Settings::house(1.0))?;
-//! assert!(found.step > 0.0 && cone.is_primal_feasible(&point)?);
+//! assert!(found.step > 0.0 && cone.is_primal_feasible(&point)? == Answer::Yes);
 //! # Ok::<(), spindle::Refusal>(())
 //! ```
+//!
+//! A test of feasibility answers yes, no or undecided ([`Answer`]): near the wall of a cone the sign of what it computes is noise. A search
+//! takes a point only on yes.
 //!
 //! A [`Recorder`] makes the same searches and keeps each in a trace, bytes that a [`Trace`] reads again, and replays: every search is run
 //! once more and compared with its record.
@@ -157,10 +160,40 @@ impl Default for Strategy {
     }
 }
 
+/// What a test of feasibility answers: whether the computed residue, which is above 0 inside the cone, is above its margin.
+///
+/// The margins are those of document 02's Order 5: with l the logarithm of the residue, 2^-40·(s2·(1+|l|)+|s1|) for the exponential cone and
+/// 2^-40·(|z2|+|z1|·(1+|l|)) for its dual; 2^-30·(e+q) for both power cones, whose residue is e-q.
+#[derive(Clone, Copy, Debug, PartialEq, Eq, Hash)]
+pub enum Answer {
+    /// The residue is below minus its margin, or a coordinate has the wrong sign.
+    No,
+    /// The residue is above its margin: the point passes.
+    Yes,
+    /// Neither. So is a point whose margin is infinite or no number.
+    Undecided,
+}
+
+impl Answer {
+    /// Whether the point passes, as the points that a search takes do.
+    pub fn is_yes(self) -> bool {
+        self == Answer::Yes
+    }
+
+    fn of(out: face::Verdict) -> Result<Answer, Refusal> {
+        Refusal::check(out.code)?;
+        Ok(match out.answer {
+            0 => Answer::No,
+            1 => Answer::Yes,
+            _ => Answer::Undecided,
+        })
+    }
+}
+
 /// What a search found.
 #[derive(Clone, Copy, Debug, PartialEq)]
 pub struct Found {
-    /// The first allowed trial whose point passed; 0 exactly if none did.
+    /// The first allowed trial whose point passed, its test's answer being [`Answer::Yes`]; 0 exactly if none did.
     pub step: f64,
     /// How many points were tested.
     pub tests: u32,
@@ -219,13 +252,21 @@ impl Cone {
     }
 
     /// Whether s is in the primal cone.
-    pub fn is_primal_feasible(&self, s: &[f64]) -> Result<bool, Refusal> {
-        yes_no(unsafe { face::spindle_is_primal_feasible(*self, s.as_ptr(), s.len()) })
+    ///
+    /// ```
+    /// use spindle::{Answer, Cone};
+    /// let cone = Cone::exponential();
+    /// assert_eq!(cone.is_primal_feasible(&[-1.0, 1.0, 1.0])?, Answer::Yes);
+    /// assert_eq!(cone.is_primal_feasible(&[0.0, 1.0, 1.0])?, Answer::Undecided); // on the wall itself
+    /// # Ok::<(), spindle::Refusal>(())
+    /// ```
+    pub fn is_primal_feasible(&self, s: &[f64]) -> Result<Answer, Refusal> {
+        Answer::of(unsafe { face::spindle_is_primal_feasible(*self, s.as_ptr(), s.len()) })
     }
 
     /// Whether z is in the dual cone.
-    pub fn is_dual_feasible(&self, z: &[f64]) -> Result<bool, Refusal> {
-        yes_no(unsafe { face::spindle_is_dual_feasible(*self, z.as_ptr(), z.len()) })
+    pub fn is_dual_feasible(&self, z: &[f64]) -> Result<Answer, Refusal> {
+        Answer::of(unsafe { face::spindle_is_dual_feasible(*self, z.as_ptr(), z.len()) })
     }
 
     /// The dual barrier at z.
@@ -240,7 +281,8 @@ impl Cone {
         Ok(DualGradient { three: out.three, wide: out.wide })
     }
 
-    /// The first allowed step for which q + step·dq lies in the primal cone; `point` becomes the tested point, or q for step 0.
+    /// The first allowed step for which the test of q + step·dq says [`Answer::Yes`] in the primal cone; `point` becomes the tested point, or
+    /// q for step 0. A point that is undecided does not pass.
     pub fn search_primal(&self, dq: &[f64], q: &[f64], point: &mut [f64], settings: Settings) -> Result<Found, Refusal> {
         self.search(true, dq, q, point, settings)
     }
@@ -302,7 +344,7 @@ impl Cone {
 
     /// Writes e's mean over each of its numbers, so that the whole cone is scaled by one.
     pub fn rectify_equilibration(&self, delta: &mut [f64], e: &[f64]) -> Result<(), Refusal> {
-        yes_no(unsafe { face::spindle_rectify_equilibration(*self, delta.as_mut_ptr(), delta.len(), e.as_ptr(), e.len()) }).map(|_| ())
+        Refusal::check(unsafe { face::spindle_rectify_equilibration(*self, delta.as_mut_ptr(), delta.len(), e.as_ptr(), e.len()) }.code)
     }
 
     /// Writes the affine step's ds, which is s.
@@ -482,11 +524,6 @@ impl face::Steps {
     fn found(&self) -> (Found, Found) {
         (Found { step: self.dual_step, tests: self.dual_count }, Found { step: self.primal_step, tests: self.primal_count })
     }
-}
-
-fn yes_no(out: face::YesNo) -> Result<bool, Refusal> {
-    Refusal::check(out.code)?;
-    Ok(out.yes)
 }
 
 fn number(out: face::Number) -> Result<f64, Refusal> {

@@ -1,5 +1,5 @@
 //! Every call once where it is done and once for each number that it can give, with untouched slices and records at a refusal.
-use spindle::{kernels, Cone, Refusal, Scaling, Settings, Strategy};
+use spindle::{kernels, Answer, Cone, Refusal, Scaling, Settings, Strategy};
 
 const UNTOUCHED: [f64; 6] = [11.0, 12.0, 13.0, 14.0, 15.0, 16.0];
 
@@ -44,17 +44,68 @@ fn cones_are_judged_when_they_are_made() {
 #[test]
 fn border_points() {
     let cone = exponential();
-    assert_eq!(cone.is_primal_feasible(&[-1.0, 1.0, 1.0]), Ok(true));
-    assert_eq!(cone.is_primal_feasible(&[0.0, 1.0, 1.0]), Ok(false));
-    assert_eq!(cone.is_dual_feasible(&[-1.0, 0.0, 1.0]), Ok(true));
-    assert_eq!(cone.is_dual_feasible(&[-1.0, -1.0, 1.0]), Ok(false));
-    assert_eq!(power().is_primal_feasible(&[1.0, 1.0, 0.0]), Ok(true));
-    assert_eq!(power().is_primal_feasible(&[1.0, 1.0, 1.0]), Ok(false));
+    assert_eq!(cone.is_primal_feasible(&[-1.0, 1.0, 1.0]), Ok(Answer::Yes));
+    assert_eq!(cone.is_primal_feasible(&[0.0, 1.0, 1.0]), Ok(Answer::Undecided));
+    assert_eq!(cone.is_dual_feasible(&[-1.0, 0.0, 1.0]), Ok(Answer::Yes));
+    assert_eq!(cone.is_dual_feasible(&[-1.0, -1.0, 1.0]), Ok(Answer::Undecided));
+    assert_eq!(power().is_primal_feasible(&[1.0, 1.0, 0.0]), Ok(Answer::Yes));
+    assert_eq!(power().is_primal_feasible(&[1.0, 1.0, 1.0]), Ok(Answer::Undecided));
     let dual = cone.dual_gradient(&[-1.0, 0.0, 1.0]).unwrap();
     assert_eq!(dual.three.grad, [1.0, -1.0, -2.0]);
     let mut g = [7.0; 3];
     assert_eq!(cone.scaling().gradient_primal(&mut g, &[2.0, 1.0, 1.0]), Err(Refusal::OutOfRange));
     assert_eq!(g, [7.0; 3]);
+}
+
+/// Both sides of each margin, a failed sign, and a margin that is infinite.
+#[test]
+fn margins_part_the_answers() {
+    use Answer::{No, Undecided, Yes};
+    // with s2 = s3 = 1 the logarithm is 0: the residue is -s1 and its margin 2^-40·(1 + |s1|); at 2^-40·(1 + 2^-40) the two are equal
+    let unit = 2f64.powi(-40);
+    let border = unit * (1.0 + unit);
+    let next = |x: f64| f64::from_bits(x.to_bits() + 1);
+    let cone = exponential();
+    for (s1, answer) in [(-next(border), Yes), (-border, Undecided), (border, Undecided), (next(border), No)] {
+        assert_eq!(cone.is_primal_feasible(&[s1, 1.0, 1.0]), Ok(answer), "s1 {s1}");
+    }
+    // at -z1 = z3 = 1 the dual residue is z2 + 1 and its margin 2^-40·(|z2| + 1), near 2^-39
+    for (by, answer) in [(2.1, Yes), (1.9, Undecided), (0.0, Undecided), (-1.9, Undecided), (-2.1, No)] {
+        assert_eq!(cone.is_dual_feasible(&[-1.0, -1.0 + by * unit, 1.0]), Ok(answer), "{by} units");
+    }
+    // with heads 1 (on the dual side: the exponents) the exponential is 1: the residue is 1 - q and its margin 2^-30·(1 + q), near 2^-29
+    let unit = 2f64.powi(-30);
+    for (by, answer) in [(2.1, Yes), (1.9, Undecided), (0.0, Undecided), (-1.9, Undecided), (-2.1, No)] {
+        let tail = (1.0 - by * unit).sqrt();
+        assert_eq!(power().is_primal_feasible(&[1.0, 1.0, tail]), Ok(answer), "{by} units");
+        assert_eq!(power().is_dual_feasible(&[0.5, 0.5, -tail]), Ok(answer), "{by} units");
+        assert_eq!(generalized().is_primal_feasible(&[1.0, 1.0, 0.8 * tail, 0.6 * tail]), Ok(answer), "{by} units");
+        assert_eq!(generalized().is_dual_feasible(&[0.25, 0.75, 0.6 * tail, -0.8 * tail]), Ok(answer), "{by} units");
+    }
+    assert_eq!(cone.is_primal_feasible(&[-1.0, 0.0, 1.0]), Ok(No));
+    assert_eq!(cone.is_dual_feasible(&[0.0, 5.0, 1.0]), Ok(No));
+    assert_eq!(power().is_primal_feasible(&[1.0, -1.0, 1.0]), Ok(No));
+    assert_eq!(generalized().is_dual_feasible(&[0.0, 1.0, 0.0, 0.0]), Ok(No));
+    assert_eq!(power().is_primal_feasible(&[1.0, 1.0, 1e200]), Ok(Undecided));
+    assert_eq!(power().is_primal_feasible(&[1e300, 1e300, 0.0]), Ok(Undecided));
+    assert!(Yes.is_yes() && !No.is_yes() && !Undecided.is_yes());
+}
+
+/// A search passes over trials that are undecided, as it does over those that are outside.
+#[test]
+fn undecided_does_not_pass() {
+    let settings = Settings { start: 1.0, step: 0.5, smallest: 0.25 };
+    let mut point = [0.0; 3];
+    // the residue of each trial is a quarter, an eighth, a sixteenth of 2^-40: above 0, and within the margin
+    let found = exponential().search_primal(&[-(2f64.powi(-42)), 0.0, 0.0], &[0.0, 1.0, 1.0], &mut point, settings).unwrap();
+    assert_eq!((found.step, found.tests, point), (0.0, 3, [0.0, 1.0, 1.0]));
+    // the first trial is on the wall, the second inside
+    let found = exponential().search_primal(&[1.0, 0.0, 0.0], &[-1.0, 1.0, 1.0], &mut point, settings).unwrap();
+    assert_eq!((found.step, found.tests, point), (0.5, 2, [-0.5, 1.0, 1.0]));
+    // a trial that overflows is undecided, though the Rust's test takes it: its residue is +infinity
+    let far = Settings { start: 4.0, step: 0.25, smallest: 0.5 };
+    let found = exponential().search_primal(&[-f64::MAX, 0.0, 0.0], &[-1.0, 1.0, 1.0], &mut point, far).unwrap();
+    assert_eq!((found.step, found.tests, point), (1.0, 2, [-f64::MAX, 1.0, 1.0]));
 }
 
 #[test]

@@ -40,7 +40,9 @@ pub record NoFault (f : Faults) : Type 0 where
   pub length : f .length ≡ false
   pub number : f .number ≡ false
   pub setting : f .setting ≡ false
+  pub spent : f .spent ≡ false
   pub unscaled : f .unscaled ≡ false
+  pub serial : f .serial ≡ false
 
 -- a row of the table that gives 0 did not apply, nor did those below it
 row-off : (bad : Bool) (number rest : ℕ) → 0 < number → cond bad number rest ≡ 0 → (bad ≡ false) × (rest ≡ 0)
@@ -54,8 +56,18 @@ no-fault f e₁ =
     let below₂ = row-off (f .length) 2 _ (omega arith) (below₁ .1) in
     let below₃ = row-off (f .number) 3 _ (omega arith) (below₂ .1) in
     let below₄ = row-off (f .setting) 4 _ (omega arith) (below₃ .1) in
-    let below₅ = row-off (f .unscaled) 5 0 (omega arith) (below₄ .1) in
-    record { cone = below₁ .0; length = below₂ .0; number = below₃ .0; setting = below₄ .0; unscaled = below₅ .0 }
+    let below₁₁ = row-off (f .spent) 11 _ (omega arith) (below₄ .1) in
+    let below₅ = row-off (f .unscaled) 5 _ (omega arith) (below₁₁ .1) in
+    let below₁₀ = row-off (f .serial) 10 0 (omega arith) (below₅ .1) in
+    record {
+      cone = below₁ .0;
+      length = below₂ .0;
+      number = below₃ .0;
+      setting = below₄ .0;
+      spent = below₁₁ .0;
+      unscaled = below₅ .0;
+      serial = below₁₀ .0;
+    }
 
 -- the same of a call on a trace
 pub trace-row-off : (broken full : Bool) → traceRow broken full ≡ 0 → (broken ≡ false) × (full ≡ false)

@@ -1,5 +1,5 @@
 -- A record that was never scaled, one in the making, and the house defaults. Definitions only.
-use mathlib.Core.Bool.{Bool, true, false}
+use mathlib.Core.Bool.{Bool}
 use Prim.Native.Nat.{ℕ}
 use lib.Ieee.{Float}
 use lib.ListN.{replicate}
@@ -33,13 +33,15 @@ noWide = record {
   d2 = #0;
 }
 
--- 01: "It also holds the cone it was made for, as given, and whether it was ever scaled (fresh: no, and all its numbers +0)"
+-- 01: "It also holds the cone it was made for, as given, and whether it was ever scaled (fresh: no, and all its numbers +0)".
+-- 02, Order 6: "Put a serial into the scaling record: 0 when fresh"
 unfoldable pub freshOf : Cone → Scaling
-freshOf c = record { cone = c; scaled = false; three = noThree; wide = noWide }
+freshOf c = record { cone = c; scaled = 0; serial = 0; three = noThree; wide = noWide }
 
--- a record in the making: it keeps the cone, and it was scaled
+-- a record in the making: it keeps the cone, and it was scaled; the update that completes it gives it its serial
 abbrev pub attemptOf : Cone → Bool → Three → Wide → Attempt
-attemptOf c panics three wide = record { panics = panics; scaling = record { cone = c; scaled = true; three = three; wide = wide } }
+attemptOf c panics three wide =
+    record { panics = panics; scaling = record { cone = c; scaled = 1; serial = 0; three = three; wide = wide } }
 
 -- 01: "House defaults: step 0.8, smallest step 0.0001, strategy primal-dual"
 abbrev pub houseSettings : Float → Settings

@@ -18,6 +18,7 @@ use Rattle.cone.specs.declared.refusal.Faults.{Faults}
 use Rattle.cone.specs.Judges.{coneOk, allFinite, recordFinite, settingsOk, strategyOk}
 
 -- 01: "Only the first in this order is given." The order of the table, for what can be wrong with a call's arguments; 0 is "done".
+-- 02, Order 6: "10 if the serial differs, after 5; 11 for an update at serial 4,294,967,295, after 4 and before 6."
 -- 6 and 7 are given on the way to an answer, below.
 unfoldable pub firstRow : Faults → ℕ
 firstRow f =
@@ -25,8 +26,10 @@ firstRow f =
     (cond (f .length) 2
     (cond (f .number) 3
     (cond (f .setting) 4
+    (cond (f .spent) 11
     (cond (f .unscaled) 5
-    0))))
+    (cond (f .serial) 10
+    0))))))
 
 -- 02, Order 1: "Refusals, the only ones here: 9 a trace or record that breaks the layout; then 8 no room for record plus list plus trailer, or 4,096
 -- records already. Both follow 4."
@@ -59,9 +62,20 @@ badSettings s = not (settingsOk s)
 abbrev pub badStrategy : ℕ → Bool
 badStrategy k = not (strategyOk k)
 
--- 5: "record never scaled"
+-- 11: "an update at serial 4,294,967,295"
+abbrev pub lastSerial : ℕ
+lastSerial = 4294967295
+
+abbrev pub isSpent : Scaling → Bool
+isSpent s = eqb (s .serial) lastSerial
+
+-- 5: "record never scaled"; any bytes may arrive, and every value but 0 is a yes
 abbrev pub neverScaled : Scaling → Bool
-neverScaled s = not (s .scaled)
+neverScaled s = eqb (s .scaled) 0
+
+-- 10: "if the serial differs" from the one that the call expects
+abbrev pub otherSerial : ℕ → Scaling → Bool
+otherSerial expected s = not (eqb (s .serial) expected)
 
 -- ---- what a call leaves
 

@@ -50,11 +50,13 @@ pub struct Wide {
     pub d2: f64,
 }
 
-// A scaling record, with the cone that it was made for and whether it was ever scaled.
+// A scaling record, with the cone that it was made for, whether it was ever scaled (0 is no, every other value yes, so that any bytes of a
+// record have one meaning), and how many updates it has completed.
 #[repr(C)]
 pub struct Scaling {
     pub cone: Cone,
-    pub scaled: bool,
+    pub scaled: u32,
+    pub serial: u32,
     pub three: Three,
     pub wide: Wide,
 }
@@ -118,6 +120,9 @@ pub const DUAL: u32 = 1;
 
 pub const PRIMAL_DUAL: u32 = 2;
 
+// The last serial: a record that has it is updated no more.
+pub const LAST_SERIAL: u32 = 4294967295;
+
 // The cone of a refused `fresh`.
 pub fn empty_cone() -> Cone
     ensures { λ r. ⌜ r ≡ emptyCone ⌝ }
@@ -164,19 +169,21 @@ pub fn fresh(cone: Cone) -> Scaling
     let wide = no_wide();
     Scaling {
         cone,
-        scaled: false,
+        scaled: 0,
+        serial: 0,
         three,
         wide,
     }
 }
 
-// A record that was scaled, in the making.
+// A record that was scaled, in the making: it has no serial yet.
 pub fn attempted(cone: Cone, panics: bool, three: Three, wide: Wide) -> Attempt
     ensures { λ r. ⌜ r ≡ attemptOf cone panics three wide ⌝ }
 {
     let scaling = Scaling {
         cone,
-        scaled: true,
+        scaled: 1,
+        serial: 0,
         three,
         wide,
     };

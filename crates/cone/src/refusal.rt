@@ -11,13 +11,15 @@ use crate::judge::record_finite;
 use double::is_finite;
 
 // What is wrong with a call's arguments, a row of the table each: the cone, a slice's length, a number, the settings or the strategy, a
-// record that was never scaled.
+// record that has no further serial, one that was never scaled, one of another serial than the caller's.
 pub struct Faults {
     pub cone: bool,
     pub length: bool,
     pub number: bool,
     pub setting: bool,
+    pub spent: bool,
     pub unscaled: bool,
+    pub serial: bool,
 }
 
 // The table: the number of the first row that applies, and 0 where none does.
@@ -36,8 +38,14 @@ pub fn first_row(faults: Faults) -> u32
     if faults.setting {
         return 4;
     }
+    if faults.spent {
+        return 11;
+    }
     if faults.unscaled {
         return 5;
+    }
+    if faults.serial {
+        return 10;
     }
     0
 }

@@ -11,7 +11,16 @@ use Rattle.cone.specs.Refusals.{firstRow, badCone, otherLength, notFinite}
 
 -- fresh
 unfoldable pub freshFaults : Cone → Faults
-freshFaults c = record { cone = badCone c; length = false; number = false; setting = false; unscaled = false }
+freshFaults c =
+    record {
+      cone = badCone c;
+      length = false;
+      number = false;
+      setting = false;
+      spent = false;
+      unscaled = false;
+      serial = false;
+    }
 
 abbrev pub freshRows : Cone → ℕ
 freshRows c = firstRow (freshFaults c)
@@ -19,7 +28,15 @@ freshRows c = firstRow (freshFaults c)
 -- is_primal_feasible, is_dual_feasible, barrier_dual, update_dual_grad_H
 unfoldable pub readFaults : Cone → List Float → Faults
 readFaults c s =
-    record { cone = badCone c; length = otherLength (numelOf c) s; number = notFinite s; setting = false; unscaled = false }
+    record {
+      cone = badCone c;
+      length = otherLength (numelOf c) s;
+      number = notFinite s;
+      setting = false;
+      spent = false;
+      unscaled = false;
+      serial = false;
+    }
 
 abbrev pub readRows : Cone → List Float → ℕ
 readRows c s = firstRow (readFaults c s)
@@ -30,7 +47,15 @@ readRows c s = firstRow (readFaults c s)
 unfoldable pub unitFaults : Cone → ℕ → ℕ → Faults
 unitFaults c z s =
     let n = numelOf c in
-    record { cone = badCone c; length = not (eqb z n) || not (eqb s n); number = false; setting = false; unscaled = false }
+    record {
+      cone = badCone c;
+      length = not (eqb z n) || not (eqb s n);
+      number = false;
+      setting = false;
+      spent = false;
+      unscaled = false;
+      serial = false;
+    }
 
 abbrev pub unitRows : Cone → ℕ → ℕ → ℕ
 unitRows c z s = firstRow (unitFaults c z s)
@@ -44,7 +69,9 @@ copyFaults c out s =
       length = not (eqb out n) || otherLength n s;
       number = notFinite s;
       setting = false;
+      spent = false;
       unscaled = false;
+      serial = false;
     }
 
 abbrev pub copyRows : Cone → ℕ → List Float → ℕ
@@ -59,7 +86,9 @@ offsetFaults c out ds z =
       length = not (eqb out n) || otherLength n ds || otherLength n z;
       number = not (allFinite ds && allFinite z);
       setting = false;
+      spent = false;
       unscaled = false;
+      serial = false;
     }
 
 abbrev pub offsetRows : Cone → ℕ → List Float → List Float → ℕ

@@ -17,7 +17,9 @@ pub fn fresh_rows(cone: Cone) -> u32
         length: false,
         number: false,
         setting: false,
+        spent: false,
         unscaled: false,
+        serial: false,
     })
 }
 
@@ -31,7 +33,9 @@ pub fn read_rows(cone: Cone, s: &[f64]) -> u32
         length: s.len() != n,
         number: !all_finite(s),
         setting: false,
+        spent: false,
         unscaled: false,
+        serial: false,
     })
 }
 
@@ -44,7 +48,9 @@ pub fn unit_rows(cone: Cone, z: usize, s: usize) -> u32
         length: (z != n) | (s != n),
         number: false,
         setting: false,
+        spent: false,
         unscaled: false,
+        serial: false,
     })
 }
 
@@ -58,7 +64,9 @@ pub fn copy_rows(cone: Cone, out: usize, s: &[f64]) -> u32
         length: (out != n) | (s.len() != n),
         number: !all_finite(s),
         setting: false,
+        spent: false,
         unscaled: false,
+        serial: false,
     })
 }
 
@@ -71,6 +79,8 @@ pub fn offset_rows(cone: Cone, out: usize, ds: &[f64], z: &[f64]) -> u32
         length: (out != n) | (ds.len() != n) | (z.len() != n),
         number: !(all_finite(ds) & all_finite(z)),
         setting: false,
+        spent: false,
         unscaled: false,
+        serial: false,
     })
 }

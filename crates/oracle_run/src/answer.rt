@@ -51,8 +51,9 @@ pub fn told(code: u32) -> bool {
 // The list hands back no record here.
 pub fn no_record() -> bool {
     let scaled = word() == 0;
+    let serial = word() == 0;
     let count = word() == 0;
-    scaled & count
+    scaled & serial & count
 }
 
 fn same_three(three: Three, used: bool) -> bool {
@@ -125,10 +126,11 @@ fn same_cone(a: Cone, b: Cone) -> bool {
 
 // The record handed back, whole; its cone is the one given.
 pub fn same_record(record: Scaling, cone: Cone) -> bool {
-    let scaled = (word() != 0) == record.scaled;
+    let scaled = word() == record.scaled as u64;
+    let serial = word() == record.serial as u64;
     let kept = record.cone;
     let three = record.three;
     let wide = record.wide;
     let numbers = numbers_of(cone, three, wide);
-    same_cone(kept, cone) & numbers & scaled
+    same_cone(kept, cone) & numbers & scaled & serial
 }

@@ -86,7 +86,7 @@ pub fn dual_grad_h(cone: Cone) -> bool {
     let three = r.three;
     let wide = r.wide;
     let answer = reply(r.code, 0, [0; 2], [0.0; 3]);
-    let unscaled = crate::input::word() == 0;
+    let unscaled = (crate::input::word() == 0) & (crate::input::word() == 0);
     let all = numbers_of(cone, three, wide);
     answer & unscaled & all
 }
@@ -256,27 +256,27 @@ pub fn compute_barrier(record: Scaling, given: [f64; 64]) -> bool {
     valued(r.code, r.value)
 }
 
-pub fn get_hs(record: Scaling) -> bool {
+pub fn get_hs(record: Scaling, serial: u32) -> bool {
     let n = count();
     let mut block = numbers(n);
-    let code = record_entries::get_hs(record, &mut block[..n]);
+    let code = record_entries::get_hs(record, serial, &mut block[..n]);
     let answer = told(code);
     let slice = same_places(block, n);
     answer & slice
 }
 
-pub fn mul_hs(record: Scaling) -> bool {
+pub fn mul_hs(record: Scaling, serial: u32) -> bool {
     let ny = count();
     let mut y = numbers(ny);
     let nx = count();
     let x = numbers(nx);
-    let code = record_entries::mul_hs(record, &mut y[..ny], head(&x, nx));
+    let code = record_entries::mul_hs(record, serial, &mut y[..ny], head(&x, nx));
     let answer = told(code);
     let slice = same_places(y, ny);
     answer & slice
 }
 
-pub fn higher_correction(record: Scaling) -> bool {
+pub fn higher_correction(record: Scaling, serial: u32) -> bool {
     let ne = count();
     let mut eta = numbers(ne);
     let nds = count();
@@ -285,6 +285,7 @@ pub fn higher_correction(record: Scaling) -> bool {
     let v = numbers(nv);
     let code = record_entries::higher_correction(
         record,
+        serial,
         &mut eta[..ne],
         head(&ds, nds),
         head(&v, nv),
@@ -294,7 +295,7 @@ pub fn higher_correction(record: Scaling) -> bool {
     answer & slice
 }
 
-pub fn combined_ds_shift(record: Scaling, given: [f64; 64]) -> bool {
+pub fn combined_ds_shift(record: Scaling, serial: u32, given: [f64; 64]) -> bool {
     let nsh = count();
     let mut shift = numbers(nsh);
     let nsz = count();
@@ -303,6 +304,7 @@ pub fn combined_ds_shift(record: Scaling, given: [f64; 64]) -> bool {
     let steps = numbers(nss);
     let code = record_entries::combined_ds_shift(
         record,
+        serial,
         &mut shift[..nsh],
         head(&stepz, nsz),
         head(&steps, nss),

@@ -137,7 +137,8 @@ fn wide_of(dim1: usize, dim2: usize, n: usize) -> Wide {
 
 // The record that is passed: fresh where the list names no numbers.
 pub fn record(cone: Cone) -> Scaling {
-    let scaled = word() != 0;
+    let scaled = short();
+    let serial = short();
     let n = word();
     let kind = cone.kind;
     let mut three = cone::no_three();
@@ -156,6 +157,7 @@ pub fn record(cone: Cone) -> Scaling {
     Scaling {
         cone,
         scaled,
+        serial,
         three,
         wide,
     }

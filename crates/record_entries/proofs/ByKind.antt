@@ -11,7 +11,7 @@ use lib.ListN.{length}
 use borrow.Author.Tests.{eq-eqb, ne-eqb, eqb-true, eqb-false}
 use Rattle.cone.specs.declared.Scaling.{Scaling}
 use Rattle.cone.specs.Judges.{coneOk, threeOk, allFinite}
-use Rattle.cone.specs.Refusals.{firstRow, otherLength, judgedOf}
+use Rattle.cone.specs.Refusals.{firstRow, otherLength, neverScaled, otherSerial, judgedOf}
 use Rattle.cone.proofs.Lengths.{cone-wide, cone-3D, record-wide, record-3D, numel-wide, numel-3D, block-wide, block-3D}
 use Rattle.kinds.specs.Cones.{alphaOf}
 use Rattle.record_three.specs.Entries as three
@@ -39,13 +39,17 @@ module _ (r : Scaling) (k : r .cone .kind ≡ 3 → ⊥) where
   unfolding three.computeBarrierOf three.rowsOf computeBarrierOf combinedBarrierOf computeRows
   compute-barrier-3D z s dz ds step = simp (ne-eqb _ _ k, cone-3D (r .cone) k, numel-3D (r .cone) k, record-3D r k)
 
-  pub get-hs-3D : (block : List Float) → three.getHsOf (r .cone .kind) (alphaOf (r .cone)) (r .scaled) (r .three) block ≡ getHsOf r block
+  pub get-hs-3D
+      : (serial : ℕ) (block : List Float)
+      → three.getHsOf (r .cone .kind) (alphaOf (r .cone)) (neverScaled r) (otherSerial serial r) (r .three) block ≡ getHsOf r serial block
   unfolding three.getHsOf three.rowsOf getHsOf blockRows
-  get-hs-3D block = simp (ne-eqb _ _ k, cone-3D (r .cone) k, block-3D (r .cone) k, record-3D r k)
+  get-hs-3D serial block = simp (ne-eqb _ _ k, cone-3D (r .cone) k, block-3D (r .cone) k, record-3D r k)
 
-  pub mul-hs-3D : (y x : List Float) → three.mulHsOf (r .cone .kind) (alphaOf (r .cone)) (r .scaled) (r .three) y x ≡ mulHsOf r y x
+  pub mul-hs-3D
+      : (serial : ℕ) (y x : List Float)
+      → three.mulHsOf (r .cone .kind) (alphaOf (r .cone)) (neverScaled r) (otherSerial serial r) (r .three) y x ≡ mulHsOf r serial y x
   unfolding three.mulHsOf three.rowsOf mulHsOf productRows
-  mul-hs-3D y x = simp (ne-eqb _ _ k, cone-3D (r .cone) k, numel-3D (r .cone) k, record-3D r k)
+  mul-hs-3D serial y x = simp (ne-eqb _ _ k, cone-3D (r .cone) k, numel-3D (r .cone) k, record-3D r k)
 
 -- ---- kind 3
 
@@ -64,13 +68,13 @@ module _ (r : Scaling) (k : r .cone .kind ≡ 3) where
   unfolding wide.computeBarrierOf wide.rowsIn computeBarrierOf combinedBarrierOf computeRows judgedOf
   compute-barrier-wide z s dz ds step = simp (eq-eqb _ _ k, cone-wide (r .cone) k, numel-wide (r .cone) k, record-wide r k)
 
-  pub get-hs-wide : (block : List Float) → wide.getHsOf r block ≡ getHsOf r block
+  pub get-hs-wide : (serial : ℕ) (block : List Float) → wide.getHsOf r serial block ≡ getHsOf r serial block
   unfolding wide.getHsOf wide.rowsIn getHsOf blockRows
-  get-hs-wide block = simp (eq-eqb _ _ k, cone-wide (r .cone) k, block-wide (r .cone) k, record-wide r k)
+  get-hs-wide serial block = simp (eq-eqb _ _ k, cone-wide (r .cone) k, block-wide (r .cone) k, record-wide r k)
 
-  pub mul-hs-wide : (y x : List Float) → wide.mulHsOf r y x ≡ mulHsOf r y x
+  pub mul-hs-wide : (serial : ℕ) (y x : List Float) → wide.mulHsOf r serial y x ≡ mulHsOf r serial y x
   unfolding wide.mulHsOf wide.rowsIn mulHsOf productRows
-  mul-hs-wide y x = simp (eq-eqb _ _ k, cone-wide (r .cone) k, numel-wide (r .cone) k, record-wide r k)
+  mul-hs-wide serial y x = simp (eq-eqb _ _ k, cone-wide (r .cone) k, numel-wide (r .cone) k, record-wide r k)
 
 -- ---- kinds 1 and 2 alone: for kind 3 both sides give 1
 
@@ -82,36 +86,38 @@ or-false : (b : Bool) → (b || false) ≡ b
 or-false true = refl
 or-false false = refl
 
-module _ (r : Scaling) where
+module _ (r : Scaling) (serial : ℕ) where
   abbrev rows : Bool → Bool → ℕ
-  rows lengths numbers = three.rowsOf (r .cone .kind) (alphaOf (r .cone)) (r .three) lengths (not (r .scaled)) numbers
+  rows lengths numbers =
+      three.rowsOf (r .cone .kind) (alphaOf (r .cone)) (r .three) lengths (neverScaled r) (otherSerial serial r) numbers
 
   module _ (out : ℕ) (a b : List Float) (numbers : Bool) where
     abbrev lengths : Bool
     lengths = not (eqb out 3) || otherLength 3 a || otherLength 3 b
 
-    rows-wide : r .cone .kind ≡ 3 → rows lengths numbers ≡ correctionRows r out a b numbers
+    rows-wide : r .cone .kind ≡ 3 → rows lengths numbers ≡ correctionRows r serial out a b numbers
     unfolding three.rowsOf correctionRows firstRow threeOk
     rows-wide k = simp (k, or-true (not (coneOk (r .cone))))
 
-    rows-3D : (r .cone .kind ≡ 3 → ⊥) → rows lengths numbers ≡ correctionRows r out a b numbers
+    rows-3D : (r .cone .kind ≡ 3 → ⊥) → rows lengths numbers ≡ correctionRows r serial out a b numbers
     unfolding three.rowsOf correctionRows
     rows-3D k = simp (ne-eqb _ _ k, cone-3D (r .cone) k, or-false (not (threeOk (r .cone .kind) (alphaOf (r .cone)))), record-3D r k)
 
-    rows-of : (is3 : Bool) → eqb (r .cone .kind) 3 ≡ is3 → rows lengths numbers ≡ correctionRows r out a b numbers
+    rows-of : (is3 : Bool) → eqb (r .cone .kind) 3 ≡ is3 → rows lengths numbers ≡ correctionRows r serial out a b numbers
     rows-of true e = rows-wide (eqb-true _ _ e)
     rows-of false e = rows-3D (eqb-false _ _ e)
 
   pub higher-correction-3D
       : (η ds v : List Float)
-      → three.higherCorrectionOf (r .cone .kind) (alphaOf (r .cone)) (r .scaled) (r .three) η ds v ≡ higherCorrectionOf r η ds v
+      → three.higherCorrectionOf (r .cone .kind) (alphaOf (r .cone)) (neverScaled r) (otherSerial serial r) (r .three) η ds v
+      ≡ higherCorrectionOf r serial η ds v
   unfolding three.higherCorrectionOf higherCorrectionOf
   higher-correction-3D η ds v = simp (rows-of (length η) ds v (allFinite ds && allFinite v) (eqb (r .cone .kind) 3) refl)
 
   pub combined-ds-shift-3D
       : (out stepz steps : List Float) (σμ : Float)
-      → three.combinedDsShiftOf (r .cone .kind) (alphaOf (r .cone)) (r .scaled) (r .three) out stepz steps σμ
-      ≡ combinedDsShiftOf r out stepz steps σμ
+      → three.combinedDsShiftOf (r .cone .kind) (alphaOf (r .cone)) (neverScaled r) (otherSerial serial r) (r .three) out stepz steps σμ
+      ≡ combinedDsShiftOf r serial out stepz steps σμ
   unfolding three.combinedDsShiftOf combinedDsShiftOf
   combined-ds-shift-3D out stepz steps σμ =
       simp (rows-of (length out) stepz steps (allFinite stepz && allFinite steps && finite σμ) (eqb (r .cone .kind) 3) refl)

@@ -15,6 +15,7 @@ use contract.Lifetimes.{Lfts}
 use borrow.Fn.Kinds.{Dens, resT, endedOf}
 use Rattle.cone.specs.declared.Number.{Number}
 use Rattle.cone.specs.declared.Rounds.{Rounds}
+use Rattle.cone.specs.declared.refusal.Faults.{Faults}
 use Rattle.cone.specs.Judges.{allFinite}
 use Rattle.cone.specs.Refusals.{Lent, firstRow, settle, publishOf, numberOf, judgedOf, countedOf, withRounds}
 use Rattle.cone.specs.Refusals.{refuse, refuseNumber, refuseRounds}
@@ -97,10 +98,12 @@ not-6 e = omega arith
 not-7 : NotFive 7
 not-7 e = omega arith
 
--- rows that look at no scaling
-row-not-five
-    : (cone length number : Bool)
-    → NotFive (firstRow (record { cone = cone; length = length; number = number; setting = false; unscaled = false }))
+-- rows that look at no scaling and no serial
+abbrev primal-faults : Bool → Bool → Bool → Faults
+primal-faults cone length number =
+    record { cone = cone; length = length; number = number; setting = false; spent = false; unscaled = false; serial = false }
+
+row-not-five : (cone length number : Bool) → NotFive (firstRow (primal-faults cone length number))
 unfolding firstRow
 row-not-five true length number e = omega arith
 row-not-five false true number e = omega arith

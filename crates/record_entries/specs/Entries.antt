@@ -58,35 +58,37 @@ computeBarrierOf r z s dz ds step = settle (computeRows r z s dz ds step) (judge
 -- ---- the scaling matrix
 
 -- 000, 001, 002 get_Hs
-unfoldable pub getHsOf : Scaling → List Float → Lent ℕ
-getHsOf r block =
+unfoldable pub getHsOf : Scaling → ℕ → List Float → Lent ℕ
+getHsOf r serial block =
     let diagonal = wide.getHsOf (r .wide .mu) (r .wide .d1) (r .cone .dim1) (r .wide .d2) (r .cone .dim2) in
-    settle (blockRows r (length block))
+    settle (blockRows r serial (length block))
     (cond (eqb (r .cone .kind) 3) (publishOf block (take (length block) diagonal)) (publishOf block (r .three .hs)))
     (refuse block)
 
 -- 000, 001, 002 mul_Hs
-unfoldable pub mulHsOf : Scaling → List Float → List Float → Lent ℕ
-mulHsOf r y x =
+unfoldable pub mulHsOf : Scaling → ℕ → List Float → List Float → Lent ℕ
+mulHsOf r serial y x =
     let product = genRank3.mulHsOf (r .wide) (r .cone .dim1) x in
-    settle (productRows r (length y) x)
+    settle (productRows r serial (length y) x)
     (cond (eqb (r .cone .kind) 3) (publishOf y (take (length y) product)) (publishOf y (mulOf (r .three .hs) (threeOf x))))
     (refuse y)
 
 -- ---- kinds 1 and 2 alone
 
 -- 000, 001 higher_correction
-unfoldable pub higherCorrectionOf : Scaling → List Float → List Float → List Float → Lent ℕ
-higherCorrectionOf r η ds v =
+unfoldable pub higherCorrectionOf : Scaling → ℕ → List Float → List Float → List Float → Lent ℕ
+higherCorrectionOf r serial η ds v =
     let t = r .three in
-    settle (correctionRows r (length η) ds v (allFinite ds && allFinite v))
+    settle (correctionRows r serial (length η) ds v (allFinite ds && allFinite v))
     (publishOf η (three.higherCorrectionOf (r .cone .kind) (alphaOf (r .cone)) (t .hdual) (t .z) (threeOf ds) (threeOf v)))
     (refuse η)
 
 -- 000, 001 combined_ds_shift
-unfoldable pub combinedDsShiftOf : Scaling → List Float → List Float → List Float → Float → Lent ℕ
-combinedDsShiftOf r out stepz steps σμ =
+unfoldable pub combinedDsShiftOf : Scaling → ℕ → List Float → List Float → List Float → Float → Lent ℕ
+combinedDsShiftOf r serial out stepz steps σμ =
     let t = r .three in
     let shift =
     three.combinedDsShiftOf (r .cone .kind) (alphaOf (r .cone)) (t .hdual) (t .z) (t .grad) (threeOf stepz) (threeOf steps) σμ in
-    settle (correctionRows r (length out) stepz steps (allFinite stepz && allFinite steps && finite σμ)) (publishOf out shift) (refuse out)
+    settle (correctionRows r serial (length out) stepz steps (allFinite stepz && allFinite steps && finite σμ))
+    (publishOf out shift)
+    (refuse out)

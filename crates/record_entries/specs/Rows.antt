@@ -8,7 +8,7 @@ use lib.Ieee.{Float}
 use lib.Ieee.Scale.{finite}
 use Rattle.cone.specs.declared.Scaling.{Scaling}
 use Rattle.cone.specs.Judges.{numelOf, blockOf, allFinite, sidesFinite, recordFinite}
-use Rattle.cone.specs.Refusals.{firstRow, badCone, badCone3D, otherLength, neverScaled}
+use Rattle.cone.specs.Refusals.{firstRow, badCone, badCone3D, otherLength, neverScaled, otherSerial}
 
 -- A slice that is only written is given by its length.
 
@@ -23,7 +23,9 @@ gradientRows r g s =
       length = not (eqb g n) || otherLength n s;
       number = not (allFinite s && recordFinite r);
       setting = false;
+      spent = false;
       unscaled = false;
+      serial = false;
     })
 
 -- barrier_primal
@@ -34,7 +36,9 @@ barrierRows r s =
       length = otherLength (numelOf (r .cone)) s;
       number = not (allFinite s && recordFinite r);
       setting = false;
+      spent = false;
       unscaled = false;
+      serial = false;
     })
 
 -- compute_barrier; the step, the Rust's α, may be any finite number
@@ -46,39 +50,49 @@ computeRows r z s dz ds step =
       length = otherLength n z || otherLength n s || otherLength n dz || otherLength n ds;
       number = not (sidesFinite dz ds z s && finite step && recordFinite r);
       setting = false;
+      spent = false;
       unscaled = false;
+      serial = false;
     })
 
+-- 02, Order 6: "`get_Hs`, `mul_Hs`, correction and combined shift name the serial they expect."
+
 -- get_Hs
-unfoldable pub blockRows : Scaling → ℕ → ℕ
-blockRows r block =
+unfoldable pub blockRows : Scaling → ℕ → ℕ → ℕ
+blockRows r serial block =
     firstRow (record {
       cone = badCone (r .cone);
       length = not (eqb block (blockOf (r .cone)));
       number = not (recordFinite r);
       setting = false;
+      spent = false;
       unscaled = neverScaled r;
+      serial = otherSerial serial r;
     })
 
 -- mul_Hs
-unfoldable pub productRows : Scaling → ℕ → List Float → ℕ
-productRows r y x =
+unfoldable pub productRows : Scaling → ℕ → ℕ → List Float → ℕ
+productRows r serial y x =
     let n = numelOf (r .cone) in
     firstRow (record {
       cone = badCone (r .cone);
       length = not (eqb y n) || otherLength n x;
       number = not (allFinite x && recordFinite r);
       setting = false;
+      spent = false;
       unscaled = neverScaled r;
+      serial = otherSerial serial r;
     })
 
 -- higher_correction and combined_ds_shift; `numbers` says whether the call's own are finite
-unfoldable pub correctionRows : Scaling → ℕ → List Float → List Float → Bool → ℕ
-correctionRows r out a b numbers =
+unfoldable pub correctionRows : Scaling → ℕ → ℕ → List Float → List Float → Bool → ℕ
+correctionRows r serial out a b numbers =
     firstRow (record {
       cone = badCone3D (r .cone);
       length = not (eqb out 3) || otherLength 3 a || otherLength 3 b;
       number = not (numbers && recordFinite r);
       setting = false;
+      spent = false;
       unscaled = neverScaled r;
+      serial = otherSerial serial r;
     })

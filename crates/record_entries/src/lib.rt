@@ -54,53 +54,84 @@ pub fn compute_barrier(
     record_three::compute_barrier(kind, exps[0], three, z, s, dz, ds, alpha)
 }
 
-// ---- the scaling matrix
+// ---- the scaling matrix. This call and the three below name the serial that they expect of the record
 
-pub fn get_hs(scaling: Scaling, block: &mut [f64]) -> u32
-    ensures { λ r. ⌜ record { answer = r; slice = now (block .exit) } ≡ getHsOf scaling (now (block .entry)) ⌝ }
+pub fn get_hs(scaling: Scaling, serial: u32, block: &mut [f64]) -> u32
+    ensures { λ r. ⌜ record { answer = r; slice = now (block .exit) } ≡ getHsOf scaling serial (now (block .entry)) ⌝ }
 {
     let kind = scaling.cone.kind;
     if kind == 3 {
-        return record_wide::get_hs(scaling, block);
+        return record_wide::get_hs(scaling, serial, block);
     }
     let exps = scaling.cone.exps;
     let three = scaling.three;
-    record_three::get_hs(kind, exps[0], scaling.scaled, three, block)
+    record_three::get_hs(
+        kind,
+        exps[0],
+        scaling.scaled == 0,
+        scaling.serial != serial,
+        three,
+        block,
+    )
 }
 
-pub fn mul_hs(scaling: Scaling, y: &mut [f64], x: &[f64]) -> u32
-    ensures { λ r. ⌜ record { answer = r; slice = now (y .exit) } ≡ mulHsOf scaling (now (y .entry)) (now (x .entry)) ⌝ }
+pub fn mul_hs(scaling: Scaling, serial: u32, y: &mut [f64], x: &[f64]) -> u32
+    ensures { λ r. ⌜ record { answer = r; slice = now (y .exit) } ≡ mulHsOf scaling serial (now (y .entry)) (now (x .entry)) ⌝ }
 {
     let kind = scaling.cone.kind;
     if kind == 3 {
-        return record_wide::mul_hs(scaling, y, x);
+        return record_wide::mul_hs(scaling, serial, y, x);
     }
     let exps = scaling.cone.exps;
     let three = scaling.three;
-    record_three::mul_hs(kind, exps[0], scaling.scaled, three, y, x)
+    record_three::mul_hs(
+        kind,
+        exps[0],
+        scaling.scaled == 0,
+        scaling.serial != serial,
+        three,
+        y,
+        x,
+    )
 }
 
 // ---- kinds 1 and 2 alone: record_three refuses any other
 
-pub fn higher_correction(scaling: Scaling, eta: &mut [f64], ds: &[f64], v: &[f64]) -> u32
+pub fn higher_correction(
+    scaling: Scaling,
+    serial: u32,
+    eta: &mut [f64],
+    ds: &[f64],
+    v: &[f64],
+) -> u32
     ensures { λ r. ⌜ record { answer = r; slice = now (eta .exit) }
-        ≡ higherCorrectionOf scaling (now (eta .entry)) (now (ds .entry)) (now (v .entry)) ⌝ }
+        ≡ higherCorrectionOf scaling serial (now (eta .entry)) (now (ds .entry)) (now (v .entry)) ⌝ }
 {
     let kind = scaling.cone.kind;
     let exps = scaling.cone.exps;
     let three = scaling.three;
-    record_three::higher_correction(kind, exps[0], scaling.scaled, three, eta, ds, v)
+    record_three::higher_correction(
+        kind,
+        exps[0],
+        scaling.scaled == 0,
+        scaling.serial != serial,
+        three,
+        eta,
+        ds,
+        v,
+    )
 }
 
 pub fn combined_ds_shift(
     scaling: Scaling,
+    serial: u32,
     shifted: &mut [f64],
     stepz: &[f64],
     steps: &[f64],
     sigmamu: f64,
 ) -> u32
     ensures { λ r. ⌜ record { answer = r; slice = now (shifted .exit) }
-        ≡ combinedDsShiftOf scaling (now (shifted .entry)) (now (stepz .entry)) (now (steps .entry)) sigmamu ⌝ }
+        ≡ combinedDsShiftOf scaling serial (now (shifted .entry)) (now (stepz .entry)) (now (steps .entry)) sigmamu ⌝ }
 {
     let kind = scaling.cone.kind;
     let exps = scaling.cone.exps;
@@ -108,7 +139,8 @@ pub fn combined_ds_shift(
     record_three::combined_ds_shift(
         kind,
         exps[0],
-        scaling.scaled,
+        scaling.scaled == 0,
+        scaling.serial != serial,
         three,
         shifted,
         stepz,

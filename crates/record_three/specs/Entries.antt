@@ -17,14 +17,16 @@ use Rattle.kinds.specs.declared.three.Valued.{Valued}
 use Rattle.kinds.specs.Three as three
 
 -- The table, by what is wrong with the call's lengths and its record, and whether its own numbers are finite.
-unfoldable pub rowsOf : ℕ → Float → Three → Bool → Bool → Bool → ℕ
-rowsOf kind α t lengths unscaled finite =
+unfoldable pub rowsOf : ℕ → Float → Three → Bool → Bool → Bool → Bool → ℕ
+rowsOf kind α t lengths unscaled serial finite =
     firstRow (record {
       cone = not (threeOk kind α);
       length = lengths;
       number = not (finite && threeFinite t);
       setting = false;
+      spent = false;
       unscaled = unscaled;
+      serial = serial;
     })
 
 -- ---- the primal side
@@ -39,50 +41,51 @@ judged v = judgedOf (v .panics) (v .value)
 -- 000, 001 gradient_primal
 unfoldable pub gradientPrimalOf : ℕ → Float → Three → List Float → List Float → Lent Rounds
 gradientPrimalOf kind α t g s =
-    settle (rowsOf kind α t (otherLength 3 g || otherLength 3 s) false (allFinite s))
+    settle (rowsOf kind α t (otherLength 3 g || otherLength 3 s) false false (allFinite s))
     (published g (three.gradientPrimalOf kind α (threeOf s)))
     (refuseRounds g)
 
 -- 000, 001 barrier_primal
 unfoldable pub barrierPrimalOf : ℕ → Float → Three → List Float → Number
 barrierPrimalOf kind α t s =
-    settle (rowsOf kind α t (otherLength 3 s) false (allFinite s)) (judged (three.barrierPrimalOf kind α (threeOf s))) refuseNumber
+    settle (rowsOf kind α t (otherLength 3 s) false false (allFinite s)) (judged (three.barrierPrimalOf kind α (threeOf s))) refuseNumber
 
 -- 000, 001 compute_barrier; the step is the Rust's α
 unfoldable pub computeBarrierOf : ℕ → Float → Three → List Float → List Float → List Float → List Float → Float → Number
 computeBarrierOf kind α t z s dz ds step =
     let lengths = otherLength 3 z || otherLength 3 s || otherLength 3 dz || otherLength 3 ds in
-    settle (rowsOf kind α t lengths false (sidesFinite dz ds z s && finite step))
+    settle (rowsOf kind α t lengths false false (sidesFinite dz ds z s && finite step))
     (judged (three.computeBarrierOf kind α (threeOf z) (threeOf s) (threeOf dz) (threeOf ds) step))
     refuseNumber
 
--- ---- the scaling matrix
+-- ---- the scaling matrix, of a record that was never scaled or not, and has another serial than the caller's or not
 
 -- 000, 001 get_Hs
-unfoldable pub getHsOf : ℕ → Float → Bool → Three → List Float → Lent ℕ
-getHsOf kind α scaled t block = settle (rowsOf kind α t (otherLength 6 block) (not scaled) true) (publishOf block (t .hs)) (refuse block)
+unfoldable pub getHsOf : ℕ → Float → Bool → Bool → Three → List Float → Lent ℕ
+getHsOf kind α unscaled serial t block =
+    settle (rowsOf kind α t (otherLength 6 block) unscaled serial true) (publishOf block (t .hs)) (refuse block)
 
 -- 000, 001 mul_Hs
-unfoldable pub mulHsOf : ℕ → Float → Bool → Three → List Float → List Float → Lent ℕ
-mulHsOf kind α scaled t y x =
-    settle (rowsOf kind α t (otherLength 3 y || otherLength 3 x) (not scaled) (allFinite x))
+unfoldable pub mulHsOf : ℕ → Float → Bool → Bool → Three → List Float → List Float → Lent ℕ
+mulHsOf kind α unscaled serial t y x =
+    settle (rowsOf kind α t (otherLength 3 y || otherLength 3 x) unscaled serial (allFinite x))
     (publishOf y (mulOf (t .hs) (threeOf x)))
     (refuse y)
 
 -- ---- kinds 1 and 2 alone: another kind is no cone here
 
 -- 000, 001 higher_correction
-unfoldable pub higherCorrectionOf : ℕ → Float → Bool → Three → List Float → List Float → List Float → Lent ℕ
-higherCorrectionOf kind α scaled t η ds v =
+unfoldable pub higherCorrectionOf : ℕ → Float → Bool → Bool → Three → List Float → List Float → List Float → Lent ℕ
+higherCorrectionOf kind α unscaled serial t η ds v =
     let lengths = otherLength 3 η || otherLength 3 ds || otherLength 3 v in
-    settle (rowsOf kind α t lengths (not scaled) (allFinite ds && allFinite v))
+    settle (rowsOf kind α t lengths unscaled serial (allFinite ds && allFinite v))
     (publishOf η (three.higherCorrectionOf kind α (t .hdual) (t .z) (threeOf ds) (threeOf v)))
     (refuse η)
 
 -- 000, 001 combined_ds_shift
-unfoldable pub combinedDsShiftOf : ℕ → Float → Bool → Three → List Float → List Float → List Float → Float → Lent ℕ
-combinedDsShiftOf kind α scaled t out stepz steps σμ =
+unfoldable pub combinedDsShiftOf : ℕ → Float → Bool → Bool → Three → List Float → List Float → List Float → Float → Lent ℕ
+combinedDsShiftOf kind α unscaled serial t out stepz steps σμ =
     let lengths = otherLength 3 out || otherLength 3 stepz || otherLength 3 steps in
-    settle (rowsOf kind α t lengths (not scaled) (allFinite stepz && allFinite steps && finite σμ))
+    settle (rowsOf kind α t lengths unscaled serial (allFinite stepz && allFinite steps && finite σμ))
     (publishOf out (three.combinedDsShiftOf kind α (t .hdual) (t .z) (t .grad) (threeOf stepz) (threeOf steps) σμ))
     (refuse out)

@@ -1,6 +1,6 @@
-// The entries over a record for kinds 1 and 2, which take of the record the cone's kind and exponent, whether it was ever scaled, and the
-// numbers of these kinds: so none copies the rest. Each judges its arguments by the table of document 01, computes into locals, and only
-// then writes.
+// The entries over a record for kinds 1 and 2, which take of the record the cone's kind and exponent, the numbers of these kinds, and,
+// where it matters, whether it was never scaled and whether its serial is another than the caller's: so none copies the rest. Each judges
+// its arguments by the table of document 01, computes into locals, and only then writes.
 ghost use mathlib.Core.Path.{_≡_};
 ghost use Rattle.cone.specs.Refusals.{judgedOf};
 ghost use Rattle.record_three.specs.Entries.{rowsOf, gradientPrimalOf, barrierPrimalOf, computeBarrierOf, getHsOf, mulHsOf};
@@ -24,15 +24,25 @@ use kinds::three;
 use kinds::three::Valued;
 
 // The table, by what is wrong with the call's lengths and its record, and whether its own numbers are finite.
-fn rows(kind: u32, alpha: f64, three: Three, lengths: bool, unscaled: bool, finite: bool) -> u32
-    ensures { λ r. ⌜ r ≡ rowsOf kind alpha three lengths unscaled finite ⌝ }
+fn rows(
+    kind: u32,
+    alpha: f64,
+    three: Three,
+    lengths: bool,
+    unscaled: bool,
+    serial: bool,
+    finite: bool,
+) -> u32
+    ensures { λ r. ⌜ r ≡ rowsOf kind alpha three lengths unscaled serial finite ⌝ }
 {
     first_row(Faults {
         cone: !three_ok(kind, alpha),
         length: lengths,
         number: !(finite & three_finite(three)),
         setting: false,
+        spent: false,
         unscaled,
+        serial,
     })
 }
 
@@ -42,7 +52,7 @@ pub fn gradient_primal(kind: u32, alpha: f64, three: Three, g: &mut [f64], s: &[
     ensures { λ r. ⌜ record { answer = r; slice = now (g .exit) } ≡ gradientPrimalOf kind alpha three (now (g .entry)) (now (s .entry)) ⌝ }
 {
     let lengths = (g.len() != 3) | (s.len() != 3);
-    let code = rows(kind, alpha, three, lengths, false, all_finite(s));
+    let code = rows(kind, alpha, three, lengths, false, false, all_finite(s));
     if code != 0 {
         return Rounds { code, rounds: 0 };
     }
@@ -70,7 +80,7 @@ pub fn barrier_primal(kind: u32, alpha: f64, three: Three, s: &[f64]) -> Number
     ensures { λ r. ⌜ r ≡ barrierPrimalOf kind alpha three (now (s .entry)) ⌝ }
 {
     let lengths = s.len() != 3;
-    let code = rows(kind, alpha, three, lengths, false, all_finite(s));
+    let code = rows(kind, alpha, three, lengths, false, false, all_finite(s));
     if code != 0 {
         return Number { code, value: 0.0 };
     }
@@ -92,7 +102,7 @@ pub fn compute_barrier(
 {
     let lengths = (z.len() != 3) | (s.len() != 3) | (dz.len() != 3) | (ds.len() != 3);
     let finite = sides_finite(dz, ds, z, s) & is_finite(step);
-    let code = rows(kind, alpha, three, lengths, false, finite);
+    let code = rows(kind, alpha, three, lengths, false, false, finite);
     if code != 0 {
         return Number { code, value: 0.0 };
     }
@@ -109,10 +119,18 @@ pub fn compute_barrier(
 
 // ---- the scaling matrix
 
-pub fn get_hs(kind: u32, alpha: f64, scaled: bool, three: Three, block: &mut [f64]) -> u32
-    ensures { λ r. ⌜ record { answer = r; slice = now (block .exit) } ≡ getHsOf kind alpha scaled three (now (block .entry)) ⌝ }
+pub fn get_hs(
+    kind: u32,
+    alpha: f64,
+    unscaled: bool,
+    serial: bool,
+    three: Three,
+    block: &mut [f64],
+) -> u32
+    ensures { λ r. ⌜ record { answer = r; slice = now (block .exit) }
+        ≡ getHsOf kind alpha unscaled serial three (now (block .entry)) ⌝ }
 {
-    let code = rows(kind, alpha, three, block.len() != 6, !scaled, true);
+    let code = rows(kind, alpha, three, block.len() != 6, unscaled, serial, true);
     if code != 0 {
         return code;
     }
@@ -120,11 +138,20 @@ pub fn get_hs(kind: u32, alpha: f64, scaled: bool, three: Three, block: &mut [f6
     publish(block, &three.hs)
 }
 
-pub fn mul_hs(kind: u32, alpha: f64, scaled: bool, three: Three, y: &mut [f64], x: &[f64]) -> u32
-    ensures { λ r. ⌜ record { answer = r; slice = now (y .exit) } ≡ mulHsOf kind alpha scaled three (now (y .entry)) (now (x .entry)) ⌝ }
+pub fn mul_hs(
+    kind: u32,
+    alpha: f64,
+    unscaled: bool,
+    serial: bool,
+    three: Three,
+    y: &mut [f64],
+    x: &[f64],
+) -> u32
+    ensures { λ r. ⌜ record { answer = r; slice = now (y .exit) }
+        ≡ mulHsOf kind alpha unscaled serial three (now (y .entry)) (now (x .entry)) ⌝ }
 {
     let lengths = (y.len() != 3) | (x.len() != 3);
-    let code = rows(kind, alpha, three, lengths, !scaled, all_finite(x));
+    let code = rows(kind, alpha, three, lengths, unscaled, serial, all_finite(x));
     if code != 0 {
         return code;
     }
@@ -138,18 +165,19 @@ pub fn mul_hs(kind: u32, alpha: f64, scaled: bool, three: Three, y: &mut [f64], 
 pub fn higher_correction(
     kind: u32,
     alpha: f64,
-    scaled: bool,
+    unscaled: bool,
+    serial: bool,
     three: Three,
     eta: &mut [f64],
     ds: &[f64],
     v: &[f64],
 ) -> u32
     ensures { λ r. ⌜ record { answer = r; slice = now (eta .exit) }
-        ≡ higherCorrectionOf kind alpha scaled three (now (eta .entry)) (now (ds .entry)) (now (v .entry)) ⌝ }
+        ≡ higherCorrectionOf kind alpha unscaled serial three (now (eta .entry)) (now (ds .entry)) (now (v .entry)) ⌝ }
 {
     let lengths = (eta.len() != 3) | (ds.len() != 3) | (v.len() != 3);
     let finite = all_finite(ds) & all_finite(v);
-    let code = rows(kind, alpha, three, lengths, !scaled, finite);
+    let code = rows(kind, alpha, three, lengths, unscaled, serial, finite);
     if code != 0 {
         return code;
     }
@@ -162,7 +190,8 @@ pub fn higher_correction(
 pub fn combined_ds_shift(
     kind: u32,
     alpha: f64,
-    scaled: bool,
+    unscaled: bool,
+    serial: bool,
     three: Three,
     shifted: &mut [f64],
     stepz: &[f64],
@@ -170,11 +199,12 @@ pub fn combined_ds_shift(
     sigmamu: f64,
 ) -> u32
     ensures { λ r. ⌜ record { answer = r; slice = now (shifted .exit) }
-        ≡ combinedDsShiftOf kind alpha scaled three (now (shifted .entry)) (now (stepz .entry)) (now (steps .entry)) sigmamu ⌝ }
+        ≡ combinedDsShiftOf kind alpha unscaled serial three
+        (now (shifted .entry)) (now (stepz .entry)) (now (steps .entry)) sigmamu ⌝ }
 {
     let lengths = (shifted.len() != 3) | (stepz.len() != 3) | (steps.len() != 3);
     let finite = all_finite(stepz) & all_finite(steps) & is_finite(sigmamu);
-    let code = rows(kind, alpha, three, lengths, !scaled, finite);
+    let code = rows(kind, alpha, three, lengths, unscaled, serial, finite);
     if code != 0 {
         return code;
     }

@@ -1,9 +1,9 @@
 -- An update's answer is settled twice, by the rows before the formulas and by the two after them; where both give 0 the old record has
--- gone but for its cone. Assumes nothing.
+-- gone but for its cone and the serial that the new one follows. Assumes nothing.
 use mathlib.Core.Path.{_≡_, refl, sym, _∙_, ap, subst}
 use mathlib.Core.Bool.{Bool, true, false, cond}
 use mathlib.Core.List.{List}
-use Prim.Native.Nat.{ℕ, zero, suc}
+use Prim.Native.Nat.{ℕ, zero, suc, _+_}
 use native.Mathlib.Omega.{arith}
 use lib.Dec.{eqb}
 use lib.Ieee.{Float}
@@ -21,14 +21,14 @@ use Rattle.genpowcone.proofs.Held.{unused-zero}
 use Rattle.cone.specs.Calls.{WideCall}
 use Rattle.kinds.specs.Cones.{alphasOf}
 use Rattle.scaling.specs.Updates.{newThree, newWide, newRecordOf}
-use Rattle.record_update.specs.Entries.{updateRows, completed, updateScalingOf}
+use Rattle.record_update.specs.Entries.{updateRows, numbered, completed, updateScalingOf}
 use Rattle.record_update.specs.Updates.{SameAnswer, RefusedKeeps, Unused, Made, CompletedMakes}
 use Rattle.record_update.proofs.LetThrough.{update-call}
 
 -- ---- an answer settled twice, over any rows
 
 abbrev twice : ℕ → ℕ → Attempt → Scaling → Updated
-twice j k a r = settle j (settle k (completed a) (refuseUpdate r)) (refuseUpdate r)
+twice j k a r = settle j (settle k (completed (r .serial + 1) a) (refuseUpdate r)) (refuseUpdate r)
 
 done-twice : (j k : ℕ) (a : Attempt) (r : Scaling) → twice j k a r .code ≡ 0 → (j ≡ 0) × (k ≡ 0)
 unfolding settle
@@ -36,7 +36,7 @@ done-twice zero zero a r e = (refl, refl)
 done-twice zero (suc k) a r e = absurd (omega arith)
 done-twice (suc j) k a r e = absurd (omega arith)
 
-is-completed : (j k : ℕ) (a : Attempt) (r : Scaling) → j ≡ 0 → k ≡ 0 → twice j k a r ≡ completed a
+is-completed : (j k : ℕ) (a : Attempt) (r : Scaling) → j ≡ 0 → k ≡ 0 → twice j k a r ≡ completed (r .serial + 1) a
 unfolding settle
 is-completed zero zero a r e f = refl
 is-completed zero (suc k) a r e f = absurd (omega arith)
@@ -58,15 +58,22 @@ module _ (s z : List Float) (μ : Float) (k : ℕ) where
   unfolding updateScalingOf
   was-done r e = done-twice (updateRows r s z μ k) (lastRows (new r)) (new r) r e
 
-  answers-new : (r : Scaling) → updateRows r s z μ k ≡ 0 → lastRows (new r) ≡ 0 → updateScalingOf r s z μ k ≡ completed (new r)
+  answers-new
+      : (r : Scaling)
+      → updateRows r s z μ k ≡ 0
+      → lastRows (new r) ≡ 0
+      → updateScalingOf r s z μ k ≡ completed (r .serial + 1) (new r)
   unfolding updateScalingOf
   answers-new r e f = is-completed (updateRows r s z μ k) (lastRows (new r)) (new r) r e f
 
 pub same-answer : SameAnswer
-same-answer r r' s z μ k c d e =
+same-answer r r' s z μ k c n d e =
     let w = was-done s z μ k r d in
     let same : new s z μ k r ≡ new s z μ k r' = ap (λ (x : Cone). newRecordOf x s z μ k) c in
-    answers-new s z μ k r (w .0) (w .1) ∙ ap completed same ∙ sym (answers-new s z μ k r' e (sym (ap lastRows same) ∙ w .1))
+    answers-new s z μ k r (w .0) (w .1)
+    ∙ ap (completed (r .serial + 1)) same
+    ∙ ap (λ (serial : ℕ). completed (serial + 1) (new s z μ k r')) n
+    ∙ sym (answers-new s z μ k r' e (sym (ap lastRows same) ∙ w .1))
 
 pub refused-keeps : RefusedKeeps
 unfolding updateScalingOf
@@ -88,8 +95,8 @@ module _ (r : Scaling) (s z : List Float) (μ : Float) (k : ℕ) where
   cone-by-kind true a t e f = e
   cone-by-kind false a t e f = f
 
-  scaled-by-kind : (b : Bool) (a t : Attempt) → a .scaling .scaled ≡ true → t .scaling .scaled ≡ true
-      → cond b a t .scaling .scaled ≡ true
+  scaled-by-kind : (b : Bool) (a t : Attempt) → a .scaling .scaled ≡ 1 → t .scaling .scaled ≡ 1
+      → cond b a t .scaling .scaled ≡ 1
   scaled-by-kind true a t e f = e
   scaled-by-kind false a t e f = f
 
@@ -97,7 +104,7 @@ module _ (r : Scaling) (s z : List Float) (μ : Float) (k : ℕ) where
   unfolding newRecordOf newWide newThree
   new-cone = cone-by-kind (eqb (r .cone .kind) 3) (newWide (r .cone) z μ) (newThree (r .cone) (threeOf s) (threeOf z) μ k) refl refl
 
-  new-scaled : new s z μ k r .scaling .scaled ≡ true
+  new-scaled : new s z μ k r .scaling .scaled ≡ 1
   unfolding newRecordOf newWide newThree
   new-scaled = scaled-by-kind (eqb (r .cone .kind) 3) (newWide (r .cone) z μ) (newThree (r .cone) (threeOf s) (threeOf z) μ k) refl refl
 
@@ -130,10 +137,11 @@ module _ (r : Scaling) (s z : List Float) (μ : Float) (k : ℕ) where
         d1-behind = λ i h b. u .d1-unused i (omega (arith, n)) b;
       }
 
-  made : WideCall (r .cone) z → Made r (new s z μ k r .scaling) μ
+  made : WideCall (r .cone) z → Made r (numbered (r .serial + 1) (new s z μ k r .scaling)) μ
   made w = record {
     keeps-cone = new-cone;
     was-scaled = new-scaled;
+    one-more = refl;
     no-wide = λ e. ap (λ (a : Attempt). a .scaling .wide) (of-three e) ∙ three-wide;
     no-three = λ e. ap (λ (a : Attempt). a .scaling .three) (of-wide e) ∙ wide-three;
     wide-mu = λ e. ap (λ (a : Attempt). a .scaling .wide .mu) (of-wide e) ∙ wide-mu;

@@ -1,5 +1,5 @@
 -- What update_scaling answers, for all arguments. Definitions only.
-use Prim.Native.Nat.{ℕ}
+use Prim.Native.Nat.{ℕ, _+_}
 use mathlib.Core.Bool.{false, _||_, _&&_, not}
 use mathlib.Core.List.{List}
 use lib.Ieee.{Float}
@@ -8,7 +8,7 @@ use Rattle.cone.specs.declared.Scaling.{Scaling}
 use Rattle.cone.specs.declared.Updated.{Updated}
 use Rattle.cone.specs.declared.Attempt.{Attempt}
 use Rattle.cone.specs.Judges.{numelOf, allFinite, recordFinite}
-use Rattle.cone.specs.Refusals.{firstRow, badCone, otherLength, badStrategy, lastRows, settle, refuseUpdate}
+use Rattle.cone.specs.Refusals.{firstRow, badCone, otherLength, badStrategy, isSpent, lastRows, settle, refuseUpdate}
 use Rattle.scaling.specs.Updates.{newRecordOf}
 
 -- 01: "Every argument of a call is judged, read or not, a passed record's numbers under 3 included."
@@ -20,17 +20,24 @@ updateRows r s z μ strategy =
       length = otherLength n s || otherLength n z;
       number = not (allFinite s && allFinite z && finite μ && recordFinite r);
       setting = badStrategy strategy;
+      spent = isSpent r;
       unscaled = false;
+      serial = false;
     })
 
-abbrev pub completed : Attempt → Updated
-completed a = record { code = 0; scaling = a .scaling }
+-- the record with this serial
+abbrev pub numbered : ℕ → Scaling → Scaling
+numbered n r = record { cone = r .cone; scaled = r .scaled; serial = n; three = r .three; wide = r .wide }
 
--- 000, 001, 002 update_scaling, both scalings. 01: "A completed update depends on that cone and the call's other arguments, on nothing else
--- in the old record": of r, a completed update's answer has the cone alone (Updates).
+abbrev pub completed : ℕ → Attempt → Updated
+completed serial a = record { code = 0; scaling = numbered serial (a .scaling) }
+
+-- 000, 001, 002 update_scaling, both scalings. 02, Order 6: "one more after each completed update, unchanged by a refused one"; "An update
+-- now depends on its cone, its arguments and the old serial, nothing else of the old record": of r, a completed update's answer has the
+-- cone and the serial alone (Updates).
 unfoldable pub updateScalingOf : Scaling → List Float → List Float → Float → ℕ → Updated
 updateScalingOf r s z μ strategy =
     let new = newRecordOf (r .cone) s z μ strategy in
     settle (updateRows r s z μ strategy)
-    (settle (lastRows new) (completed new) (refuseUpdate r))
+    (settle (lastRows new) (completed (r .serial + 1) new) (refuseUpdate r))
     (refuseUpdate r)

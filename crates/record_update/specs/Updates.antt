@@ -1,7 +1,6 @@
 -- What a completed update is made of. Statements only; proofs/Updates proves them.
 use Prim.Native.Nat.{ℕ, _+_, _≤_, _<_}
 use mathlib.Core.Path.{_≡_}
-use mathlib.Core.Bool.{true}
 use mathlib.Core.List.{List}
 use lib.Ieee.{Float}
 use lib.ListN.{length}
@@ -13,12 +12,13 @@ use Rattle.cone.specs.declared.Scaling.{Scaling}
 use Rattle.cone.specs.Fresh.{noThree, noWide}
 use Rattle.record_update.specs.Entries.{updateRows, updateScalingOf}
 
--- 01: "A completed update depends on that cone and the call's other arguments, on nothing else in the old record."
--- Where an update of r is completed, one of any record with the same cone that the rows let through gives the same answer.
+-- 02, Order 6: "An update now depends on its cone, its arguments and the old serial, nothing else of the old record."
+-- Where an update of r is completed, one of any record with the same cone and serial that the rows let through gives the same answer.
 abbrev pub SameAnswer : Type 0
 SameAnswer =
     (r r' : Scaling) (s z : List Float) (μ : Float) (k : ℕ)
     → r .cone ≡ r' .cone
+    → r .serial ≡ r' .serial
     → updateScalingOf r s z μ k .code ≡ 0
     → updateRows r' s z μ k ≡ 0
     → updateScalingOf r s z μ k ≡ updateScalingOf r' s z μ k
@@ -40,11 +40,13 @@ pub record Unused (c : Cone) (w : Wide) : Type 0 where
   pub r-behind : length (c .exps) ≡ 32 → (i : ℕ) → c .dim2 ≤ i → i < 32 → at (w .r) i ≡ #0
   pub d1-behind : (i : ℕ) → c .dim1 ≤ i → i < 32 → at (w .d1) i ≡ #0
 
--- A completed update was scaled and keeps its cone, and the numbers of the other kinds are +0.
+-- A completed update was scaled, keeps its cone and has the next serial, and the numbers of the other kinds are +0.
+-- 02, Order 6: "one more after each completed update"
 -- 01: "Places that a kind does not use are neither read nor judged, and those of the record's numbers are +0 after an update."
 pub record Made (old new : Scaling) (μ : Float) : Type 0 where
   pub keeps-cone : new .cone ≡ old .cone
-  pub was-scaled : new .scaled ≡ true
+  pub was-scaled : new .scaled ≡ 1
+  pub one-more : new .serial ≡ old .serial + 1
   pub no-wide : (old .cone .kind ≡ 3 → ⊥) → new .wide ≡ noWide
   pub no-three : old .cone .kind ≡ 3 → new .three ≡ noThree
   pub wide-mu : old .cone .kind ≡ 3 → new .wide .mu ≡ μ

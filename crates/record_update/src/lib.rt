@@ -1,7 +1,8 @@
 // update_scaling, the one entry that makes a record. It judges its arguments by the table of document 01, makes the new record from the
-// cone and the call's other arguments, judges that, and only then hands it out.
+// cone and the call's other arguments, judges that, and only then hands it out, with the serial that follows the old one.
 ghost use mathlib.Core.Path.{_≡_};
 ghost use Rattle.record_update.specs.Entries.{updateRows, updateScalingOf};
+use cone::LAST_SERIAL;
 use cone::Scaling;
 use cone::Updated;
 use cone::judge::all_finite;
@@ -24,7 +25,9 @@ fn update_rows(scaling: Scaling, s: &[f64], z: &[f64], mu: f64, strategy: u32) -
         length: (s.len() != n) | (z.len() != n),
         number: !(all_finite(s) & all_finite(z) & is_finite(mu) & record_finite(scaling)),
         setting: !strategy_ok(strategy),
+        spent: scaling.serial == LAST_SERIAL,
         unscaled: false,
+        serial: false,
     })
 }
 
@@ -47,7 +50,8 @@ pub fn update_scaling(scaling: Scaling, s: &[f64], z: &[f64], mu: f64, strategy:
             scaling,
         };
     }
-    let new = attempt.scaling;
+    let mut new = attempt.scaling;
+    new.serial = scaling.serial + 1;
     Updated {
         code: 0,
         scaling: new,

@@ -11,8 +11,8 @@ use Rattle.cone.proofs.Lengths.{dim1-at-most, dim2-at-most}
 use Rattle.record_wide.specs.Entries.{rowsIn}
 
 module _
-    (n m : ℕ) (e : List Float) (w : Wide) (lengths unscaled finite : Bool) {k : ℕ}
-    (r : k ≡ rowsIn n m e w lengths unscaled finite) (z : k ≡ 0)
+    (n m : ℕ) (e : List Float) (w : Wide) (lengths unscaled serial finite : Bool) {k : ℕ}
+    (r : k ≡ rowsIn n m e w lengths unscaled serial finite) (z : k ≡ 0)
   where
     pub lengths-right : lengths ≡ false
     unfolding rowsIn

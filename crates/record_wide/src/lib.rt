@@ -36,6 +36,7 @@ fn rows<'a>(
     d2: f64,
     lengths: bool,
     unscaled: bool,
+    serial: bool,
     finite: bool,
 ) -> u32
     ensures { λ code. ⌜ code ≡ rowsIn dim1 dim2 (now (exps .entry)) (record {
@@ -47,14 +48,16 @@ fn rows<'a>(
       r = now (r .entry);
       d1 = now (d1 .entry);
       d2 = d2;
-    }) lengths unscaled finite ⌝ }
+    }) lengths unscaled serial finite ⌝ }
 {
     first_row(Faults {
         cone: !wide_ok(dim1, dim2, exps),
         length: lengths,
         number: !(finite & wide_finite(z, mu, grad, p, q, r, d1, d2, dim1, dim2)),
         setting: false,
+        spent: false,
         unscaled,
+        serial,
     })
 }
 
@@ -91,6 +94,7 @@ pub fn gradient_primal(scaling: Scaling, g: &mut [f64], s: &[f64]) -> Rounds
         scaling.wide.d2,
         lengths,
         false,
+        false,
         finite,
     );
     if code != 0 {
@@ -121,6 +125,7 @@ pub fn barrier_primal(scaling: Scaling, s: &[f64]) -> Number
         &scaling.wide.d1,
         scaling.wide.d2,
         lengths,
+        false,
         false,
         finite,
     );
@@ -160,6 +165,7 @@ pub fn compute_barrier(
         scaling.wide.d2,
         lengths,
         false,
+        false,
         finite,
     );
     if code != 0 {
@@ -168,10 +174,10 @@ pub fn compute_barrier(
     finished(wide::compute_barrier(&scaling.cone.exps, dim1, z, s, dz, ds, step))
 }
 
-// ---- the scaling matrix
+// ---- the scaling matrix, of the record's serial if the caller expects that one
 
-pub fn get_hs(scaling: Scaling, block: &mut [f64]) -> u32
-    ensures { λ r. ⌜ record { answer = r; slice = now (block .exit) } ≡ getHsOf scaling (now (block .entry)) ⌝ }
+pub fn get_hs(scaling: Scaling, serial: u32, block: &mut [f64]) -> u32
+    ensures { λ r. ⌜ record { answer = r; slice = now (block .exit) } ≡ getHsOf scaling serial (now (block .entry)) ⌝ }
 {
     let dim1 = scaling.cone.dim1 as usize;
     let dim2 = scaling.cone.dim2 as usize;
@@ -189,7 +195,8 @@ pub fn get_hs(scaling: Scaling, block: &mut [f64]) -> u32
         &scaling.wide.d1,
         scaling.wide.d2,
         lengths,
-        !scaling.scaled,
+        scaling.scaled == 0,
+        scaling.serial != serial,
         true,
     );
     if code != 0 {
@@ -205,8 +212,8 @@ pub fn get_hs(scaling: Scaling, block: &mut [f64]) -> u32
     publish_wide(block, &diagonal)
 }
 
-pub fn mul_hs(scaling: Scaling, y: &mut [f64], x: &[f64]) -> u32
-    ensures { λ r. ⌜ record { answer = r; slice = now (y .exit) } ≡ mulHsOf scaling (now (y .entry)) (now (x .entry)) ⌝ }
+pub fn mul_hs(scaling: Scaling, serial: u32, y: &mut [f64], x: &[f64]) -> u32
+    ensures { λ r. ⌜ record { answer = r; slice = now (y .exit) } ≡ mulHsOf scaling serial (now (y .entry)) (now (x .entry)) ⌝ }
 {
     let dim1 = scaling.cone.dim1 as usize;
     let dim2 = scaling.cone.dim2 as usize;
@@ -225,7 +232,8 @@ pub fn mul_hs(scaling: Scaling, y: &mut [f64], x: &[f64]) -> u32
         &scaling.wide.d1,
         scaling.wide.d2,
         lengths,
-        !scaling.scaled,
+        scaling.scaled == 0,
+        scaling.serial != serial,
         finite,
     );
     if code != 0 {

@@ -11,7 +11,7 @@ use Rattle.cone.specs.Judges.{numelOf, allFinite, sidesFinite, settingsFinite}
 use Rattle.cone.specs.Refusals.{firstRow, badCone, otherLength, badSettings}
 
 -- 01: "A slice that is only written is judged by its length alone": `point`, `dualPoint` and `primalPoint` are such lengths.
--- 01: "Feasibility and step search take a cone and no record": none is unscaled
+-- 01: "Feasibility and step search take a cone and no record": none is unscaled, none has a serial
 
 -- 01: "`backtrack_search`, where public, is judged as a cone entry"
 unfoldable pub searchFaults : Cone → List Float → List Float → ℕ → Settings → Faults
@@ -22,7 +22,9 @@ searchFaults c dq q point s =
       length = otherLength n dq || otherLength n q || not (eqb point n);
       number = not (allFinite dq && allFinite q && settingsFinite s);
       setting = badSettings s;
+      spent = false;
       unscaled = false;
+      serial = false;
     }
 
 abbrev pub searchRows : Cone → List Float → List Float → ℕ → Settings → ℕ
@@ -38,7 +40,9 @@ stepFaults c dz ds z s dualPoint primalPoint settings =
           otherLength n dz || otherLength n ds || otherLength n z || otherLength n s || not (eqb dualPoint n) || not (eqb primalPoint n);
       number = not (sidesFinite dz ds z s && settingsFinite settings);
       setting = badSettings settings;
+      spent = false;
       unscaled = false;
+      serial = false;
     }
 
 abbrev pub stepRows : Cone → List Float → List Float → List Float → List Float → ℕ → ℕ → Settings → ℕ

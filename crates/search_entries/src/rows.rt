@@ -21,7 +21,9 @@ pub fn search_rows(cone: Cone, dq: &[f64], q: &[f64], point: usize, settings: Se
         length: (dq.len() != n) | (q.len() != n) | (point != n),
         number: !(all_finite(dq) & all_finite(q) & settings_finite(settings)),
         setting: !settings_ok(settings),
+        spent: false,
         unscaled: false,
+        serial: false,
     })
 }
 
@@ -49,6 +51,8 @@ pub fn step_rows(
             | (primalpoint != n),
         number: !(sides_finite(dz, ds, z, s) & settings_finite(settings)),
         setting: !settings_ok(settings),
+        spent: false,
         unscaled: false,
+        serial: false,
     })
 }

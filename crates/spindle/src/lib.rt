@@ -222,44 +222,46 @@ pub extern "C" fn spindle_compute_barrier(
 }
 
 #[no_mangle]
-pub extern "C" fn spindle_get_hs(scaling: Scaling, block: &mut [f64]) -> u32
-    ensures { λ r. ⌜ record { answer = r; slice = now (block .exit) } ≡ getHsOf scaling (now (block .entry)) ⌝ }
+pub extern "C" fn spindle_get_hs(scaling: Scaling, serial: u32, block: &mut [f64]) -> u32
+    ensures { λ r. ⌜ record { answer = r; slice = now (block .exit) } ≡ getHsOf scaling serial (now (block .entry)) ⌝ }
 {
-    record_entries::get_hs(scaling, block)
+    record_entries::get_hs(scaling, serial, block)
 }
 
 #[no_mangle]
-pub extern "C" fn spindle_mul_hs(scaling: Scaling, y: &mut [f64], x: &[f64]) -> u32
-    ensures { λ r. ⌜ record { answer = r; slice = now (y .exit) } ≡ mulHsOf scaling (now (y .entry)) (now (x .entry)) ⌝ }
+pub extern "C" fn spindle_mul_hs(scaling: Scaling, serial: u32, y: &mut [f64], x: &[f64]) -> u32
+    ensures { λ r. ⌜ record { answer = r; slice = now (y .exit) } ≡ mulHsOf scaling serial (now (y .entry)) (now (x .entry)) ⌝ }
 {
-    record_entries::mul_hs(scaling, y, x)
+    record_entries::mul_hs(scaling, serial, y, x)
 }
 
 #[no_mangle]
 pub extern "C" fn spindle_higher_correction(
     scaling: Scaling,
+    serial: u32,
     eta: &mut [f64],
     ds: &[f64],
     v: &[f64],
 ) -> u32
     ensures { λ r. ⌜ record { answer = r; slice = now (eta .exit) }
-        ≡ higherCorrectionOf scaling (now (eta .entry)) (now (ds .entry)) (now (v .entry)) ⌝ }
+        ≡ higherCorrectionOf scaling serial (now (eta .entry)) (now (ds .entry)) (now (v .entry)) ⌝ }
 {
-    record_entries::higher_correction(scaling, eta, ds, v)
+    record_entries::higher_correction(scaling, serial, eta, ds, v)
 }
 
 #[no_mangle]
 pub extern "C" fn spindle_combined_ds_shift(
     scaling: Scaling,
+    serial: u32,
     shifted: &mut [f64],
     stepz: &[f64],
     steps: &[f64],
     sigmamu: f64,
 ) -> u32
     ensures { λ r. ⌜ record { answer = r; slice = now (shifted .exit) }
-        ≡ combinedDsShiftOf scaling (now (shifted .entry)) (now (stepz .entry)) (now (steps .entry)) sigmamu ⌝ }
+        ≡ combinedDsShiftOf scaling serial (now (shifted .entry)) (now (stepz .entry)) (now (steps .entry)) sigmamu ⌝ }
 {
-    record_entries::combined_ds_shift(scaling, shifted, stepz, steps, sigmamu)
+    record_entries::combined_ds_shift(scaling, serial, shifted, stepz, steps, sigmamu)
 }
 
 // ---- 02, Order 1: traces of step searches

@@ -6,7 +6,7 @@ use Rattle.record_entries.proofs.combined_ds_shift.Statement.{statement
 use Rattle.record_entries.proofs.combined_ds_shift.Tie as tie
 
 returns : tie.Need-returns
-returns c = c .before .before .combined-ds-shift .ensures ∙ combined-ds-shift-3D _ _ _ _ _
+returns c = c .before .before .combined-ds-shift .ensures ∙ combined-ds-shift-3D _ _ _ _ _ _
 
 pub combined-ds-shift-spec : {M : Type 1} → statement M
 combined-ds-shift-spec = tie.close (tie.spec (λ c. search needs) (λ c κs. search needs) (λ c. search needs) returns)

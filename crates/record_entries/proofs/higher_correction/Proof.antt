@@ -6,7 +6,7 @@ use Rattle.record_entries.proofs.higher_correction.Statement.{statement
 use Rattle.record_entries.proofs.higher_correction.Tie as tie
 
 returns : tie.Need-returns
-returns c = c .before .before .higher-correction .ensures ∙ higher-correction-3D _ _ _ _
+returns c = c .before .before .higher-correction .ensures ∙ higher-correction-3D _ _ _ _ _
 
 pub higher-correction-spec : {M : Type 1} → statement M
 higher-correction-spec = tie.close (tie.spec (λ c. search needs) (λ c κs. search needs) (λ c. search needs) returns)

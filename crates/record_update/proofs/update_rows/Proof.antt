@@ -7,7 +7,7 @@ use Rattle.record_update.proofs.update_rows.Tie as tie
 returns : tie.Need-returns
 unfolding updateRows
 returns c =
-    let settings = c .before in
+    let settings = c .before .before in
     let numbers = settings .before in
     let points = numbers .before .before in
     let cone = points .before .before in

@@ -1,10 +1,11 @@
--- A call that its rows refuse leaves with their number and the old record, also after the formulas; any other with the new record.
--- Assumes nothing.
+-- A call that its rows refuse leaves with their number and the old record, also after the formulas; any other with the new record and the
+-- serial after the old one, which is not the last. Assumes nothing.
 use mathlib.Core.Path.{_∙_, sym, ap}
+use native.Mathlib.Omega.{arith}
 use Rattle.cone.specs.Refusals.{lastRows}
 use Rattle.cone.proofs.Settled.{refused, done}
 use Rattle.record_update.specs.Entries.{completed, updateScalingOf}
-use Rattle.record_update.proofs.LetThrough.{update-call}
+use Rattle.record_update.proofs.LetThrough.{update-call, not-last}
 use borrow.Author.Needs.{needs}
 use Rattle.record_update.proofs.update_scaling.Statement.{statement}
 use Rattle.record_update.proofs.update_scaling.Tie as tie
@@ -24,14 +25,23 @@ returns-2 c =
     refused _ _ _ _ (c .before .last-rows .ensures ∙ ap lastRows (made .new-record .ensures)) (c .if2 .taken)
     ∙ done _ _ _ _ (past .before .update-rows .ensures) (past .if1 .left)
 
+-- the rows after the formulas let the call through
+abbrev passed : tie.After-struct-known → tie.Else2
+passed c = c .before .before
+
+add-new : tie.Need-add-new
+add-new c =
+    let past = passed c .before .before .before in
+    omega (arith, not-last _ _ _ _ _ (sym (past .before .update-rows .ensures) ∙ past .if1 .left))
+
 returns-3 : tie.Need-returns-3
 unfolding updateScalingOf
 returns-3 c =
-    let judged = c .before .before in
+    let judged = passed c .before in
     let made = judged .before in
     let past = made .before in
-    ap completed (made .new-record .ensures)
-    ∙ done _ _ _ _ (judged .last-rows .ensures ∙ ap lastRows (made .new-record .ensures)) (c .before .if2 .left)
+    ap (completed _) (made .new-record .ensures)
+    ∙ done _ _ _ _ (judged .last-rows .ensures ∙ ap lastRows (made .new-record .ensures)) (passed c .if2 .left)
     ∙ done _ _ _ _ (past .before .update-rows .ensures) (past .if1 .left)
 
 pub update-scaling-spec : {M : Type 1} → statement M
@@ -43,4 +53,5 @@ update-scaling-spec =
     new-record-requires
     (λ c κs. search needs)
     returns-2
+    add-new
     returns-3)

@@ -24,15 +24,17 @@ start c = numbers c .before .before
 
 returns : tie.Need-returns
 unfolding barrierPrimalOf
-returns c = refused _ _ _ _ (c .before .rows .ensures ∙ ap (rowsIn _ _ _ _ _ _) (numbers (c .before) .all-finite .ensures)) (c .if1 .taken)
+returns c =
+    let judged = c .before in
+    refused _ _ _ _ (judged .rows .ensures ∙ ap (rowsIn _ _ _ _ _ _ _) (numbers judged .all-finite .ensures)) (c .if1 .taken)
 
 barrier-primal-requires : tie.Need-barrier-primal-requires
 barrier-primal-requires c κs =
     let past = c .before .before in
     let judged = past .before in
     let a = start judged .args in
-    let small = small-dims _ _ _ _ _ _ _ (judged .rows .ensures) (past .if1 .left) in
-    let right = lengths-right _ _ _ _ _ _ _ (judged .rows .ensures) (past .if1 .left) in
+    let small = small-dims _ _ _ _ _ _ _ _ (judged .rows .ensures) (past .if1 .left) in
+    let right = lengths-right _ _ _ _ _ _ _ _ (judged .rows .ensures) (past .if1 .left) in
     omega (arith, same-1 (dims (a .t1)) (length (a .s .now)) right, small .0, small .1)
 
 returns-2 : tie.Need-returns-2
@@ -41,7 +43,7 @@ returns-2 c =
     let computed = c .before in
     let past = computed .before .before .before in
     let judged = past .before in
-    through _ _ _ _ (judged .rows .ensures ∙ ap (rowsIn _ _ _ _ _ _) (numbers judged .all-finite .ensures)) (past .if1 .left)
+    through _ _ _ _ (judged .rows .ensures ∙ ap (rowsIn _ _ _ _ _ _ _) (numbers judged .all-finite .ensures)) (past .if1 .left)
     (c .finished .ensures ∙ ap numberOf (computed .barrier-primal .ensures))
 
 pub barrier-primal-spec : {M : Type 1} → statement M

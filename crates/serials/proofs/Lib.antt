@@ -1,0 +1,2 @@
+-- Serials count completed updates, and tell rounds apart.
+pub mod Serials

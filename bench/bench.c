@@ -190,21 +190,21 @@ CALL(port_update)
 CALL(port_block)
 {
     UNUSED;
-    return spindle_get_hs(*record, out->block + in->block_at[i], in->block_at[i + 1] - in->block_at[i]);
+    return spindle_get_hs(*record, record->serial, out->block + in->block_at[i], in->block_at[i + 1] - in->block_at[i]);
 }
 
 CALL(port_products)
 {
     UNUSED;
     uint32_t code = 0;
-    for (int k = 0; k < 2; k++) code |= spindle_mul_hs(*record, out->y[k] + at, n, in->x[k] + at, n);
+    for (int k = 0; k < 2; k++) code |= spindle_mul_hs(*record, record->serial, out->y[k] + at, n, in->x[k] + at, n);
     return code;
 }
 
 CALL(port_shift)
 {
     UNUSED;
-    return spindle_combined_ds_shift(*record, out->shift + at, n, in->dz + at, n, in->ds + at, n, in->sigma_mu);
+    return spindle_combined_ds_shift(*record, record->serial, out->shift + at, n, in->dz + at, n, in->ds + at, n, in->sigma_mu);
 }
 
 CALL(port_gradient)

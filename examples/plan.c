@@ -1,5 +1,5 @@
-/* One cone's work in a round of a plan, from C: make a record, scale it, take the Hessian block, search a step, test a point, keep the search in a trace,
-   and see a refusal.
+/* One cone's work in a round of a plan, from C: make a record, scale it, take the Hessian block of this very scaling, search a step, test a point, keep the
+   search in a trace, and see a refusal.
    Built and run by `sh build.sh`; on x86-64 also by
 
        cc -Iinclude examples/plan.c target/staticlib/libspindle.a && ./a.out */
@@ -25,8 +25,9 @@ int main(void) {
 
     Updated scaled = spindle_update_scaling(fresh.record, s, 3, z, 3, 1.0, SPINDLE_PRIMAL_DUAL);
     say("update_scaling", scaled.code);
+    uint32_t serial = scaled.record.serial; /* what later calls of this round expect */
     double block[6];
-    say("get_hs", spindle_get_hs(scaled.record, block, 6));
+    say("get_hs", spindle_get_hs(scaled.record, serial, block, 6));
     row("  block =", block, 6);
 
     double dz[3] = {0.5, -2.0, 0.25}, ds[3] = {0.25, -4.0, 0.5}, dual_point[3], primal_point[3];
@@ -59,8 +60,13 @@ int main(void) {
 
     /* a refusal changes nothing: the block below keeps what it held */
     double kept[6] = {1, 2, 3, 4, 5, 6};
-    say("get_hs, never scaled", spindle_get_hs(fresh.record, kept, 6));
+    say("get_hs, never scaled", spindle_get_hs(fresh.record, serial, kept, 6));
     row("  block =", kept, 6);
-    say("get_hs, five places", spindle_get_hs(scaled.record, kept, 5));
+    say("get_hs, five places", spindle_get_hs(scaled.record, serial, kept, 5));
+
+    /* the next round has the next serial: the record of the round before is told apart */
+    Updated next = spindle_update_scaling(scaled.record, s, 3, z, 3, 1.0, SPINDLE_PRIMAL_DUAL);
+    printf("  serials: fresh %u, first round %u, next round %u\n", (unsigned)fresh.record.serial, (unsigned)serial, (unsigned)next.record.serial);
+    say("get_hs, round before", spindle_get_hs(scaled.record, next.record.serial, kept, 6));
     return 0;
 }

@@ -8,9 +8,9 @@ fn main() -> Result<(), Refusal> {
     cone.unit_initialization(&mut z, &mut s)?;
 
     let mut record = cone.scaling();
-    record.update(&s, &z, 1.0, Strategy::default())?;
+    let serial = record.update(&s, &z, 1.0, Strategy::default())?;
     let mut diagonal = vec![0.0; n];
-    record.get_hs(&mut diagonal)?;
+    record.get_hs(serial, &mut diagonal)?;
     println!("diagonal {diagonal:?}");
 
     let (dz, ds) = (vec![-0.5, 0.25, 0.75, -0.5], vec![-2.0, 0.0, 1.0, 0.5]);
@@ -30,8 +30,16 @@ fn main() -> Result<(), Refusal> {
     }
 
     // a refusal says why, and changes nothing
-    match record.get_hs(&mut diagonal[..n - 1]) {
+    match record.get_hs(serial, &mut diagonal[..n - 1]) {
         Ok(()) => println!("this does not happen"),
+        Err(why) => println!("{why}"),
+    }
+
+    // nor does a record of the round before answer for this one
+    let before = record;
+    let serial = record.update(&s, &z, 1.0, Strategy::default())?;
+    match before.get_hs(serial, &mut diagonal) {
+        Ok(()) => println!("nor does this"),
         Err(why) => println!("{why}"),
     }
     Ok(())

@@ -56,10 +56,10 @@ void oracle_port(Call *call, Reply *reply)
         reply->code = r.code; reply->values[0] = r.value;
         break;
     }
-    case 16: reply->code = spindle_get_hs(call->record, IN(0)); break;
-    case 17: reply->code = spindle_mul_hs(call->record, IN(0), IN(1)); break;
-    case 18: reply->code = spindle_higher_correction(call->record, IN(0), IN(1), IN(2)); break;
-    case 19: reply->code = spindle_combined_ds_shift(call->record, IN(0), IN(1), IN(2), call->numbers[0]); break;
+    case 16: reply->code = spindle_get_hs(call->record, call->option, IN(0)); break;
+    case 17: reply->code = spindle_mul_hs(call->record, call->option, IN(0), IN(1)); break;
+    case 18: reply->code = spindle_higher_correction(call->record, call->option, IN(0), IN(1), IN(2)); break;
+    case 19: reply->code = spindle_combined_ds_shift(call->record, call->option, IN(0), IN(1), IN(2), call->numbers[0]); break;
     case 20: reply->values[0] = spindle_sqrt(call->numbers[0]); break;
     case 21: reply->values[0] = spindle_log(call->numbers[0]); break;
     case 22: reply->values[0] = spindle_exp(call->numbers[0]); break;

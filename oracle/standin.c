@@ -347,10 +347,10 @@ Updated spindle_update_scaling(Scaling k, const double *s, size_t ns, const doub
 {
     const Cone *c = &k.cone;
     Updated u = { bad_cone(c) ? 1 : ns != len(c) || nz != len(c) ? 2 : !fins(s, ns) || !fins(z, nz) || !fin(mu) || bad_record(&k) ? 3
-        : strategy != 1 && strategy != 2 ? 4 : 0, k };
+        : strategy != 1 && strategy != 2 ? 4 : k.serial == 4294967295 ? 11 : 0, k };
     if (u.code) return u;
     Scaling n = no_record;
-    n.cone = k.cone; n.scaled = true;
+    n.cone = k.cone; n.scaled = 1; n.serial = k.serial + 1;
     if (!dual_grad(c, z, &n.three, &n.wide)) { u.code = 6; return u; }
     if (c->kind == 3) {
         for (size_t i = 0; i < nz; i++) n.wide.z[i] = z[i];
@@ -414,20 +414,20 @@ Number spindle_compute_barrier(Scaling k, const double *z, size_t nz, const doub
     if (r.code) r.value = 0;
     return r;
 }
-uint32_t spindle_get_hs(Scaling k, double *block, size_t nb)
+uint32_t spindle_get_hs(Scaling k, uint32_t serial, double *block, size_t nb)
 {
     const Cone *c = &k.cone; double out[64];
-    uint32_t code = bad_cone(c) ? 1 : nb != (c->kind == 3 ? len(c) : 6) ? 2 : bad_record(&k) ? 3 : !k.scaled ? 5 : 0;
+    uint32_t code = bad_cone(c) ? 1 : nb != (c->kind == 3 ? len(c) : 6) ? 2 : bad_record(&k) ? 3 : !k.scaled ? 5 : k.serial != serial ? 10 : 0;
     if (code) return code;
     for (size_t i = 0; i < nb; i++) out[i] = c->kind != 3 ? k.three.hs[i] : i < c->dim1 ? k.wide.mu * k.wide.d1[i] : k.wide.mu * k.wide.d2;
     if (!fins(out, nb)) return 7;
     for (size_t i = 0; i < nb; i++) block[i] = out[i];
     return 0;
 }
-uint32_t spindle_mul_hs(Scaling k, double *y, size_t ny, const double *x, size_t nx)
+uint32_t spindle_mul_hs(Scaling k, uint32_t serial, double *y, size_t ny, const double *x, size_t nx)
 {
     const Cone *c = &k.cone; double out[64];
-    uint32_t code = bad_cone(c) ? 1 : ny != len(c) || nx != len(c) ? 2 : !fins(x, nx) || bad_record(&k) ? 3 : !k.scaled ? 5 : 0;
+    uint32_t code = bad_cone(c) ? 1 : ny != len(c) || nx != len(c) ? 2 : !fins(x, nx) || bad_record(&k) ? 3 : !k.scaled ? 5 : k.serial != serial ? 10 : 0;
     if (code) return code;
     if (c->kind != 3) block_mul(k.three.hs, x, out);
     else {
@@ -477,22 +477,23 @@ static void correction(const Scaling *k, const double *ds, const double *v, doub
         for (int i = 0; i < 3; i++) e[i] = ((dv * i2) * mu[i] + 1 * e[i]) * .5;
     }
 }
-static uint32_t judge_correction(const Scaling *k, size_t a, const double *x, size_t b, const double *y, size_t c, double number)
+static uint32_t judge_correction(const Scaling *k, uint32_t serial, size_t a, const double *x, size_t b, const double *y, size_t c, double number)
 {
-    return bad_cone(&k->cone) || k->cone.kind == 3 ? 1 : a != 3 || b != 3 || c != 3 ? 2 : !fins(x, 3) || !fins(y, 3) || !fin(number) || bad_record(k) ? 3 : !k->scaled ? 5 : 0;
+    return bad_cone(&k->cone) || k->cone.kind == 3 ? 1 : a != 3 || b != 3 || c != 3 ? 2 : !fins(x, 3) || !fins(y, 3) || !fin(number) || bad_record(k) ? 3 : !k->scaled ? 5 : k->serial != serial ? 10 : 0;
 }
-uint32_t spindle_higher_correction(Scaling k, double *eta, size_t ne, const double *ds, size_t nds, const double *v, size_t nv)
+uint32_t spindle_higher_correction(Scaling k, uint32_t serial, double *eta, size_t ne, const double *ds, size_t nds, const double *v, size_t nv)
 {
-    double out[3]; uint32_t code = judge_correction(&k, ne, ds, nds, v, nv, 0);
+    double out[3]; uint32_t code = judge_correction(&k, serial, ne, ds, nds, v, nv, 0);
     if (code) return code;
     correction(&k, ds, v, out);
     if (!fins(out, 3)) return 7;
     for (int i = 0; i < 3; i++) eta[i] = out[i];
     return 0;
 }
-uint32_t spindle_combined_ds_shift(Scaling k, double *shift, size_t nsh, const double *step_z, size_t nsz, const double *step_s, size_t nss, double sigma_mu)
+uint32_t spindle_combined_ds_shift(Scaling k, uint32_t serial, double *shift, size_t nsh, const double *step_z, size_t nsz, const double *step_s, size_t nss,
+                                   double sigma_mu)
 {
-    double out[3]; uint32_t code = judge_correction(&k, nsh, step_z, nsz, step_s, nss, sigma_mu);
+    double out[3]; uint32_t code = judge_correction(&k, serial, nsh, step_z, nsz, step_s, nss, sigma_mu);
     if (code) return code;
     correction(&k, step_s, step_z, out);
     for (int i = 0; i < 3; i++) out[i] = k.three.grad[i] * sigma_mu - out[i];

@@ -220,7 +220,7 @@ pub unsafe extern "C" fn rust_changed(cones: *mut u8, inputs: *const Inputs, cou
 #[no_mangle]
 pub unsafe extern "C" fn rust_record(cones: *mut u8, i: usize, record: *mut Scaling) {
     let cones = &*(cones as *const Vec<Any<f64>>);
-    (*record).scaled = true;
+    (*record).scaled = 1;
     match &cones[i] {
         Any::Exponential(c) => (*record).three = c.three(),
         Any::Power(c) => (*record).three = c.three(),

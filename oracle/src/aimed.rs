@@ -100,7 +100,7 @@ fn small_tail(random: &mut Random, entry: u32) -> Option<Call> {
 
 fn gradient_or_barrier(random: &mut Random, entry: u32, cone: Cone, s: &[f64]) -> Call {
     let mut record = record(random, cone);
-    record.scaled = true;
+    record.scaled = 1;
     if entry == GRADIENT_PRIMAL {
         call_of(entry, record, &[&[0.0; MOST][..s.len()], s])
     } else {
@@ -329,7 +329,7 @@ fn flat_block(random: &mut Random, entry: u32) -> Call {
     let kind = 1 + random.below(2) as u32;
     let cone = good_cone(random, kind);
     let mut record = record(random, cone);
-    record.scaled = true;
+    record.scaled = 1;
     let mut l = [0.0; 6];
     for x in l.iter_mut() {
         *x = random.simple();

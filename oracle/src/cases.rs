@@ -9,8 +9,8 @@ use crate::types::*;
 // How often each entry is called, in the order of ENTRIES.
 const WEIGHTS: [usize; 24] = [2, 6, 6, 6, 8, 1, 10, 8, 2, 3, 2, 2, 14, 12, 6, 8, 3, 5, 9, 5, 2, 3, 3, 3];
 
-// What may be wrong with a call, by the number that it aims at.
-pub const FLAWS: usize = 7;
+// What may be wrong with a call, by the number that it aims at, in the table's order.
+pub const FLAWS: [usize; 9] = [1, 2, 3, 4, 11, 5, 10, 6, 7];
 
 pub struct Case {
     pub call: Call,
@@ -34,11 +34,13 @@ pub fn case(random: &mut Random, only: Option<u32>) -> Case {
         _ => 20,
     };
     if random.below(1000) < share {
-        if let Some(call) = aimed::case(random, entry) {
+        if let Some(mut call) = aimed::case(random, entry) {
+            expect(&mut call);
             return Case { call, flaws: 0, aimed: true };
         }
     }
     let mut call = good_case(random, entry);
+    expect(&mut call);
     let mut flaws = 0;
     let count = match random.below(10) {
         0..=5 => 0,
@@ -46,12 +48,19 @@ pub fn case(random: &mut Random, only: Option<u32>) -> Case {
         _ => 2,
     };
     for _ in 0..count {
-        let number = 1 + random.below(FLAWS);
+        let number = FLAWS[random.below(FLAWS.len())];
         if put_flaw(random, &mut call, number) {
             flaws |= 1 << number;
         }
     }
     Case { call, flaws, aimed: false }
+}
+
+// The call expects the serial that its record has.
+fn expect(call: &mut Call) {
+    if names_serial(call.entry) {
+        call.option = call.record.serial;
+    }
 }
 
 fn chosen(random: &mut Random, weights: &[usize]) -> usize {
@@ -535,14 +544,35 @@ pub fn update_points(random: &mut Random, cone: &Cone, s: &mut [f64], z: &mut [f
     }
 }
 
+// a serial that another follows
+fn serial(random: &mut Random) -> u32 {
+    match random.below(8) {
+        0..=3 => 0,
+        4 => 1 + random.below(4) as u32,
+        5 => u32::MAX - 1 - random.below(3) as u32,
+        6 => [255, 256, 65535, 1 << 16, i32::MAX as u32, 1 << 31][random.below(6)],
+        _ => (random.next() as u32).min(u32::MAX - 1),
+    }
+}
+
+// a yes: every value but 0 is one
+pub fn yes(random: &mut Random) -> u32 {
+    if random.chance(70) {
+        1
+    } else {
+        [2, 255, 256, 1 << 16, 1 << 31, u32::MAX][random.below(6)]
+    }
+}
+
+// By updates from a fresh record, or forged: then `scaled` and the serial may disagree.
 pub fn record(random: &mut Random, cone: Cone) -> Scaling {
-    let mut record = Scaling { cone, ..Scaling::ZERO };
+    let mut record = Scaling { cone, serial: serial(random), ..Scaling::ZERO };
     let n = length_of(&cone);
     match random.below(20) {
         0 | 1 => {}
-        2 => record.scaled = true,
+        2 => record.scaled = yes(random),
         3..=5 => {
-            record.scaled = random.chance(90);
+            record.scaled = if random.chance(90) { yes(random) } else { 0 };
             let style = random.below(5);
             used(&mut record, &mut |x| {
                 *x = match style {
@@ -584,7 +614,7 @@ pub fn record(random: &mut Random, cone: Cone) -> Scaling {
             }
             if other == 18 && cone.kind != 3 {
                 // a block that is positive definite without belonging to any point
-                record.scaled = true;
+                record.scaled = yes(random);
                 let h = &mut record.three.h_dual;
                 let l: [f64; 6] = core::array::from_fn(|_| random.unit() * 2.0 - 1.0);
                 h[0] = l[0] * l[0];
@@ -855,7 +885,29 @@ fn put_flaw(random: &mut Random, call: &mut Call, number: usize) -> bool {
             if !entry.takes_record {
                 return false;
             }
-            call.record.scaled = false;
+            call.record.scaled = 0;
+            true
+        }
+        10 => {
+            if !names_serial(call.entry) {
+                return false;
+            }
+            let serial = call.record.serial;
+            let other = match random.below(5) {
+                0 => serial.wrapping_add(1),
+                1 => serial.wrapping_sub(1),
+                2 => serial ^ 1 << random.below(32),
+                3 => 0,
+                _ => u32::MAX,
+            };
+            call.option = other;
+            other != serial
+        }
+        11 => {
+            if call.entry != UPDATE_SCALING {
+                return false;
+            }
+            call.record.serial = u32::MAX;
             true
         }
         6 => {

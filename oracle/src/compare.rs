@@ -1,7 +1,7 @@
 // The command: calls the port case by case, compares everything that comes back as bits with the expected answer, and stops at the first difference
 // with a call that it has made as small as it can.
 
-use crate::cases::{case, used, Case};
+use crate::cases::{case, used, Case, FLAWS};
 use crate::cones::nonsymmetric_common::SEEN;
 use crate::expected::expected;
 use crate::margins;
@@ -47,6 +47,7 @@ pub fn words(call: &Call, answer: &Answer, f: &mut dyn FnMut(&str, &str, usize, 
         f("record.", "dim2", 0, record.cone.dim2 as u64);
         each("record.", "exps", &record.cone.exps, f);
         f("record.", "scaled", 0, record.scaled as u64);
+        f("record.", "serial", 0, record.serial as u64);
         numbers_of("record.", &record.three, &record.wide, f);
     }
     for (i, (slice, &(name, _))) in answer.slices.iter().zip(entry_of(call).slices).enumerate() {
@@ -104,7 +105,8 @@ fn shrunk(mut call: Call) -> Call {
         plain.record.three = Three::ZERO;
         plain.record.wide = Wide::ZERO;
         used_of(&call, &mut plain);
-        for candidate in [Scaling { cone: call.record.cone, scaled: call.record.scaled, ..Scaling::ZERO }, plain.record] {
+        let Scaling { cone, scaled, serial, .. } = call.record;
+        for candidate in [Scaling { cone, scaled, serial, ..Scaling::ZERO }, plain.record] {
             let mut smaller = call;
             smaller.record = candidate;
             if bits_of(&smaller.record) != bits_of(&call.record) && differs(&smaller) {
@@ -215,8 +217,12 @@ fn say_call(call: &Call) {
             say_number("exps", i, x);
         }
     }
-    if call.entry == UPDATE_SCALING || call.entry == BACKTRACK_SEARCH {
-        say::text(if call.entry == UPDATE_SCALING { "  strategy " } else { "  primal " });
+    if call.entry == UPDATE_SCALING || call.entry == BACKTRACK_SEARCH || names_serial(call.entry) {
+        say::text(match call.entry {
+            UPDATE_SCALING => "  strategy ",
+            BACKTRACK_SEARCH => "  primal ",
+            _ => "  expects serial ",
+        });
         say::whole(call.option as u64);
         say::line("");
     }
@@ -242,7 +248,9 @@ fn say_call(call: &Call) {
         }
     }
     if entry.takes_record {
-        say::line(if call.record.scaled { "  record, scaled" } else { "  record, not scaled" });
+        say::text(if call.record.scaled != 0 { "  record, scaled, serial " } else { "  record, not scaled, serial " });
+        say::whole(call.record.serial as u64);
+        say::line("");
         numbers_of("", &call.record.three, &call.record.wide, &mut |_, name, i, bits| say_number(name, i, f64::from_bits(bits)));
     }
 }
@@ -429,7 +437,13 @@ fn see_mutants(options: &Options) {
 }
 
 // by entry, kind (0 for any other) and number
-type Tally = [[[u64; 8]; 4]; 24];
+type Tally = [[[u64; NUMBERS]; 4]; 24];
+
+// pairs of flaws, by their numbers
+type Pairs = [[u64; NUMBERS]; NUMBERS];
+
+// Above the last number that a call can give; 8 and 9 are for the trace calls, which are not here.
+const NUMBERS: usize = 12;
 
 // by side (primal first), kind and answer
 type Answers = [[[u64; 3]; 4]; 2];
@@ -458,8 +472,8 @@ pub extern "C" fn oracle_main(count: i32, words: *const *const u8) -> i32 {
         see_mutants(&options);
         return 0;
     }
-    let mut tally: Tally = [[[0; 8]; 4]; 24];
-    let mut pairs = [[0u64; 8]; 8];
+    let mut tally: Tally = [[[0; NUMBERS]; 4]; 24];
+    let mut pairs: Pairs = [[0; NUMBERS]; NUMBERS];
     let mut rounds = [[0u64; 101]; 2];
     let mut tests = 0;
     let mut answers: Answers = [[[0; 3]; 4]; 2];
@@ -481,8 +495,8 @@ pub extern "C" fn oracle_main(count: i32, words: *const *const u8) -> i32 {
         }
         let kind = if call.record.cone.kind < 4 { call.record.cone.kind as usize } else { 0 };
         tally[call.entry as usize][kind][wanted.reply.code as usize] += 1;
-        for a in 1..8 {
-            for b in a..8 {
+        for a in 1..NUMBERS {
+            for b in a..NUMBERS {
                 if flaws == 1 << a | 1 << b {
                     pairs[a][b] += 1;
                 }
@@ -521,8 +535,8 @@ pub extern "C" fn oracle_main(count: i32, words: *const *const u8) -> i32 {
     0
 }
 
-fn say_tally(tally: &Tally, pairs: &[[u64; 8]; 8], rounds: &[[u64; 101]; 2], tests: u32) {
-    say::line("entry                  kind        0        1        2        3        4        5        6        7");
+fn say_tally(tally: &Tally, pairs: &Pairs, rounds: &[[u64; 101]; 2], tests: u32) {
+    say::line("entry                  kind        0        1        2        3        4       11        5       10        6        7");
     for (entry, kinds) in ENTRIES.iter().zip(tally) {
         for (kind, numbers) in kinds.iter().enumerate() {
             if numbers.iter().all(|&n| n == 0) {
@@ -533,19 +547,19 @@ fn say_tally(tally: &Tally, pairs: &[[u64; 8]; 8], rounds: &[[u64; 101]; 2], tes
                 say::text(" ");
             }
             say::text(if kind == 0 { "  -" } else { ["", "  1", "  2", "  3"][kind] });
-            for &n in numbers {
+            for number in [0].iter().chain(&FLAWS) {
                 say::text(" ");
-                say::column(n, 8);
+                say::column(numbers[*number], 8);
             }
             say::line("");
         }
     }
-    say::line("calls with flaws of two rows put in, by row and row (the diagonal: of one row)");
-    for a in 1..8 {
-        say::whole(a as u64);
-        for b in 1..8 {
+    say::line("calls with flaws of two rows put in, by row and row in the table's order (the diagonal: of one row)");
+    for (i, &a) in FLAWS.iter().enumerate() {
+        say::column(a as u64, 2);
+        for (j, &b) in FLAWS.iter().enumerate() {
             say::text(" ");
-            say::column(if b < a { 0 } else { pairs[a][b] }, 7);
+            say::column(if j < i { 0 } else { pairs[a.min(b)][a.max(b)] }, 7);
         }
         say::line("");
     }

@@ -91,7 +91,7 @@ pub fn record_is_finite(record: &Scaling) -> bool {
     }
 }
 
-// Rows 1 to 5: judged before anything is computed. 0 where none is met.
+// Rows 1 to 5, and 11 and 10 at their places: judged before anything is computed. 0 where none is met.
 pub fn judged(call: &Call) -> u32 {
     let entry = entry_of(call);
     let cone = &call.record.cone;
@@ -123,9 +123,16 @@ pub fn judged(call: &Call) -> u32 {
     if call.entry == UPDATE_SCALING && call.option != 1 && call.option != 2 {
         return 4;
     }
-    let asks_scaled = matches!(call.entry, GET_HS | MUL_HS | HIGHER_CORRECTION | COMBINED_DS_SHIFT);
-    if asks_scaled && !call.record.scaled {
+    // "11 for an update at serial 4,294,967,295, after 4 and before 6"
+    if call.entry == UPDATE_SCALING && call.record.serial == u32::MAX {
+        return 11;
+    }
+    if names_serial(call.entry) && call.record.scaled == 0 {
         return 5;
+    }
+    // "10 if the serial differs, after 5"
+    if names_serial(call.entry) && call.option != call.record.serial {
+        return 10;
     }
     0
 }
@@ -164,7 +171,7 @@ fn finished(call: &Call, answer: &Answer) -> bool {
     match call.entry {
         IS_PRIMAL_FEASIBLE | IS_DUAL_FEASIBLE | BACKTRACK_SEARCH | STEP_LENGTH => true,
         BARRIER_DUAL | BARRIER_PRIMAL | COMPUTE_BARRIER => finite(reply.values[0]),
-        DUAL_GRAD_H => record_is_finite(&Scaling { cone: call.record.cone, scaled: true, three: reply.three, wide: reply.wide }),
+        DUAL_GRAD_H => record_is_finite(&Scaling { cone: call.record.cone, three: reply.three, wide: reply.wide, ..Scaling::ZERO }),
         FRESH | UPDATE_SCALING => record_is_finite(&reply.record),
         _ => entry_of(call).slices.iter().zip(&answer.slices).all(|(&(_, lent), slice)| lent == Lent::Read || all_finite(slice.numbers())),
     }
@@ -192,7 +199,7 @@ fn contradicted() -> u32 {
     }
 }
 
-// A call that rows 1 to 5 let through, by the Rust.
+// A call that these rows let through, by the Rust.
 fn run(call: &Call, oracle: &mut Oracle, answer: &mut Answer) {
     let cone = call.record.cone;
     let n = length_of(&cone);
@@ -253,7 +260,8 @@ fn run(call: &Call, oracle: &mut Oracle, answer: &mut Answer) {
             let strategy = if call.option == 1 { ScalingStrategy::Dual } else { ScalingStrategy::PrimalDual };
             oracle.cone().update_scaling(lent(0), lent(1), call.numbers[0], strategy);
             reply.record.cone = cone;
-            reply.record.scaled = true;
+            reply.record.scaled = 1;
+            reply.record.serial = call.record.serial + 1;
             oracle.store(&mut reply.record);
         }
         GRADIENT_PRIMAL => {

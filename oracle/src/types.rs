@@ -37,7 +37,8 @@ pub struct Wide {
 #[repr(C)]
 pub struct Scaling {
     pub cone: Cone,
-    pub scaled: bool,
+    pub scaled: u32,
+    pub serial: u32,
     pub three: Three,
     pub wide: Wide,
 }
@@ -56,7 +57,7 @@ impl Wide {
 }
 
 impl Scaling {
-    pub const ZERO: Scaling = Scaling { cone: Cone::ZERO, scaled: false, three: Three::ZERO, wide: Wide::ZERO };
+    pub const ZERO: Scaling = Scaling { cone: Cone::ZERO, scaled: 0, serial: 0, three: Three::ZERO, wide: Wide::ZERO };
 }
 
 // A lent slice in the middle of its room: everything beside it is a canary.
@@ -97,7 +98,7 @@ pub const SLICES: usize = 6;
 #[repr(C)]
 pub struct Call {
     pub entry: u32,
-    // the strategy code of an update; 1 for the primal side of a search
+    // the strategy code of an update; 1 for the primal side of a search; the serial that a call expects of its record
     pub option: u32,
     // an entry that takes a cone takes this record's
     pub record: Scaling,
@@ -223,6 +224,11 @@ pub static ENTRIES: [Entry; 24] = [
 
 pub fn entry_of(call: &Call) -> &'static Entry {
     &ENTRIES[call.entry as usize]
+}
+
+// 02, Order 6: "`get_Hs`, `mul_Hs`, correction and combined shift name the serial they expect."
+pub fn names_serial(entry: u32) -> bool {
+    matches!(entry, GET_HS | MUL_HS | HIGHER_CORRECTION | COMBINED_DS_SHIFT)
 }
 
 // The entries that document 01 refuses nothing to.

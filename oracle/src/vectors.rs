@@ -3,10 +3,10 @@
 //   the file    the number of records, then the records
 //   a record    its length in words after this one; entry; option; kind; dim1; dim2;
 //               n, then n exponents (the other places +0);
-//               scaled; n, then the n used numbers of the record passed, in order (0 for an entry that takes a cone);
+//               scaled; serial; n, then the n used numbers of the record passed, in order (0 for an entry that takes a cone);
 //               n, then n plain numbers; n, then n slices, each its length and its numbers as lent;
 //               number; answer; two counts; three values;
-//               scaled; n, then the n used numbers of the record, or gradient and block, handed back (0 for other entries);
+//               scaled; serial; n, then the n used numbers of the record, or gradient and block, handed back (0 for other entries);
 //               for each slice that is written its numbers afterwards
 //
 // Entries count as in spindle.h from fresh = 0 to powf = 23. Used numbers: z, grad, h_dual, hs; for kind 3 z, mu, grad, p, q, r, d1, d2, each cut to the cone's
@@ -34,8 +34,8 @@ fn plain(mut call: Call) -> Call {
     let mut numbers = Vec::new();
     let takes = entry.takes_record;
     used(&mut call.record, &mut |x| numbers.push(*x));
-    let scaled = call.record.scaled;
-    call.record = Scaling { cone, scaled: takes && scaled, ..Scaling::ZERO };
+    let Scaling { scaled, serial, .. } = if takes { call.record } else { Scaling::ZERO };
+    call.record = Scaling { cone, scaled, serial, ..Scaling::ZERO };
     let exps = exponents(&cone);
     for a in call.record.cone.exps[exps..].iter_mut() {
         *a = 0.0;
@@ -89,7 +89,7 @@ fn list(words: &mut Vec<u64>, numbers: &[f64]) {
 }
 
 fn record_list(words: &mut Vec<u64>, record: &Scaling, there: bool) {
-    words.push(record.scaled as u64);
+    words.extend([record.scaled as u64, record.serial as u64]);
     let mut numbers = Vec::new();
     if there && good_dims(&record.cone) {
         let mut record = *record;
@@ -114,7 +114,7 @@ fn record_of(call: &Call, answer: &Answer) -> Vec<u64> {
     words.extend([reply.code as u64, reply.answer as u64, reply.counts[0] as u64, reply.counts[1] as u64]);
     words.extend(reply.values.iter().map(|x| x.to_bits()));
     match call.entry {
-        DUAL_GRAD_H => record_list(&mut words, &Scaling { cone: *cone, scaled: false, three: reply.three, wide: reply.wide }, true),
+        DUAL_GRAD_H => record_list(&mut words, &Scaling { cone: *cone, three: reply.three, wide: reply.wide, ..Scaling::ZERO }, true),
         FRESH | UPDATE_SCALING => record_list(&mut words, &reply.record, true),
         _ => record_list(&mut words, &Scaling::ZERO, false),
     }
@@ -140,10 +140,10 @@ const LONG: usize = 90;
 
 // The list's calls with their answers, border points first: a choice of the first calls, or all of so many.
 pub fn chosen(seed: u64, all: Option<u64>) -> Vec<(Call, Answer)> {
-    let mut held = [[[0u32; 8]; 4]; 24];
-    let mut long = [[[0u32; 8]; 4]; 24];
+    let mut held = [[[0u32; 12]; 4]; 24];
+    let mut long = [[[0u32; 12]; 4]; 24];
     let mut rounds = [[0u32; 101]; 4];
-    let mut limits = [[0u32; 8]; 24];
+    let mut limits = [[0u32; 12]; 24];
     let mut answers = [[[0u32; 3]; 4]; 24];
     let mut list: Vec<(Call, Answer)> = Vec::new();
     for i in 0..paper::ROWS {

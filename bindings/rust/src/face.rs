@@ -112,11 +112,13 @@ extern "C" {
     pub fn spindle_compute_barrier(
         record: Scaling, z: In, nz: usize, s: In, ns: usize, dz: In, ndz: usize, ds: In, nds: usize, alpha: f64,
     ) -> Number;
-    pub fn spindle_get_hs(record: Scaling, block: Out, nb: usize) -> u32;
-    pub fn spindle_mul_hs(record: Scaling, y: Out, ny: usize, x: In, nx: usize) -> u32;
-    pub fn spindle_higher_correction(record: Scaling, eta: Out, ne: usize, ds: In, nds: usize, v: In, nv: usize) -> u32;
+    pub fn spindle_get_hs(record: Scaling, serial: u32, block: Out, nb: usize) -> u32;
+    pub fn spindle_mul_hs(record: Scaling, serial: u32, y: Out, ny: usize, x: In, nx: usize) -> u32;
+    pub fn spindle_higher_correction(
+        record: Scaling, serial: u32, eta: Out, ne: usize, ds: In, nds: usize, v: In, nv: usize,
+    ) -> u32;
     pub fn spindle_combined_ds_shift(
-        record: Scaling, shift: Out, nsh: usize, step_z: In, nsz: usize, step_s: In, nss: usize, sigma_mu: f64,
+        record: Scaling, serial: u32, shift: Out, nsh: usize, step_z: In, nsz: usize, step_s: In, nss: usize, sigma_mu: f64,
     ) -> u32;
 
     pub fn spindle_trace_create(trace: *mut u8, room: usize) -> Written;

@@ -59,6 +59,10 @@ pub enum Refusal {
     NoRoom,
     /// 9: the bytes are no trace, or a record breaks a trace's layout. It comes before 8.
     BadTrace,
+    /// 10: the record has another serial than the call expects: it is of another round. It comes after 5.
+    OtherSerial,
+    /// 11: the record has the last serial, 4,294,967,295, and is updated no more. It comes after 4 and before 6.
+    NoSerialLeft,
     /// Any other number: the archive is of a later version than this crate.
     Unknown(u32),
 }
@@ -76,6 +80,8 @@ impl Refusal {
             Refusal::AnswerNotFinite => 7,
             Refusal::NoRoom => 8,
             Refusal::BadTrace => 9,
+            Refusal::OtherSerial => 10,
+            Refusal::NoSerialLeft => 11,
             Refusal::Unknown(number) => number,
         }
     }
@@ -92,6 +98,8 @@ impl Refusal {
             Refusal::AnswerNotFinite => "the finished answer holds a NaN or an infinity",
             Refusal::NoRoom => "no room for what the trace would become or for the offsets, or 4,096 records already",
             Refusal::BadTrace => "the bytes are no trace, or the record breaks a trace's layout",
+            Refusal::OtherSerial => "the record has another serial than the call expects",
+            Refusal::NoSerialLeft => "the record has the last serial: make a fresh one",
             Refusal::Unknown(_) => "a number that this crate does not know",
         }
     }
@@ -108,6 +116,8 @@ impl Refusal {
             7 => Err(Refusal::AnswerNotFinite),
             8 => Err(Refusal::NoRoom),
             9 => Err(Refusal::BadTrace),
+            10 => Err(Refusal::OtherSerial),
+            11 => Err(Refusal::NoSerialLeft),
             number => Err(Refusal::Unknown(number)),
         }
     }
@@ -405,12 +415,53 @@ pub struct DualGradient {
     pub wide: Wide,
 }
 
+/// Which update made a record: [`Scaling::update`] hands it back, and the four calls that use a scaling take it. Nothing else makes one, so a
+/// round's number or a count of one's own does not pass for it, and before the first update there is none to pass:
+///
+/// ```compile_fail,E0308
+/// # use spindle::{Cone, Strategy};
+/// # let (mut z, mut s, mut block) = ([0.0; 3], [0.0; 3], [0.0; 6]);
+/// # let cone = Cone::exponential();
+/// # cone.unit_initialization(&mut z, &mut s)?;
+/// let mut record = cone.scaling();
+/// record.update(&s, &z, 1.0, Strategy::default())?;
+/// record.get_hs(1, &mut block)?; // a number is no Serial
+/// # Ok::<(), spindle::Refusal>(())
+/// ```
+///
+/// A record that was kept from another round is refused:
+///
+/// ```
+/// # use spindle::{Cone, Refusal, Strategy};
+/// # let (mut z, mut s, mut block) = ([0.0; 3], [0.0; 3], [0.0; 6]);
+/// # let cone = Cone::exponential();
+/// # cone.unit_initialization(&mut z, &mut s)?;
+/// let mut record = cone.scaling();
+/// let first = record.update(&s, &z, 1.0, Strategy::default())?;
+/// let before = record;
+/// let second = record.update(&s, &z, 1.0, Strategy::default())?;
+/// record.get_hs(second, &mut block)?;
+/// assert_eq!(before.get_hs(second, &mut block), Err(Refusal::OtherSerial));
+/// assert_eq!(record.get_hs(first, &mut block), Err(Refusal::OtherSerial));
+/// # Ok::<(), Refusal>(())
+/// ```
+#[derive(Clone, Copy, Debug, PartialEq, Eq, Hash)]
+pub struct Serial(u32);
+
+impl Serial {
+    /// How many updates the record had completed, with this one.
+    pub fn number(self) -> u32 {
+        self.0
+    }
+}
+
 /// The scaling record of a cone.
 #[derive(Clone, Copy, Debug, PartialEq)]
 #[repr(C)]
 pub struct Scaling {
     cone: Cone,
-    scaled: bool,
+    scaled: u32,
+    serial: u32,
     three: Three,
     wide: Wide,
 }
@@ -423,7 +474,7 @@ impl Scaling {
 
     /// Whether an update was ever completed.
     pub fn is_scaled(&self) -> bool {
-        self.scaled
+        self.scaled != 0
     }
 
     /// The numbers of kinds 1 and 2.
@@ -437,12 +488,12 @@ impl Scaling {
     }
 
     /// Scales anew at (s, z). μ counts for generalized cones and for [`Strategy::Dual`]; it is judged always. A refused update leaves the
-    /// record as it was.
-    pub fn update(&mut self, s: &[f64], z: &[f64], mu: f64, strategy: Strategy) -> Result<(), Refusal> {
+    /// record as it was, its serial too. A completed one hands back the new serial, for the four calls below that take one.
+    pub fn update(&mut self, s: &[f64], z: &[f64], mu: f64, strategy: Strategy) -> Result<Serial, Refusal> {
         let out = unsafe { face::spindle_update_scaling(*self, s.as_ptr(), s.len(), z.as_ptr(), z.len(), mu, strategy as u32) };
         Refusal::check(out.code)?;
         *self = out.record;
-        Ok(())
+        Ok(Serial(self.serial))
     }
 
     /// Writes the primal gradient at s and hands back Newton's rounds (0 where Newton was not entered). Of the record, this and the two barriers use
@@ -468,27 +519,34 @@ impl Scaling {
     }
 
     /// Writes the scaling block: six packed numbers, or the diagonal of a generalized cone.
-    pub fn get_hs(&self, block: &mut [f64]) -> Result<(), Refusal> {
-        Refusal::check(unsafe { face::spindle_get_hs(*self, block.as_mut_ptr(), block.len()) })
+    pub fn get_hs(&self, serial: Serial, block: &mut [f64]) -> Result<(), Refusal> {
+        Refusal::check(unsafe { face::spindle_get_hs(*self, serial.0, block.as_mut_ptr(), block.len()) })
     }
 
     /// Writes the scaling times x.
-    pub fn mul_hs(&self, y: &mut [f64], x: &[f64]) -> Result<(), Refusal> {
-        Refusal::check(unsafe { face::spindle_mul_hs(*self, y.as_mut_ptr(), y.len(), x.as_ptr(), x.len()) })
+    pub fn mul_hs(&self, serial: Serial, y: &mut [f64], x: &[f64]) -> Result<(), Refusal> {
+        Refusal::check(unsafe { face::spindle_mul_hs(*self, serial.0, y.as_mut_ptr(), y.len(), x.as_ptr(), x.len()) })
     }
 
     /// Writes the third-order correction η for the steps ds and v; zeros where the Hessian has no Cholesky factor. Not for generalized cones.
-    pub fn higher_correction(&self, eta: &mut [f64], ds: &[f64], v: &[f64]) -> Result<(), Refusal> {
+    pub fn higher_correction(&self, serial: Serial, eta: &mut [f64], ds: &[f64], v: &[f64]) -> Result<(), Refusal> {
         Refusal::check(unsafe {
-            face::spindle_higher_correction(*self, eta.as_mut_ptr(), eta.len(), ds.as_ptr(), ds.len(), v.as_ptr(), v.len())
+            face::spindle_higher_correction(*self, serial.0, eta.as_mut_ptr(), eta.len(), ds.as_ptr(), ds.len(), v.as_ptr(), v.len())
         })
     }
 
     /// Writes the combined step's shift: the dual gradient times σμ, less the third-order correction. Not for generalized cones.
-    pub fn combined_ds_shift(&self, shift: &mut [f64], step_z: &[f64], step_s: &[f64], sigma_mu: f64) -> Result<(), Refusal> {
+    pub fn combined_ds_shift(
+        &self,
+        serial: Serial,
+        shift: &mut [f64],
+        step_z: &[f64],
+        step_s: &[f64],
+        sigma_mu: f64,
+    ) -> Result<(), Refusal> {
         Refusal::check(unsafe {
             face::spindle_combined_ds_shift(
-                *self, shift.as_mut_ptr(), shift.len(), step_z.as_ptr(), step_z.len(), step_s.as_ptr(), step_s.len(), sigma_mu,
+                *self, serial.0, shift.as_mut_ptr(), shift.len(), step_z.as_ptr(), step_z.len(), step_s.as_ptr(), step_s.len(), sigma_mu,
             )
         })
     }
@@ -541,7 +599,7 @@ mod tests {
         for number in (1..=12).chain([u32::MAX]) {
             let refusal = Refusal::check(number).unwrap_err();
             assert_eq!(refusal.number(), number);
-            assert_eq!(matches!(refusal, Refusal::Unknown(_)), number > 9);
+            assert_eq!(matches!(refusal, Refusal::Unknown(_)), number > 11);
         }
     }
 }

@@ -1,5 +1,5 @@
 //! Every call once where it is done and once for each number that it can give, with untouched slices and records at a refusal.
-use spindle::{kernels, Answer, Cone, Refusal, Scaling, Settings, Strategy};
+use spindle::{kernels, Answer, Cone, Refusal, Scaling, Serial, Settings, Strategy};
 
 const UNTOUCHED: [f64; 6] = [11.0, 12.0, 13.0, 14.0, 15.0, 16.0];
 
@@ -15,14 +15,20 @@ fn generalized() -> Cone {
     Cone::generalized(&[0.25, 0.75], 2).unwrap()
 }
 
-/// A record that was scaled at the cone's own starting point.
-fn scaled(cone: Cone) -> Scaling {
+/// A completed update at the cone's own starting point.
+fn update(record: &mut Scaling) -> Serial {
+    let cone = *record.cone();
     let n = cone.numel();
     let (mut z, mut s) = ([0.0; 64], [0.0; 64]);
     cone.unit_initialization(&mut z[..n], &mut s[..n]).unwrap();
+    record.update(&s[..n], &z[..n], 1.0, Strategy::PrimalDual).unwrap()
+}
+
+/// A record that was scaled once, and its serial.
+fn scaled(cone: Cone) -> (Scaling, Serial) {
     let mut record = cone.scaling();
-    record.update(&s[..n], &z[..n], 1.0, Strategy::PrimalDual).unwrap();
-    record
+    let serial = update(&mut record);
+    (record, serial)
 }
 
 #[test]
@@ -165,19 +171,19 @@ fn a_record_is_scaled_and_used() {
         let block = if n == 3 { 6 } else { n };
         let mut out = vec![9.0; block];
         let fresh = cone.scaling();
+        let (record, serial) = scaled(cone);
         assert!(!fresh.is_scaled());
-        assert_eq!(fresh.get_hs(&mut out), Err(Refusal::NeverScaled));
+        assert_eq!(fresh.get_hs(serial, &mut out), Err(Refusal::NeverScaled));
         assert_eq!(out, vec![9.0; block]);
 
-        let record = scaled(cone);
         assert!(record.is_scaled());
         assert_eq!(record.cone(), &cone);
-        record.get_hs(&mut out).unwrap();
+        record.get_hs(serial, &mut out).unwrap();
         assert!(out.iter().all(|x| x.is_finite()));
         let (x, mut y) = (vec![1.0; n], vec![0.0; n]);
-        record.mul_hs(&mut y, &x).unwrap();
+        record.mul_hs(serial, &mut y, &x).unwrap();
         assert!(y.iter().all(|x| x.is_finite()));
-        assert_eq!(record.mul_hs(&mut y[..n - 1], &x), Err(Refusal::BadLength));
+        assert_eq!(record.mul_hs(serial, &mut y[..n - 1], &x), Err(Refusal::BadLength));
 
         let (mut z, mut s) = (vec![0.0; n], vec![0.0; n]);
         cone.unit_initialization(&mut z, &mut s).unwrap();
@@ -194,7 +200,7 @@ fn the_primal_side_uses_the_cone_alone() {
         let (mut z, mut s) = (vec![0.0; n], vec![0.0; n]);
         cone.unit_initialization(&mut z, &mut s).unwrap();
         s[n - 1] += 0.125;
-        let (fresh, record) = (cone.scaling(), scaled(cone));
+        let (fresh, record) = (cone.scaling(), scaled(cone).0);
         let (mut g, mut h) = (vec![0.0; n], vec![0.0; n]);
         assert_eq!(fresh.gradient_primal(&mut g, &s), record.gradient_primal(&mut h, &s));
         assert_eq!(g, h);
@@ -217,11 +223,50 @@ fn the_primal_side_uses_the_cone_alone() {
 fn a_refused_update_keeps_the_record() {
     for cone in [exponential(), power(), generalized()] {
         let n = cone.numel();
-        let mut record = scaled(cone);
+        let (mut record, serial) = scaled(cone);
         let before = record;
         let bad = vec![f64::INFINITY; n];
         assert_eq!(record.update(&bad, &bad, 1.0, Strategy::Dual), Err(Refusal::NotFinite));
         assert_eq!(record, before);
+        let mut out = vec![0.0; if n == 3 { 6 } else { n }];
+        record.get_hs(serial, &mut out).unwrap();
+    }
+}
+
+#[test]
+fn serials_tell_rounds_apart() {
+    for cone in [exponential(), power(), generalized()] {
+        let n = cone.numel();
+        let mut record = cone.scaling();
+        let mut rounds = Vec::new();
+        for round in 1..=4 {
+            let serial = update(&mut record);
+            assert_eq!(serial.number(), round);
+            rounds.push((record, serial));
+        }
+        let block = if n == 3 { 6 } else { n };
+        let (x, mut y, mut out) = (vec![1.0; n], vec![9.0; n], vec![9.0; block]);
+        for (i, (record, _)) in rounds.iter().enumerate() {
+            for (j, &(_, serial)) in rounds.iter().enumerate() {
+                let wanted = if i == j { Ok(()) } else { Err(Refusal::OtherSerial) };
+                out.fill(9.0);
+                y.fill(9.0);
+                assert_eq!(record.get_hs(serial, &mut out), wanted);
+                assert_eq!(record.mul_hs(serial, &mut y, &x), wanted);
+                assert_eq!((out == vec![9.0; block], y == vec![9.0; n]), (i != j, i != j));
+                if n == 3 {
+                    let mut eta = [0.5; 3];
+                    assert_eq!(record.higher_correction(serial, &mut eta, &[0.1, 0.2, 0.3], &[0.3, 0.1, 0.2]), wanted);
+                    assert_eq!(record.combined_ds_shift(serial, &mut eta, &[0.1, 0.2, 0.3], &[0.3, 0.1, 0.2], 0.5), wanted);
+                    assert_eq!(eta == [0.5; 3], i != j);
+                }
+            }
+        }
+        // lengths and numbers are judged before the serial, 5 before it, too
+        let (last, first) = (rounds[3].0, rounds[0].1);
+        assert_eq!(last.get_hs(first, &mut out[..block - 1]), Err(Refusal::BadLength));
+        assert_eq!(last.mul_hs(first, &mut y, &vec![f64::NAN; n]), Err(Refusal::NotFinite));
+        assert_eq!(cone.scaling().get_hs(first, &mut out), Err(Refusal::NeverScaled));
     }
 }
 
@@ -229,14 +274,14 @@ fn a_refused_update_keeps_the_record() {
 fn corrections_are_for_three_dimensions() {
     let mut eta = [0.5; 3];
     for cone in [exponential(), power()] {
-        let record = scaled(cone);
-        record.higher_correction(&mut eta, &[0.1, 0.2, 0.3], &[0.3, 0.1, 0.2]).unwrap();
-        record.combined_ds_shift(&mut eta, &[0.1, 0.2, 0.3], &[0.3, 0.1, 0.2], 0.5).unwrap();
+        let (record, serial) = scaled(cone);
+        record.higher_correction(serial, &mut eta, &[0.1, 0.2, 0.3], &[0.3, 0.1, 0.2]).unwrap();
+        record.combined_ds_shift(serial, &mut eta, &[0.1, 0.2, 0.3], &[0.3, 0.1, 0.2], 0.5).unwrap();
     }
     eta = [0.5; 3];
-    let record = scaled(generalized());
-    assert_eq!(record.higher_correction(&mut eta, &[0.0; 3], &[0.0; 3]), Err(Refusal::BadCone));
-    assert_eq!(record.combined_ds_shift(&mut eta, &[0.0; 3], &[0.0; 3], 0.5), Err(Refusal::BadCone));
+    let (record, serial) = scaled(generalized());
+    assert_eq!(record.higher_correction(serial, &mut eta, &[0.0; 3], &[0.0; 3]), Err(Refusal::BadCone));
+    assert_eq!(record.combined_ds_shift(serial, &mut eta, &[0.0; 3], &[0.0; 3], 0.5), Err(Refusal::BadCone));
     assert_eq!(eta, [0.5; 3]);
 }
 

@@ -13,6 +13,7 @@ use Rattle.cone.specs.declared.Rounds.{Rounds}
 use Rattle.cone.proofs.Outcomes.{one, two}
 use Rattle.trace_entries.proofs.Agree.{left}
 use Rattle.replayed.proofs.Agree.{noted-alike}
+use Rattle.rescued.proofs.Agree.{saved-alike}
 use Rattle.spindle.proofs.spindle_sqrt.Reads as sqrt
 use Rattle.spindle.proofs.spindle_log.Reads as log
 use Rattle.spindle.proofs.spindle_exp.Reads as exp
@@ -43,6 +44,7 @@ use Rattle.spindle.proofs.spindle_trace_append.Reads as trace-append
 use Rattle.spindle.proofs.spindle_trace_open.Reads as trace-open
 use Rattle.spindle.proofs.spindle_trace_record.Reads as trace-record
 use Rattle.spindle.proofs.spindle_replay.Reads as replay
+use Rattle.spindle.proofs.spindle_rescue.Reads as rescue
 
 pub sqrt-agrees : OneAnswer sqrt.Post
 sqrt-agrees κs a x y s t p q = p ∙ sym q
@@ -135,3 +137,6 @@ trace-record-agrees κs a x y s t p q = p ∙ sym q
 
 pub replay-agrees : OneOutcome replay.Post {A = List ℕ} (λ κs s. now (s .1 .0))
 replay-agrees κs a x y s t p q = noted-alike (p ∙ sym q)
+
+pub rescue-agrees : OneOutcome rescue.Post {A = List ℕ} (λ κs s. now (s .1 .0))
+rescue-agrees κs a x y s t p q = saved-alike (p ∙ sym q)

@@ -5,6 +5,7 @@ ghost use lib.ListN.{length};
 use libc::STDERR_FILENO;
 use libc::STDOUT_FILENO;
 use replay_file::put_replay;
+use trace_file::read_argument;
 
 // One byte more than a file may have, so that a larger one shows. The `ensures` gives the length alone, which lending the array needs.
 fn file_room() -> [u8; 65537]
@@ -34,25 +35,9 @@ fn main() {
         io::write_all(STDERR_FILENO, b"usage: replay FILE\n");
         return;
     }
-    let mut path = io::buffer();
-    let n = os::arg(1, &mut path);
-    if os::errno() != 0 {
-        os::fail(b"FILE");
-        return;
-    }
-    let fd = os::open_read(&path[..n]);
-    if fd < 0 {
-        os::fail(&path[..n]);
-        return;
-    }
     let mut file = file_room();
-    let got = io::read_full(fd, &mut file);
-    // a read that fails ends the bytes as the file's end does: one read more tells them apart
-    let mut more = [0; 1];
-    if libc::read(fd, &mut more) < 0 {
-        os::fail(&path[..n]);
-        return;
+    let got = read_argument(1, b"FILE", &mut file);
+    if got.done {
+        print(&file[..got.count]);
     }
-    libc::close(fd);
-    print(&file[..got]);
 }

@@ -1,18 +1,18 @@
 -- From the answer of a replay with a row of 4,096 places to its text: 8 is never given for want of room. Assumes nothing.
-use mathlib.Core.Path.{_≡_, refl, sym, ap, _∙_}
-use mathlib.Core.Bool.{Bool, true, false, cond}
+use mathlib.Core.Path.{_≡_, refl, ap, _∙_}
+use mathlib.Core.Bool.{Bool, true, false}
 use mathlib.Core.List.{List, _++_}
 use Prim.Native.Nat.{ℕ, _+_, _≤_, _<_}
 use native.Mathlib.Omega.{arith}
-use lib.Dec.{ltb}
 use lib.ListN.{length, take, drop}
 use lib.Seq.{take-at}
 use borrow.Author.Tests.{lt-ltb, le-ltb}
 use Rattle.cone.specs.Refusals.{traceRow, settle}
 use Rattle.trace_layout.specs.Traces.{editionAt, goodTrace, recordsOf}
-use Rattle.replay_text.specs.Text.{replayText, refusedText}
+use Rattle.lines.specs.Lines.{refusedText}
+use Rattle.replay_text.specs.Text.{replayText}
 use Rattle.replayed.specs.declared.Replayed.{Replayed}
-use Rattle.replayed.specs.Replay.{sameCount, differing, Noted, refuse, replayOf}
+use Rattle.replayed.specs.Replay.{sameCount, differing, Noted, replayOf}
 use Rattle.replayed.proofs.Counting.{few-differ}
 use Rattle.replay_file.specs.Printed.{traceText, printedOf}
 

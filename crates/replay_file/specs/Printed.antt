@@ -5,7 +5,8 @@ use mathlib.Core.List.{List}
 use lib.Dec.{ltb}
 use lib.ListN.{length}
 use Rattle.trace_layout.specs.Traces.{editionAt, goodTrace, recordsOf}
-use Rattle.replay_text.specs.Text.{replayText, refusedText}
+use Rattle.lines.specs.Lines.{refusedText}
+use Rattle.replay_text.specs.Text.{replayText}
 use Rattle.replayed.specs.Replay.{sameCount, differing}
 
 -- "print three lines: `records N`, `same N`, `differ N`, followed by one line `at OFFSET` per differing record in file order". Of a good trace

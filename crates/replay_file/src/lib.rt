@@ -4,7 +4,7 @@ ghost use Prim.Native.Nat.{_≤_};
 ghost use lib.ListN.{length};
 ghost use lib.Seq.{sets};
 ghost use Rattle.replay_file.specs.Printed.{printedOf};
-use replay_text::put_refused;
+use lines::put_refused;
 use replay_text::put_text;
 use replayed::replay;
 

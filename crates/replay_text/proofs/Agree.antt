@@ -5,10 +5,6 @@ use Prim.Native.Nat.{ℕ}
 use denote.Ref.{now}
 use Rattle.arith.specs.Outcomes.{OneOutcome}
 use Rattle.replay_text.proofs.put_text.Reads as put-text
-use Rattle.replay_text.proofs.put_refused.Reads as put-refused
 
 pub put-text-agrees : OneOutcome put-text.Post {A = List ℕ} (λ κs s. now (s .0))
 put-text-agrees κs a x y s t p q = (p .0 ∙ sym (q .0), p .1 ∙ sym (q .1))
-
-pub put-refused-agrees : OneOutcome put-refused.Post {A = List ℕ} (λ κs s. now (s .0))
-put-refused-agrees κs a x y s t p q = (p .0 ∙ sym (q .0), p .1 ∙ sym (q .1))

@@ -1,19 +1,10 @@
--- The text of 02's own example, byte by byte, a number of two digits, and the refusals. Assumes nothing.
+-- The text of 02's own example, byte by byte, that of no records, and a number of four digits. Assumes nothing.
 use mathlib.Core.Path.{_≡_, refl}
 use mathlib.Core.List.{List, [], _∷_, _++_}
 use Prim.Native.Nat.{ℕ}
 use Rattle.decimal.specs.Decimal.{decimalIn, decimalOf}
-use Rattle.replay_text.specs.Text.{
-  recordsWord,
-  sameWord,
-  differWord,
-  atWord,
-  refusedWord,
-  lineOf,
-  offsetLines,
-  replayText,
-  refusedText,
-}
+use Rattle.lines.specs.Lines.{lineOf}
+use Rattle.replay_text.specs.Text.{recordsWord, sameWord, differWord, atWord, offsetLines, replayText}
 
 -- 50 is `2`, 49 `1`, 48 `0`, and 10 the line feed
 abbrev digits : List ℕ → List ℕ
@@ -32,7 +23,3 @@ no-records = refl
 largest : decimalOf 4096 ≡ 52 ∷ 48 ∷ 57 ∷ 54 ∷ []
 unfolding decimalIn
 largest = refl
-
-refused-eight : refusedText 8 ≡ refusedWord ++ digits (56 ∷ [])
-unfolding lineOf decimalIn
-refused-eight = refl

@@ -1,20 +1,13 @@
--- Lines one behind the other: line i in front of those that are left, and how long a line is at most. Assumes nothing.
+-- Lines one behind the other: line i in front of those that are left. Assumes nothing.
 use mathlib.Core.Path.{_≡_, ap, _∙_}
-use mathlib.Core.List.{List, [], _∷_, _++_}
-use Prim.Native.Nat.{ℕ, suc, _+_, _<_, _≤_}
-use native.Mathlib.Omega.{arith}
+use mathlib.Core.List.{List, [], _++_}
+use Prim.Native.Nat.{ℕ, _+_, _<_, _≤_}
 use native.Mathlib.Numerals.{add-one}
 use lib.ListN.{length, drop, getD, length-append, drop-of-length-le}
 use lib.Seq.{sets, drop-cons}
 use Rattle.words.proofs.Stores.{sets-after}
-use Rattle.decimal.specs.Decimal.{decimalOf}
-use Rattle.decimal.proofs.Digits.{length-decimal}
-use Rattle.replay_text.specs.Text.{atWord, lineOf, offsetLines}
-
-pub line-most : (word : List ℕ) (n : ℕ) → length (lineOf word n) ≤ length word + 21
-unfolding lineOf
-line-most word n =
-    omega (arith, length-append (word ++ decimalOf n) (10 ∷ []), length-append word (decimalOf n), length-decimal 20 n)
+use Rattle.lines.specs.Lines.{lineOf}
+use Rattle.replay_text.specs.Text.{atWord, offsetLines}
 
 module _ (offsets : List ℕ) (i : ℕ) (h : i < length offsets) where
   abbrev line : List ℕ

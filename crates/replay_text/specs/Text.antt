@@ -1,9 +1,9 @@
 -- What a replay prints. 02, Order 2. Definitions only.
 use Prim.Native.Nat.{ℕ}
 use mathlib.Core.List.{List, [], _∷_, _++_}
-use Rattle.decimal.specs.Decimal.{decimalOf}
+use Rattle.lines.specs.Lines.{lineOf}
 
--- `records `, `same `, `differ `, `at ` and `refused `
+-- `records `, `same `, `differ ` and `at `
 abbrev pub recordsWord : List ℕ
 recordsWord = 114 ∷ 101 ∷ 99 ∷ 111 ∷ 114 ∷ 100 ∷ 115 ∷ 32 ∷ []
 
@@ -16,13 +16,6 @@ differWord = 100 ∷ 105 ∷ 102 ∷ 102 ∷ 101 ∷ 114 ∷ 32 ∷ []
 abbrev pub atWord : List ℕ
 atWord = 97 ∷ 116 ∷ 32 ∷ []
 
-abbrev pub refusedWord : List ℕ
-refusedWord = 114 ∷ 101 ∷ 102 ∷ 117 ∷ 115 ∷ 101 ∷ 100 ∷ 32 ∷ []
-
--- a word, a number, and the line feed, which is 10
-unfoldable pub lineOf : List ℕ → ℕ → List ℕ
-lineOf word n = (word ++ decimalOf n) ++ (10 ∷ [])
-
 -- "one line `at OFFSET` per differing record in file order"
 unfoldable pub offsetLines : List ℕ → List ℕ
 offsetLines [] = []
@@ -32,7 +25,3 @@ offsetLines (at ∷ offsets) = lineOf atWord at ++ offsetLines offsets
 unfoldable pub replayText : ℕ → ℕ → ℕ → List ℕ → List ℕ
 replayText records same differ offsets =
     ((lineOf recordsWord records ++ lineOf sameWord same) ++ lineOf differWord differ) ++ offsetLines offsets
-
--- "a file above 65,536 bytes prints only `refused 8`, otherwise a broken trace only `refused 9`"
-abbrev pub refusedText : ℕ → List ℕ
-refusedText code = lineOf refusedWord code

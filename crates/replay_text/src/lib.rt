@@ -4,12 +4,10 @@ ghost use mathlib.Core.Path.{_≡_};
 ghost use Prim.Native.Nat.{_+_, _*_, _≤_};
 ghost use lib.ListN.{length};
 ghost use lib.Seq.{sets};
-ghost use Rattle.words.specs.Words.{le};
-ghost use Rattle.replay_text.specs.Text.{lineOf, offsetLines, replayText, refusedText};
-use decimal::put_decimal;
-use words::put;
+ghost use Rattle.replay_text.specs.Text.{offsetLines, replayText};
+use lines::put_line;
 
-// `records `, `same `, `differ `, `at ` and `refused `, as numbers of so many bytes.
+// `records `, `same `, `differ ` and `at `, as numbers of so many bytes.
 const RECORDS: u64 = 0x2073_6472_6f63_6572;
 
 const SAME: u64 = 0x20_656d_6173;
@@ -17,20 +15,6 @@ const SAME: u64 = 0x20_656d_6173;
 const DIFFER: u64 = 0x20_7265_6666_6964;
 
 const AT: u64 = 0x20_7461;
-
-const REFUSED: u64 = 0x2064_6573_7566_6572;
-
-// A word, a number and a line feed. The answer is the place behind.
-fn put_line(bytes: &mut [u8], place: usize, width: usize, word: u64, n: u64) -> usize
-    requires { ⌜ place + width + 21 ≤ length (now bytes) ⌝ }
-    ensures { λ r. ⌜ (r ≡ place + length (lineOf (le width word) n))
-        × (now (bytes .exit) ≡ sets (now (bytes .entry)) place (lineOf (le width word) n)) ⌝ }
-{
-    put(bytes, place, width, word);
-    let end = put_decimal(bytes, place + width, n);
-    bytes[end] = 10;
-    end + 1
-}
 
 // A line for each offset.
 fn put_offsets(bytes: &mut [u8], place: usize, offsets: &[u64]) -> usize
@@ -55,12 +39,4 @@ pub fn put_text(bytes: &mut [u8], records: u32, same: u32, differ: u32, offsets:
     let third = put_line(bytes, second, 5, SAME, same as u64);
     let fourth = put_line(bytes, third, 7, DIFFER, differ as u64);
     put_offsets(bytes, fourth, offsets)
-}
-
-// The one line of a refusal.
-pub fn put_refused(bytes: &mut [u8], code: u32) -> usize
-    requires { ⌜ 29 ≤ length (now bytes) ⌝ }
-    ensures { λ r. ⌜ (r ≡ length (refusedText code)) × (now (bytes .exit) ≡ sets (now (bytes .entry)) 0 (refusedText code)) ⌝ }
-{
-    put_line(bytes, 0, 8, REFUSED, code as u64)
 }

@@ -2,21 +2,21 @@
 use mathlib.Core.Path.{_≡_, refl, sym, ap, _∙_}
 use mathlib.Core.Bool.{Bool, true, false, cond, not}
 use mathlib.Core.List.{List, [], _∷_, _++_}
-use Prim.Native.Nat.{ℕ, zero, suc, _+_, _-_, _≤_, _<_}
+use Prim.Native.Nat.{ℕ, zero, suc, _+_, _-_, _≤_}
 use native.Mathlib.Omega.{arith}
 use lib.Dec.{eqb, ltb}
-use lib.ListN.{length, take, drop, length-append}
-use lib.Seq.{sets, sets-eq, take-at, length-take-le}
+use lib.ListN.{length, take, drop}
+use lib.Seq.{sets}
 use borrow.Author.Tests.{ltb-false}
 use Rattle.arith.proofs.Branches.{and-left, false-not-true}
-use Rattle.cone.specs.Refusals.{traceRow, settle}
+use Rattle.cone.specs.Refusals.{traceRow}
 use Rattle.cone.proofs.Settled.{refused, through, trace-row-off}
-use Rattle.trace_layout.specs.Records.{Record, recordAt, sizeAt, sizeIn}
+use Rattle.words.proofs.Stores.{sets-first}
+use Rattle.trace_layout.specs.Records.{Record, sizeAt, sizeIn}
 use Rattle.trace_layout.specs.Traces.{countAt, listAt, editionAt, trailerOk, walks, goodTrace, recordsIn, recordsOf}
 use Rattle.trace_layout.proofs.Traces.{ends}
 use Rattle.trace.specs.declared.Opened.{Opened}
 use Rattle.trace.specs.Opening.{openOf}
-use Rattle.replayed.specs.declared.Replayed.{Replayed}
 use Rattle.replayed.specs.Replay.{sameRecord, sameCount, noted, differing, differingIn, Noted, refuse, refusedWith, replayOf}
 use Rattle.replayed.proofs.Noting.{few}
 
@@ -114,10 +114,7 @@ module _ (bs old : List ℕ) where
         same-is = omega (arith, count-is, count, ap length found-is, counts (editionAt bs) 0 (recordsOf bs))
 
         wrote : sets old 0 D ≡ D ++ drop (length D) old
-        wrote =
-            let h : 0 + length D ≤ length old = omega (arith, room, count, ap length found-is) in
-            let z : 0 + length D ≡ length D = omega arith in
-            rw z at (sets-eq D old 0 h)
+        wrote = sets-first D old (omega (arith, room, count, ap length found-is))
 
         pub replayed-row : (exit row′ : List ℕ) → row′ ≡ found → exit ≡ sets old 0 row′
             → record { answer = record { code = 0; records = o .count; same = o .count - n; differ = n }; offsets = exit } ≡ replayOf bs old
@@ -125,10 +122,3 @@ module _ (bs old : List ℕ) where
         replayed-row exit row′ cut stored =
             through _ code answered (refuse old) rows on
             (rw (stored, cut, found-is, wrote, same-is, count-is, count ∙ ap length found-is))
-
--- the first n places of a row that begins with n numbers are these
-pub cut-is : (row found : List ℕ) (exit : List ℕ) (n : ℕ) → exit ≡ sets row 0 found → n ≡ length found → length found ≤ length row
-    → take n exit ≡ found
-cut-is row found exit n wrote count h =
-    let fits : 0 + length found ≤ length row = omega arith in
-    rw (wrote, sets-eq found row 0 fits) (take-at found (drop (0 + length found) row) n (sym count))

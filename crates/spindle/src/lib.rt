@@ -12,6 +12,7 @@ ghost use Rattle.trace_entries.specs.Writing.{createOf, appendOf};
 ghost use Rattle.trace_entries.specs.Opened.{openedOf};
 ghost use Rattle.recorded.specs.Recorded.{recordedIn};
 ghost use Rattle.replayed.specs.Replay.{Noted, replayOf};
+ghost use Rattle.rescued.specs.Rescue.{rescueOf};
 use cone::Cone;
 use cone::DualGrad;
 use cone::Found;
@@ -24,6 +25,7 @@ use cone::Updated;
 use cone::YesNo;
 use recorded::Recorded;
 use replayed::Replayed;
+use rescued::Rescued;
 use trace_entries::Opened;
 use trace_entries::Written;
 use verdict::Verdict;
@@ -314,4 +316,13 @@ pub extern "C" fn spindle_replay(trace: &[u8], at: &mut [u64]) -> Replayed
     ensures { λ r. ⌜ record { answer = r; offsets = now (at .exit) } ≡ replayOf (now (trace .entry)) (now (at .entry)) ⌝ }
 {
     replayed::replay(trace, at)
+}
+
+// ---- 02, Order 7: a cut trace rescued
+
+#[no_mangle]
+pub extern "C" fn spindle_rescue(input: &[u8], output: &mut [u8]) -> Rescued
+    ensures { λ r. ⌜ record { answer = r; output = now (output .exit) } ≡ rescueOf (now (input .entry)) (now (output .entry)) ⌝ }
+{
+    rescued::rescue(input, output)
 }

@@ -16,7 +16,7 @@ use Rattle.words.proofs.Runs.{number-at, runsBytes-below, runsOf-runsBytes, run
 use Rattle.trace_layout.specs.Records.{Record, sizeIn, one, bytesOf, only, sizeAt, laidAt}
 use Rattle.trace_layout.specs.Traces.{backMark, mostRecords, newestEdition, known, recordsBytes, offsetsFrom, trailerRuns, trailerOf}
 use Rattle.trace_layout.specs.Traces.{traceOf, AllLaid, listAt, countAt, editionAt, trailerOk, walks, goodTrace, recordsIn, recordsOf}
-use Rattle.trace_layout.proofs.Records.{bounds, size-most, size-back, record-back, laid-back, length-bytesOf, bytes-read, laid-read}
+use Rattle.trace_layout.proofs.Records.{bounds, size-most, size-least, size-back, record-back, laid-back, length-bytesOf, bytes-read, laid-read}
 use Rattle.trace_layout.proofs.Records.{sized-read, size-read}
 
 -- ---- the walk over records that were written
@@ -28,6 +28,14 @@ length-recordsBytes e (r ∷ rs) h =
     let size : sizeIn e r ≤ 2380 =
     size-most e (r .kind) (r .dim1) (r .dim2) (r .flag) (bounds (r .kind) (r .dim1) (r .dim2) (r .flag) (h .0 .shape)) in
     simp (length-append, length-bytesOf e r (h .0) (h .1) []) (omega (arith, length-recordsBytes e rs (h .2)))
+
+-- a record has at least 56 bytes
+pub records-least : (e : ℕ) (rs : List Record) → AllLaid e rs → 56 * length rs ≤ length (recordsBytes e rs)
+unfolding recordsBytes AllLaid
+records-least e [] h = omega arith
+records-least e (r ∷ rs) h =
+    let size : 56 ≤ sizeIn e r = size-least e (r .kind) (r .dim1) (r .dim2) (r .flag) in
+    simp (length-append, length-bytesOf e r (h .0) (h .1) []) (omega (arith, records-least e rs (h .2)))
 
 pub length-offsets : (e at : ℕ) (rs : List Record) → length (offsetsFrom e at rs) ≡ length rs
 unfolding offsetsFrom

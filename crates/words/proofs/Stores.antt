@@ -1,12 +1,12 @@
--- Rows of bytes stored one behind the other, or one in front of the other. Assumes nothing.
-use mathlib.Core.Path.{_≡_, refl, ap, _∙_}
+-- Rows of bytes stored one behind the other, one in front of the other, or at the front. Assumes nothing.
+use mathlib.Core.Path.{_≡_, refl, sym, ap, _∙_}
 use Prim.Native.Nat.{ℕ, suc, _+_, _*_, _<_, _≤_}
 use mathlib.Core.List.{List, [], _∷_, _++_}
 use native.Mathlib.Omega.{arith}
 use native.Mathlib.Numerals.{add-one}
 use native.Mathlib.Nat.{mul-le-mul-left}
 use lib.ListN.{length, take, drop, getD, set, length-take, length-drop, drop-of-length-le}
-use lib.Seq.{sets, set-comm, getD-set-other, drop-cons, getD-take, getD-drop}
+use lib.Seq.{sets, sets-eq, set-comm, getD-set-other, drop-cons, getD-take, getD-drop, take-at}
 use Rattle.words.specs.Words.{le, rowBytes}
 use Rattle.words.proofs.Words.{length-le}
 
@@ -71,3 +71,15 @@ more i n h = omega arith
 -- number i lies in the row
 pub row-room : (w i n : ℕ) → i < n → w * i + w ≤ w * n
 row-room w i n h = omega (arith, mul-le-mul-left w (more i n h))
+
+-- ---- a row at the front
+
+pub sets-first : (vs l : List ℕ) → length vs ≤ length l → sets l 0 vs ≡ vs ++ drop (length vs) l
+sets-first vs l h =
+    let fits : 0 + length vs ≤ length l = omega arith in
+    let z : 0 + length vs ≡ length vs = omega arith in
+    rw z at (sets-eq vs l 0 fits)
+
+-- it is the first n places, if it has n
+pub cut-is : (row found exit : List ℕ) (n : ℕ) → exit ≡ sets row 0 found → n ≡ length found → length found ≤ length row → take n exit ≡ found
+cut-is row found exit n wrote count h = rw (wrote, sets-first found row h) (take-at found (drop (length found) row) n (sym count))

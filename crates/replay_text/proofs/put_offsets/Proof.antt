@@ -7,8 +7,10 @@ use native.Mathlib.Omega.{arith}
 use lib.ListN.{length, drop, getD}
 use lib.Seq.{sets}
 use Rattle.words.specs.Words.{le}
-use Rattle.replay_text.specs.Text.{atWord, lineOf, offsetLines}
-use Rattle.replay_text.proofs.Lines.{line-most, lines-turn, lines-length, no-more}
+use Rattle.lines.specs.Lines.{lineOf}
+use Rattle.lines.proofs.Lengths.{line-most}
+use Rattle.replay_text.specs.Text.{atWord, offsetLines}
+use Rattle.replay_text.proofs.Lines.{lines-turn, lines-length, no-more}
 use Rattle.replay_text.proofs.put_offsets.Statement.{statement}
 use Rattle.replay_text.proofs.put_offsets.Tie as tie
 

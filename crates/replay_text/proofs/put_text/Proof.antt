@@ -1,14 +1,14 @@
 -- `put_text` meets its contract: line behind line. The numbers that stand for the words are their bytes. Assumes nothing.
-use mathlib.Core.Path.{_≡_, refl, ap, _∙_}
-use mathlib.Core.List.{List, [], _∷_, _++_}
-use Prim.Native.Nat.{ℕ, _+_, _≤_}
+use mathlib.Core.Path.{_≡_, _∙_}
+use mathlib.Core.List.{_++_}
+use Prim.Native.Nat.{_+_, _≤_}
 use native.Mathlib.Omega.{arith}
 use lib.ListN.{length, length-append}
-use lib.Seq.{sets}
 use Rattle.words.specs.Words.{le}
 use Rattle.words.proofs.Stores.{wrote-after}
-use Rattle.replay_text.specs.Text.{recordsWord, sameWord, differWord, lineOf, offsetLines, replayText}
-use Rattle.replay_text.proofs.Lines.{line-most}
+use Rattle.lines.specs.Lines.{lineOf}
+use Rattle.lines.proofs.Lengths.{line-most}
+use Rattle.replay_text.specs.Text.{recordsWord, sameWord, differWord, offsetLines, replayText}
 use borrow.Author.Needs.{needs}
 use Rattle.replay_text.proofs.put_text.Statement.{statement}
 use Rattle.replay_text.proofs.put_text.Tie as tie

@@ -1,15 +1,16 @@
 -- `replay` meets its contract: the trace is judged, the offsets are noted in a row of its own, and only where they have room they go out. Assumes nothing.
 use mathlib.Core.Path.{_≡_, sym, ap, _∙_}
 use mathlib.Core.List.{List}
-use Prim.Native.Nat.{ℕ, _≤_, _<_}
+use Prim.Native.Nat.{ℕ, _≤_}
 use native.Mathlib.Omega.{arith}
 use lib.ListN.{length, take}
 use lib.Seq.{length-take-le, length-sets}
 use borrow.Author.Needs.{needs}
+use Rattle.words.proofs.Stores.{cut-is}
 use Rattle.trace.specs.declared.Opened.{Opened}
 use Rattle.replayed.specs.declared.Replayed.{Replayed}
 use Rattle.replayed.specs.Replay.{Noted, differingIn}
-use Rattle.replayed.proofs.Counting.{found-most, found-few, refused-row, room, replayed-row, cut-is}
+use Rattle.replayed.proofs.Counting.{found-most, found-few, refused-row, room, replayed-row}
 use Rattle.replayed.proofs.replay.Statement.{statement}
 use Rattle.replayed.proofs.replay.Tie as tie
 

@@ -1,19 +1,18 @@
 -- `put_line` meets its contract: the number behind the word, and the line feed behind both. Assumes nothing.
-use mathlib.Core.Path.{_≡_, refl, ap, _∙_}
-use mathlib.Core.List.{List, [], _∷_, _++_}
-use Prim.Native.Nat.{ℕ, _+_, _<_}
+use mathlib.Core.Path.{refl, _∙_}
+use mathlib.Core.List.{[], _∷_, _++_}
+use Prim.Native.Nat.{_+_, _<_}
 use native.Mathlib.Omega.{arith}
 use lib.ListN.{length, length-append, length-set}
-use lib.Seq.{sets}
 use Rattle.words.specs.Words.{le}
 use Rattle.words.proofs.Words.{length-le}
 use Rattle.words.proofs.Stores.{wrote-after}
 use Rattle.decimal.specs.Decimal.{decimalOf}
 use Rattle.decimal.proofs.Digits.{length-decimal}
-use Rattle.replay_text.specs.Text.{lineOf}
+use Rattle.lines.specs.Lines.{lineOf}
 use borrow.Author.Needs.{needs}
-use Rattle.replay_text.proofs.put_line.Statement.{statement}
-use Rattle.replay_text.proofs.put_line.Tie as tie
+use Rattle.lines.proofs.put_line.Statement.{statement}
+use Rattle.lines.proofs.put_line.Tie as tie
 
 -- the places of the code: the number, the word, and the start
 abbrev word-put : tie.After-put-decimal → tie.After-put

@@ -3,8 +3,8 @@ use mathlib.Core.Path.{_∙_}
 use native.Mathlib.Omega.{arith}
 use Rattle.words.specs.Words.{le}
 use borrow.Author.Needs.{needs}
-use Rattle.replay_text.proofs.put_refused.Statement.{statement}
-use Rattle.replay_text.proofs.put_refused.Tie as tie
+use Rattle.lines.proofs.put_refused.Statement.{statement}
+use Rattle.lines.proofs.put_refused.Tie as tie
 
 returns : tie.Need-returns
 unfolding le

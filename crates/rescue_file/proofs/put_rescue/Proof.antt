@@ -1,0 +1,53 @@
+-- `put_rescue` meets its contract: a file above the limit, and text and output of the answer. Assumes nothing.
+use mathlib.Core.Path.{refl}
+use borrow.Author.Needs.{needs}
+use Rattle.rescue_file.proofs.Answers.{written, lengths, refused-printed, nothing-written, text-printed}
+use Rattle.rescue_file.proofs.Answers.{output-length, output-written}
+use Rattle.rescue_file.proofs.put_rescue.Statement.{statement}
+use Rattle.rescue_file.proofs.put_rescue.Tie as tie
+
+-- the places of the code: where the file's size was judged, and the start
+abbrev given : tie.After-slice-known2 → tie.Start
+given c = c .before .before .before
+
+returns : tie.Need-returns
+returns c =
+    let p = c .before .before in
+    let t = p .before .before in
+    let a = given (t .before) .args in
+    let printed = refused-printed (a .file .now) (t .if1 .taken) in
+    let none = nothing-written (a .file .now) (t .if1 .taken) in (
+      lengths (a .file .now) _ _ _ _ (p .put-refused .ensures .0) printed refl none,
+      written (a .text .now) _ _ _ printed (p .put-refused .ensures .1),
+      written (a .output .now) _ _ _ none refl,
+    )
+
+-- the places of the code behind the rescue
+abbrev rescuing : tie.After-put-text → tie.After-rescue
+rescuing c = c .before .before .before .before
+
+returns-2 : tie.Need-returns-2
+returns-2 c =
+    let p = c .before .before in
+    let r = rescuing p in
+    let s = r .before .before in
+    let g = given (s .before) in
+    let a = g .args in
+    let bs = a .file .now in
+    let told = r .rescue .ensures .0 in
+    let bytes = r .rescue .ensures .1 in
+    let printed = text-printed bs (s .if1 .left) bytes (a .output .now) _ (g .pre .1) _ told in (
+      lengths bs _ _ _ _ (p .put-text .ensures .0) printed
+          (output-length bs (s .if1 .left) bytes (a .output .now) _ (g .pre .1) _ told) refl,
+      written (a .text .now) _ _ _ printed (p .put-text .ensures .1),
+      output-written bs (s .if1 .left) bytes (a .output .now) _ (g .pre .1) _ told,
+    )
+
+pub put-rescue-spec : {M : Type 1} → statement M
+put-rescue-spec =
+    tie.close
+    (tie.spec
+    (λ c κs. search needs) (λ c. search needs)
+    returns
+    (λ c κs. search needs) (λ c κs. search needs) (λ c. search needs) (λ c. search needs)
+    returns-2)

@@ -1,0 +1,13 @@
+-- `edition_for` meets its contract: one test, each way. Assumes nothing.
+use borrow.Author.Tests.{eq-eqb, ne-eqb}
+use Rattle.rescued.proofs.edition_for.Statement.{statement}
+use Rattle.rescued.proofs.edition_for.Tie as tie
+
+returns : tie.Need-returns
+returns c = rw (eq-eqb _ _ (c .if1 .taken))
+
+returns-2 : tie.Need-returns-2
+returns-2 c = rw (ne-eqb _ _ (c .if1 .left))
+
+pub edition-for-spec : {M : Type 1} → statement M
+edition-for-spec = tie.close (tie.spec returns returns-2)

@@ -1,0 +1,167 @@
+-- `rescue` meets its contract: the trace is judged, its records are walked over, and only where the new trace has room they go out, list and trailer
+-- behind them. Assumes nothing.
+use mathlib.Core.Path.{_≡_, sym, ap, _∙_}
+use mathlib.Core.List.{List}
+use Prim.Native.Nat.{ℕ, _≤_}
+use native.Mathlib.Omega.{arith}
+use lib.ListN.{length, take}
+use lib.Seq.{sets, length-take-le}
+use borrow.Author.Needs.{needs}
+use Rattle.words.specs.Words.{AllBelow}
+use Rattle.words.proofs.Words.{below-of-places}
+use Rattle.trace.specs.declared.Opened.{Opened}
+use Rattle.whole_records.specs.declared.Walked.{Walked}
+use Rattle.rescued.specs.declared.Rescued.{Rescued}
+use Rattle.rescued.specs.Rescue.{Saved}
+use Rattle.rescued.proofs.Answers.{few, inside, no-room, taken-inside, done}
+use Rattle.rescued.proofs.rescue.Statement.{statement}
+use Rattle.rescued.proofs.rescue.Tie as tie
+
+abbrev saved-with : List ℕ → Rescued → Saved
+saved-with output answer = record { answer = answer; output = output }
+
+-- the places of the code, from the end of the walk back to the start
+abbrev rowed : tie.After-walk → tie.After-row
+rowed c = c .before .before
+
+abbrev opening : tie.After-walk → tie.After-open
+opening c = rowed c .before .before
+
+abbrev given : tie.After-open → tie.Start
+given c = c .before .before .before
+
+abbrev walking : tie.After-struct-known → tie.After-walk
+walking c = c .before .before
+
+-- what is known where the walk ended
+module _ (c : tie.After-walk) where
+  abbrev bs : List ℕ
+  bs = given (opening c) .args .input .now
+
+  abbrev old : List ℕ
+  old = given (opening c) .args .output .now
+
+  abbrev o : Opened
+  o = opening c .«open» .result
+
+  abbrev e : ℕ
+  e = rowed c .before .edition-for .result
+
+  abbrev w : Walked
+  w = c .walk .result
+
+  abbrev starts : List ℕ
+  starts = c .walk .last .1 .1 .0
+
+  is-bytes : AllBelow 256 bs
+  is-bytes = below-of-places 256 bs (λ i h. omega (arith, opening c .before .before .shared-slice-known .given i))
+
+  walked-few : w .count ≤ 4096
+  walked-few = few bs is-bytes o (opening c .«open» .ensures) e (rowed c .before .edition-for .ensures) w (c .walk .ensures .0)
+
+  walked-inside : w .end ≤ length bs
+  walked-inside = inside bs is-bytes o (opening c .«open» .ensures) e (rowed c .before .edition-for .ensures) w (c .walk .ensures .0)
+
+  starts-length : length starts ≡ 4096
+  starts-length = c .walk .kept .1 .1 .0 ∙ rowed c .row .ensures
+
+mul-length : tie.Need-mul-length
+mul-length c = omega (arith, walked-few (walking c))
+
+add-length : tie.Need-add-length
+add-length c = omega (arith, walked-few (walking c), walked-inside (walking c), given (opening (walking c)) .good)
+
+add-length-2 : tie.Need-add-length-2
+add-length-2 c = omega (arith, walked-few (walking c), walked-inside (walking c), given (opening (walking c)) .good)
+
+returns : tie.Need-returns
+returns c =
+    let k = walking (c .before .before) in (
+      ap (saved-with (old k)) (c .refused .ensures)
+          ∙ no-room (bs k) (is-bytes k) (o k) (opening k .«open» .ensures) (e k) (rowed k .before .edition-for .ensures) (w k)
+          (k .walk .ensures .0) (old k) (omega (arith, c .before .if1 .taken)),
+      is-bytes k,
+    )
+
+-- the places of the code behind the test for room
+abbrev has-room : tie.After-front → tie.Else1
+has-room c = c .before .before
+
+abbrev copied : tie.After-seal-arg → tie.After-copy
+copied c = c .before .before .before
+
+abbrev walked-at : tie.After-seal-arg → tie.After-walk
+walked-at c = walking (has-room (copied c .before) .before)
+
+front-length : (c : tie.After-front) → length (c .front .result .now) ≡ w (walking (has-room c .before)) .end
+front-length c =
+    let k = walking (has-room c .before) in ap length (c .front .ensures) ∙ length-take-le (w k .end) (bs k) (walked-inside k)
+
+copy-requires : tie.Need-copy-requires
+copy-requires c κs = omega (arith, front-length c, has-room c .if1 .left)
+
+cut-length : (c : tie.After-seal-arg) → length (take (w (walked-at c) .count) (starts (walked-at c))) ≡ w (walked-at c) .count
+cut-length c =
+    let k = walked-at c in length-take-le (w k .count) (starts k) (omega (arith, walked-few k, starts-length k))
+
+array-share-prefix-starts : tie.Need-array-share-prefix-starts
+array-share-prefix-starts c = let k = walked-at c in omega (arith, walked-few k, starts-length k)
+
+slice-aggregate-seal : tie.Need-slice-aggregate-seal
+slice-aggregate-seal c = sym (cut-length (c .before))
+
+seal-requires : tie.Need-seal-requires
+seal-requires c κs =
+    let s = c .before in
+    let k = walked-at s in (
+      omega (arith, cut-length s, copied s .copy .kept .0, has-room (copied s .before) .if1 .left),
+      omega (arith, cut-length s, walked-few k),
+    )
+
+-- the places of the code where the answer is made
+abbrev sealed : tie.After-struct-known3 → tie.After-seal
+sealed c = c .before .before .before .before
+
+abbrev sealing : tie.After-seal → tie.After-seal-arg
+sealing c = c .before .before
+
+cast-count : tie.Need-cast-t24
+cast-count c = omega (arith, walked-few (walked-at (sealing (sealed c))))
+
+sub-dropped : tie.Need-sub-t25
+sub-dropped c =
+    let k = walked-at (sealing (sealed (c .before))) in
+    taken-inside (bs k) (is-bytes k) (o k) (opening k .«open» .ensures) (e k) (rowed k .before .edition-for .ensures) (w k)
+    (k .walk .ensures .0) _ (c .taken .ensures)
+
+returns-2 : tie.Need-returns-2
+returns-2 c =
+    let s = sealed (c .before) in
+    let p = copied (sealing s) in
+    let k = walked-at (sealing s) in (
+      done (bs k) (is-bytes k) (o k) (opening k .«open» .ensures) (e k) (rowed k .before .edition-for .ensures) (w k)
+          (k .walk .ensures .0) _ (c .taken .ensures) (old k) (rowed k .row .result) (starts k) _ _ (rowed k .row .ensures) (k .walk .ensures .1)
+          (p .copy .ensures ∙ ap (sets (old k) 0) (p .before .front .ensures)) (s .seal .ensures) (has-room (p .before) .if1 .left),
+      is-bytes k,
+    )
+
+pub rescue-spec : {M : Type 1} → statement M
+rescue-spec =
+    tie.close
+    (tie.spec
+    (λ c κs. search needs) (λ c κs. search needs) (λ c κs. search needs) (λ c. search needs) (λ c κs. search needs)
+    mul-length
+    add-length
+    add-length-2
+    (λ c κs. search needs)
+    returns
+    (λ c κs. search needs)
+    copy-requires
+    array-share-prefix-starts
+    slice-aggregate-seal
+    seal-requires
+    cast-count
+    (λ c κs. search needs)
+    sub-dropped
+    (λ c. search needs)
+    returns-2)

@@ -1,4 +1,4 @@
-/* The calls on traces a second time, in C, from the words of document 02's Orders 1 and 2 alone: tests/traces holds the library to it, and the Rust crate can be
+/* The calls on traces a second time, in C, from the words of document 02's Orders 1, 2 and 7 alone: tests/traces holds the library to it, and the Rust crate can be
    tested over it and standin.c on any machine (tools/rust-tests --standin). It shares nothing with the library but spindle.h. It goes the slow way: it reads
    every number of every record, one behind the other, and lays a new record out beside the trace before it asks for its length. */
 #include "spindle.h"
@@ -246,5 +246,35 @@ Replayed spindle_replay(const uint8_t *trace, size_t n, uint64_t *at, size_t nat
         if (r.differ > nat) return refused_8;
     }
     r.same = r.records - r.differ;
+    return r;
+}
+
+/* "keep every whole record until the first that is cut or malformed, write a good list and trailer"; the records are read number by number and their bytes
+   copied. "A good trace comes out byte for byte with 0 dropped." */
+Rescued spindle_rescue(const uint8_t *input, size_t n, uint8_t *output, size_t room)
+{
+    static const Rescued refused = { 8, 0, 0, 0, false };
+    Opened o = spindle_trace_open(input, n);
+    if (o.code == 0) {
+        if (room < n) return refused;
+        memcpy(output, input, n);
+        Rescued r = { 0, o.records, 0, n, true };
+        return r;
+    }
+    static uint64_t begins[MOST];
+    In in = { input, 0, n, false };
+    Recorded one;
+    uint32_t kept = 0;
+    size_t end = 0;
+    while (kept < MOST && record(&in, &one)) { /* "a 4,097th record counts as bad" */
+        begins[kept++] = end;
+        end = in.at;
+    }
+    if (room < end + 8 * (size_t)kept + TRAILER) return refused;
+    Out out = { output, end };
+    memcpy(output, input, end);
+    for (uint32_t i = 0; i < kept; i++) put(&out, 8, begins[i]);
+    put_trailer(&out, end, kept);
+    Rescued r = { 0, kept, n - end, out.at, false };
     return r;
 }

@@ -1,5 +1,5 @@
 #!/usr/bin/env python3
-"""A second reading and writing of traces, made from the words of document 02's Order 1 alone, to hold libspindle.a to.
+"""A second reading and writing of traces, made from the words of document 02's Orders 1 and 7 alone, to hold libspindle.a to.
 
 usage: layout.py rows FILE      writes FILE, some hundred rows of calls for `traces play`, and prints what it must print
        layout.py strings FILE   writes FILE, byte strings for `traces judge`, and prints what it must print of each of them, and of small traces also
@@ -95,6 +95,24 @@ def judge(data):
         return " ".join(line)
     except Broken:
         return "9"
+
+
+def rescued(data):
+    """The words that `traces judge` must print behind that line: records kept, bytes dropped, whether the data is a trace, and the whole output."""
+    right, records, place = judge(data) != "9", [], 0
+    if right:
+        count = struct.unpack_from("<I", data, len(data) - 12)[0]
+        saved, dropped = data, 0
+    else:
+        try:
+            while len(records) < MOST:
+                behind = read_record(data, place, len(data))[1]
+                records.append(data[place:behind])
+                place = behind
+        except Broken:
+            pass
+        count, saved, dropped = len(records), trace_bytes(records), len(data) - place
+    return "%d %d %d %d %s" % (count, dropped, right, len(saved), told(saved + b"\xa5" * 8))
 
 
 def record_bytes(call):
@@ -245,21 +263,25 @@ def near_traces(rng):
         yield closed(b"STEP" + struct.pack("<I", len(body) + 8) + body, [0])
 
 
+def print_both(data):
+    print(judge(data), "rescued", rescued(data))
+
+
 def strings(path):
     rng = random.Random(2)
     with open(path, "wb") as out:
         for data in near_traces(rng):
             out.write(struct.pack("<2Q", len(data), 0) + data)
-            print(judge(data))
+            print_both(data)
         for data in small_traces(rng):
             out.write(struct.pack("<2Q", len(data), 1) + data)
-            print(judge(data))
+            print_both(data)
             for n in range(len(data)):
-                print(judge(data[:n]))
-            print(judge(data + b"\0"))
+                print_both(data[:n])
+            print_both(data + b"\0")
             for i in range(len(data)):
                 for by in range(1, 256):
-                    print(judge(data[:i] + bytes([data[i] ^ by]) + data[i + 1 :]))
+                    print_both(data[:i] + bytes([data[i] ^ by]) + data[i + 1 :])
 
 
 def main(words):

@@ -5,54 +5,11 @@
    replay files FOLDER   writes traces there for the program replay, each beside the text that it must print
    Exit status 1: something did not hold; 2: bad usage, or a file cannot be written. */
 #include <inttypes.h>
-#include <math.h>
-#include <stdio.h>
-#include <stdlib.h>
-#include <string.h>
-#include "spindle.h"
+#include "searches.h"
 
-enum { RECORDS = 12, PLACES = RECORDS + 2 };
+enum { PLACES = RECORDS + 2 };
 static const uint64_t CANARY = UINT64_C(0xA5A5A5A5A5A5A5A5);
-
-static uint8_t bytes[70000], changed[sizeof bytes];
-static size_t used, begins[RECORDS + 1]; /* begins[RECORDS]: where the last record ends */
 static uint64_t at[PLACES];
-
-static long failures, checks;
-static void expect(int ok, const char *what)
-{
-    checks++;
-    if (!ok && failures++ < 10) printf("FAILED %s\n", what);
-}
-
-/* ---- a trace of searches that were made */
-
-static const Cone cones[3] = {{1, 0, 0, {0}}, {2, 0, 0, {0.3}}, {3, 2, 3, {0.25, 0.75}}};
-
-static void record(size_t i)
-{
-    Cone cone = cones[i % 3];
-    size_t n = cone.kind == 3 ? 5 : 3;
-    double z[5], s[5], dz[5], ds[5], dual[5], primal[5];
-    expect(spindle_unit_initialization(cone, z, n, s, n) == 0, "a starting point");
-    for (size_t k = 0; k < n; k++) {
-        dz[k] = ((double)k - 1.5) * (1.0 + (double)i);
-        ds[k] = (1.25 - (double)k) * (0.5 + (double)i);
-    }
-    uint32_t flag = i / 3 % 2;
-    Settings settings = flag ? spindle_house_settings(1.0) : (Settings){0.9, 0.7, 1e-5};
-    Steps steps = spindle_step_length(cone, dz, n, ds, n, z, n, s, n, dual, n, primal, n, settings);
-    expect(steps.code == 0, "a search");
-    Written w = spindle_trace_append(bytes, sizeof bytes, used, cone, flag, settings, dz, n, ds, n, z, n, s, n, steps);
-    expect(w.code == 0, "an append");
-    begins[i + 1] = begins[i] + (w.length - used - 8);
-    used = w.length;
-}
-static void record_all(void)
-{
-    used = spindle_trace_create(bytes, sizeof bytes).length;
-    for (size_t i = 0; i < RECORDS; i++) record(i);
-}
 
 /* Two records of one search, whose primal trials are 2^-42 times the step inside the wall: within the margin of document 02's Order 5. First what a library before
    that answered, which took the start; then what is answered now: none of 42 trials passes. The dual side passes at the start by both. */
@@ -142,13 +99,6 @@ static void calls(void)
 
 /* ---- files for the program */
 
-static void keep(const char *folder, const char *name, const char *kind, const void *from, size_t n)
-{
-    char path[4096];
-    snprintf(path, sizeof path, "%s/%s.%s", folder, name, kind);
-    FILE *f = fopen(path, "wb");
-    if (!f || fwrite(from, 1, n, f) != n || fclose(f)) exit(2);
-}
 static void pair(const char *folder, const char *name, const uint8_t *trace, size_t n, const char *text)
 {
     keep(folder, name, "trace", trace, n);

@@ -1,9 +1,9 @@
 /* Traces through include/spindle.h, over libspindle.a or over oracle/traces.c. See run.
    traces calls        records of the three kinds written and read back, every refusal, the limit of 4,096 records, and bytes that must not move
    traces play FILE    plays the rows of calls of FILE, and prints each answer and what the whole buffer then holds
-   traces judge FILE   opens each byte string of FILE, where it asks for them also all truncations and all single-byte changes of it, and reads the records: a
-                       line for each
-   traces measure      4,096 records of 64 numbers appended and read, with the times; and the stack of each call
+   traces judge FILE   opens each byte string of FILE, where it asks for them also all truncations and all single-byte changes of it, reads the records and
+                       rescues it: a line for each
+   traces measure      4,096 records of 64 numbers appended, read and rescued, with the times; and the stack of each call
    Exit status 1: something did not hold; 2: bad usage or a bad file. */
 #include <inttypes.h>
 #include <math.h>
@@ -304,7 +304,7 @@ static void judge(const uint8_t *bytes, size_t n)
     Opened o = spindle_trace_open(bytes, n);
     if (o.code) {
         Recorded r = spindle_trace_record(bytes, n, 0);
-        printf("%s\n", o.code == 9 && o.edition == 0 && o.records == 0 && r.code == 9 ? "9" : "neither 0 nor 9");
+        printf("%s", o.code == 9 && o.edition == 0 && o.records == 0 && r.code == 9 ? "9" : "neither 0 nor 9");
         return;
     }
     printf("%" PRIu32 " %" PRIu32, o.edition, o.records);
@@ -318,10 +318,29 @@ static void judge(const uint8_t *bytes, size_t n)
         told = more(more(told, bits(r.steps.primal_step)), r.steps.primal_count);
         printf(" %" PRIu64 " %" PRIx64 "%s", r.at, told, r.code == 0 && padded(&r) ? "" : " (places that the kind does not use are not zero)");
     }
-    printf("%s\n", spindle_trace_record(bytes, n, o.records).code == 9 ? "" : " (one record more than there are)");
+    printf("%s", spindle_trace_record(bytes, n, o.records).code == 9 ? "" : " (one record more than there are)");
+}
+/* what a rescue of the bytes reports and leaves, and that a byte less of room is refused */
+static void save(const uint8_t *bytes, size_t n)
+{
+    static uint8_t output[8192];
+    memset(output, CANARY, sizeof output);
+    Rescued r = spindle_rescue(bytes, n, output, sizeof output);
+    uint64_t told = 0;
+    for (uint64_t i = 0; i < r.length + 8; i++) told = more(told, output[i]);
+    printf(" rescued %" PRIu32 " %" PRIu64 " %d %" PRIu64 " %" PRIx64, r.kept, r.dropped, r.right, r.length, told);
+    uint8_t first = output[0] = 0x5A;
+    Rescued no = spindle_rescue(bytes, n, output, r.length - 1);
+    int refused = no.code == 8 && no.kept == 0 && no.dropped == 0 && no.length == 0 && !no.right && output[0] == first;
+    printf("%s\n", r.code == 0 && refused ? "" : " (refused, or taken without room)");
 }
 
 /* A string is its length, 1 if it is to be cut and changed, too, and its bytes. */
+static void both(const uint8_t *bytes, size_t n)
+{
+    judge(bytes, n);
+    save(bytes, n);
+}
 static void judge_all(void)
 {
     uint64_t n;
@@ -329,14 +348,14 @@ static void judge_all(void)
         uint64_t changed = next();
         uint8_t *b = malloc(n + 1);
         if (fread(b, 1, n, file) != n) early();
-        judge(b, n);
-        for (uint64_t m = 0; changed && m < n; m++) judge(b, m);
+        both(b, n);
+        for (uint64_t m = 0; changed && m < n; m++) both(b, m);
         b[n] = 0;
-        if (changed) judge(b, n + 1);
+        if (changed) both(b, n + 1);
         for (uint64_t i = 0; changed && i < n; i++) {
             for (int by = 1; by < 256; by++) {
                 b[i] ^= (uint8_t)by;
-                judge(b, n);
+                both(b, n);
                 b[i] ^= (uint8_t)by;
             }
         }
@@ -371,13 +390,19 @@ static void fill(void)
     double read = seconds(from);
     expect(records == MOST && n == room && wrong == 0, "a full trace");
     printf("full: %" PRIu32 " records of 64 numbers, %zu bytes: appended one by one in %.3f s, ", records, n, filled);
-    printf("opened in %.6f s, all read one by one in %.3f s\n", opened, read);
+    uint8_t *saved = malloc(room);
+    from = clock();
+    Rescued r = spindle_rescue(b, n - 1, saved, room);
+    double rescued = seconds(from);
+    expect(r.code == 0 && r.kept == MOST && !memcmp(saved, b, n), "a full trace rescued");
+    free(saved);
+    printf("opened in %.6f s, all read one by one in %.3f s, rescued in %.3f s\n", opened, read, rescued);
     free(b);
 }
 
 /* ---- the stack of a call, arguments and answer included: a painted one of its own */
 
-enum { STACK = 1 << 16, CALLS = 4 };
+enum { STACK = 1 << 17, CALLS = 5 };
 static uint8_t painted[STACK] __attribute__((aligned(64)));
 static ucontext_t outside, inside;
 static int chosen;
@@ -389,10 +414,11 @@ __attribute__((noinline)) static void create_once(void) { written = spindle_trac
 __attribute__((noinline)) static void append_once(void) { written = append(widest, 0, settings, 64, steps[1]); }
 __attribute__((noinline)) static void open_once(void) { opened = spindle_trace_open(trace, used); }
 __attribute__((noinline)) static void record_once(void) { if (spindle_trace_record(trace, used, 0).code) failures++; }
+__attribute__((noinline)) static void rescue_once(void) { if (spindle_rescue(trace, used, old, sizeof old).code) failures++; }
 
 static void chosen_call(void)
 {
-    static void (*const once[CALLS])(void) = {create_once, append_once, open_once, record_once};
+    static void (*const once[CALLS])(void) = {create_once, append_once, open_once, record_once, rescue_once};
     if (chosen < CALLS) once[chosen]();
 }
 static size_t stack_of(int call)
@@ -418,7 +444,7 @@ static void stacks(void)
         used = written.length;
     }
     expect(written.code == 0 && opened.code == 0 && opened.records == 1, "the measured calls");
-    printf("stack bytes of a call: create %zu, append %zu, open %zu, record %zu\n", bytes[0], bytes[1], bytes[2], bytes[3]);
+    printf("stack bytes of a call: create %zu, append %zu, open %zu, record %zu, rescue %zu\n", bytes[0], bytes[1], bytes[2], bytes[3], bytes[4]);
 }
 
 int main(int argc, char **argv)

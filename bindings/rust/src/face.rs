@@ -78,6 +78,15 @@ pub struct Replayed {
     pub differ: u32,
 }
 
+#[repr(C)]
+pub struct Rescued {
+    pub code: u32,
+    pub kept: u32,
+    pub dropped: u64,
+    pub length: u64,
+    pub right: bool,
+}
+
 type In = *const f64;
 type Out = *mut f64;
 
@@ -129,4 +138,5 @@ extern "C" {
     pub fn spindle_trace_open(trace: *const u8, n: usize) -> Opened;
     pub fn spindle_trace_record(trace: *const u8, n: usize, i: u32) -> Recorded;
     pub fn spindle_replay(trace: *const u8, n: usize, at: *mut u64, nat: usize) -> Replayed;
+    pub fn spindle_rescue(input: *const u8, n: usize, output: *mut u8, room: usize) -> Rescued;
 }

@@ -16,7 +16,7 @@
 //! takes a point only on yes.
 //!
 //! A [`Recorder`] makes the same searches and keeps each in a trace, bytes that a [`Trace`] reads again, and replays: every search is run
-//! once more and compared with its record.
+//! once more and compared with its record. What a host that lost power left of one, [`rescue`] makes a trace again.
 //!
 //! A call that is refused changes nothing that it was lent: slices keep their contents, a record stays as it was. The numbers of a
 //! [`Refusal`] are those of the library's scope document. No call allocates, and none panics.
@@ -32,7 +32,7 @@
 mod face;
 mod trace;
 
-pub use trace::{Recorded, Recorder, Records, Replay, Trace, TraceBuffer, MOST_RECORDS};
+pub use trace::{rescue, Recorded, Recorder, Records, Replay, Rescue, Trace, TraceBuffer, MOST_RECORDS};
 
 /// The version of this crate, which is that of the library and its C header.
 pub const VERSION: &str = env!("CARGO_PKG_VERSION");
@@ -55,7 +55,7 @@ pub enum Refusal {
     OutOfRange,
     /// 7: the finished answer holds a NaN or an infinity.
     AnswerNotFinite,
-    /// 8: a trace has no room for what would be written, or 4,096 records already; a replay has no room for its offsets.
+    /// 8: a trace has no room for what would be written, or 4,096 records already; a replay has no room for its offsets, a rescue for its trace.
     NoRoom,
     /// 9: the bytes are no trace, or a record breaks a trace's layout. It comes before 8.
     BadTrace,

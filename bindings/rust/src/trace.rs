@@ -170,6 +170,46 @@ pub struct Replay<'a> {
     pub differ: &'a [u64],
 }
 
+/// Makes a trace of what is left of one: walks from byte 0, keeps every whole record, byte for byte, until the first that is cut or malformed, and writes them
+/// to `output` with a good list and trailer behind them. A good trace comes out byte for byte. Any bytes are taken, none at all too.
+///
+/// [`Refusal::NoRoom`] where `output` is too short, and then nothing was written; behind the new trace it is left alone.
+///
+/// ```
+/// # use spindle::{rescue, Cone, Recorder};
+/// # let mut bytes = [0; 400];
+/// # let mut recorder = Recorder::create(&mut bytes)?;
+/// # let (mut dual, mut primal) = ([0.0; 3], [0.0; 3]);
+/// # let (dz, ds, z, s) = ([0.5, -2.0, 0.25], [0.25, -4.0, 0.5], [-1.0, 0.5, 1.0], [-1.0, 0.5, 1.0]);
+/// recorder.step_length(&Cone::exponential(), &dz, &ds, &z, &s, &mut dual, &mut primal, 1.0)?;
+/// let whole = recorder.bytes();
+///
+/// // the power went while the trailer was written
+/// let mut output = [0; 400];
+/// let rescued = rescue(&whole[..whole.len() - 7], &mut output)?;
+/// assert_eq!(rescued.trace.bytes(), whole);
+/// assert_eq!((rescued.trace.len(), rescued.dropped, rescued.right), (1, 21, false));
+/// # Ok::<(), spindle::Refusal>(())
+/// ```
+pub fn rescue<'b>(input: &[u8], output: &'b mut [u8]) -> Result<Rescue<'b>, Refusal> {
+    let out = unsafe { face::spindle_rescue(input.as_ptr(), input.len(), output.as_mut_ptr(), output.len()) };
+    Refusal::check(out.code)?;
+    let output: &'b [u8] = output;
+    let trace = Trace::open(output.get(..out.length as usize).unwrap_or(output))?;
+    Ok(Rescue { trace, dropped: out.dropped, right: out.right })
+}
+
+/// What [`rescue`] made: the new trace, whose records are those that were kept, and what it found.
+#[derive(Clone, Copy, Debug)]
+pub struct Rescue<'a> {
+    /// The new trace, at the front of the output.
+    pub trace: Trace<'a>,
+    /// How many bytes of the input are not in it.
+    pub dropped: u64,
+    /// Whether the input was a good trace, so that its list and trailer did not have to be rebuilt.
+    pub right: bool,
+}
+
 /// A record of a trace: what a step search was given, and what it answered. Numbers that a search would refuse may stand in it.
 #[derive(Clone, Copy)]
 #[repr(C)]

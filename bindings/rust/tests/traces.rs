@@ -1,5 +1,5 @@
 //! Traces: what a recorder searched is what a trace reads, for every kind and both ways to give settings; every refusal, and bytes that stay.
-use spindle::{Cone, Found, Recorded, Recorder, Refusal, Settings, Trace, TraceBuffer, MOST_RECORDS};
+use spindle::{rescue, Cone, Found, Recorded, Recorder, Refusal, Settings, Trace, TraceBuffer, MOST_RECORDS};
 
 /// A cone with directions and points for a search.
 struct Search {
@@ -255,4 +255,45 @@ fn a_refused_search_differs_and_offsets_need_room() {
     let mut at = [7];
     assert_eq!(trace.replay(&mut at), Err(Refusal::NoRoom));
     assert_eq!(at, [7]);
+}
+
+#[test]
+fn a_trace_cut_anywhere_is_rescued() {
+    let bytes = bytes_of_all();
+    let trace = Trace::open(&bytes).unwrap();
+    let mut ends: Vec<usize> = trace.iter().skip(1).map(|r| r.offset() as usize).collect();
+    ends.push(bytes.len() - 20 - 8 * trace.len());
+    for n in 0..bytes.len() {
+        let kept = ends.iter().filter(|&&end| end <= n).count();
+        let end = if kept == 0 { 0 } else { ends[kept - 1] };
+        let mut output = vec![7; end + 8 * kept + 20 + 1];
+        let rescued = rescue(&bytes[..n], &mut output).unwrap();
+        assert_eq!((rescued.trace.len(), rescued.dropped, rescued.right), (kept, (n - end) as u64, false));
+        assert_eq!(rescued.trace.bytes()[..end], bytes[..end]);
+        assert_eq!(rescued.trace.bytes().len() + 1, end + 8 * kept + 21);
+        assert_eq!(output.last(), Some(&7));
+    }
+}
+
+#[test]
+fn a_good_trace_is_right_and_comes_out_the_same() {
+    let bytes = bytes_of_all();
+    let mut output = vec![7; bytes.len() + 3];
+    let rescued = rescue(&bytes, &mut output).unwrap();
+    assert_eq!((rescued.trace.bytes(), rescued.dropped, rescued.right), (&bytes[..], 0, true));
+    assert_eq!(output[bytes.len()..], [7; 3]);
+    // a byte of the trailer was lost: the same trace is built anew
+    let rescued = rescue(&bytes[..bytes.len() - 1], &mut output).unwrap();
+    assert_eq!((rescued.trace.bytes(), rescued.right), (&bytes[..], false));
+}
+
+#[test]
+fn a_rescue_needs_room_and_nothing_else() {
+    let bytes = bytes_of_all();
+    let mut output = vec![7; bytes.len() - 1];
+    assert_eq!(rescue(&bytes, &mut output).map(|r| r.dropped), Err(Refusal::NoRoom));
+    assert!(output.iter().all(|&byte| byte == 7));
+    assert_eq!(rescue(&[], &mut output[..19]).map(|r| r.dropped), Err(Refusal::NoRoom));
+    let none = rescue(&[], &mut output).unwrap();
+    assert_eq!((none.trace.is_empty(), none.dropped, none.right), (true, 0, false));
 }

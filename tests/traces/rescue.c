@@ -1,0 +1,147 @@
+/* Rescue through include/spindle.h, over libspindle.a or over oracle/traces.c and oracle/standin.c. See run.
+   rescue calls          a trace of searches of the three kinds, cut at every byte, its list and trailer changed in every byte, a record broken in front of whole
+                         ones, 4,097 records, no room: what is kept, dropped and told, byte for byte, and that it replays the same and is right when rescued again
+   rescue files FOLDER   writes files there for the program rescue, each beside the text that it must print and the trace that it must write
+   Exit status 1: something did not hold; 2: bad usage, or a file cannot be written. */
+#include "searches.h"
+
+enum { CANARY = 0xA5, MOST = 4096, SMALL = 128 /* a record of kind 3 with both dims 1 and flag 1 */ };
+static uint8_t output[MOST * (SMALL + 8) + 40], again[sizeof output], many[(MOST + 1) * SMALL];
+
+static int untouched(const uint8_t *from, size_t n)
+{
+    while (n--) if (*from++ != CANARY) return 0;
+    return 1;
+}
+
+/* the rescue of n bytes keeps so many records, which end at `end`, and leaves a good trace of them */
+static int rescues(const uint8_t *input, size_t n, uint32_t kept, size_t end, bool right)
+{
+    size_t length = end + 8 * (size_t)kept + 20;
+    memset(output, CANARY, length + 20);
+    Rescued r = spindle_rescue(input, n, output, length + 20);
+    Opened o = spindle_trace_open(output, length);
+    return r.code == 0 && r.kept == kept && r.dropped == (right ? 0 : n - end) && r.length == length && r.right == right
+           && !memcmp(output, input, end) && o.code == 0 && o.records == kept && untouched(output + length, 20);
+}
+/* .. which is right when it is rescued again, into just its room */
+static int settled(size_t length, uint32_t kept)
+{
+    memset(again, CANARY, length + 20);
+    Rescued r = spindle_rescue(output, length, again, length);
+    return r.code == 0 && r.kept == kept && r.dropped == 0 && r.length == length && r.right && !memcmp(again, output, length)
+           && untouched(again + length, 20);
+}
+static int refused(const uint8_t *input, size_t n, size_t room)
+{
+    memset(output, CANARY, room + 20);
+    Rescued r = spindle_rescue(input, n, output, room);
+    return r.code == 8 && r.kept == 0 && r.dropped == 0 && r.length == 0 && !r.right && untouched(output, room + 20);
+}
+static uint32_t whole(size_t n)
+{
+    uint32_t kept = 0;
+    while (kept < RECORDS && begins[kept + 1] <= n) kept++;
+    return kept;
+}
+
+static void calls(void)
+{
+    uint64_t at[RECORDS];
+    record_all();
+    for (size_t n = 0; n <= used; n++) {
+        uint32_t kept = whole(n);
+        size_t length = begins[kept] + 8 * (size_t)kept + 20;
+        expect(rescues(bytes, n, kept, begins[kept], n == used), "a trace cut at a byte");
+        Replayed p = spindle_replay(output, length, at, RECORDS);
+        expect(p.code == 0 && p.records == kept && p.same == kept, "what was rescued replays the same");
+        expect(settled(length, kept), "rescued again");
+        expect(refused(bytes, n, length - 1) && refused(bytes, n, 19), "no room");
+    }
+    /* list and trailer broken: all records are kept, and the very same trace comes out */
+    memcpy(changed, bytes, used);
+    for (size_t i = begins[RECORDS]; i < used; i++)
+        for (int by = 1; by < 256; by++) {
+            changed[i] ^= (uint8_t)by;
+            expect(rescues(changed, used, RECORDS, begins[RECORDS], false) && !memcmp(output, bytes, used), "a changed byte of list or trailer");
+            changed[i] ^= (uint8_t)by;
+        }
+    /* the last records were lost, and power came back: what follows the first bad record is not searched, whole records neither */
+    for (uint32_t i = 0; i < RECORDS; i++) {
+        changed[begins[i] + 3] ^= 1;
+        expect(rescues(changed, used, i, begins[i], false), "a bad record in front of whole ones");
+        changed[begins[i] + 3] ^= 1;
+    }
+    memcpy(changed + used, bytes, used);
+    expect(rescues(changed, 2 * used, RECORDS, begins[RECORDS], false), "a trace and bytes behind it");
+    /* bits of a NaN are bytes as others are */
+    for (size_t i = 0; i < 8; i++) changed[begins[2] - 100 + i] = (uint8_t)(0xF0 + i);
+    expect(rescues(changed, used, RECORDS, begins[RECORDS], true) && !memcmp(output, changed, used), "a NaN of any bits, in a good trace");
+    expect(rescues(changed, used - 1, RECORDS, begins[RECORDS], false) && !memcmp(output, changed, used), "a NaN of any bits, in a cut one");
+
+    /* the limit */
+    Cone cone = {3, 1, 1, {1.0}};
+    double x[2] = {0, 0};
+    used = spindle_trace_create(bytes, sizeof bytes).length;
+    used = spindle_trace_append(bytes, sizeof bytes, used, cone, 1, spindle_house_settings(1.0), x, 2, x, 2, x, 2, x, 2, (Steps){0, 0, 0, 0, 0}).length;
+    expect(used == SMALL + 28, "the length of a small record");
+    for (size_t i = 0; i <= MOST; i++) memcpy(many + i * SMALL, bytes, SMALL);
+    for (size_t n = MOST - 1; n <= MOST + 1; n++) {
+        uint32_t kept = n < MOST ? (uint32_t)n : MOST;
+        expect(rescues(many, n * SMALL, kept, kept * SMALL, false), "4,095 to 4,097 records");
+        expect(settled(kept * (SMALL + 8) + 20, kept), "4,095 to 4,097 records, rescued again");
+    }
+}
+
+/* ---- files for the program */
+
+static void all_of(const char *folder, const char *name, const uint8_t *input, size_t n, const char *text)
+{
+    Rescued r = spindle_rescue(input, n, output, sizeof output);
+    keep(folder, name, "in", input, n);
+    keep(folder, name, "text", text, strlen(text));
+    keep(folder, name, "out", output, r.length);
+}
+static void files(const char *folder)
+{
+    char name[40], text[80];
+    record_all();
+    /* one record of each kind */
+    memset(changed, 0, sizeof changed);
+    Rescued three = spindle_rescue(bytes, begins[3], changed, sizeof changed);
+    for (size_t n = 0; n <= three.length; n++) {
+        uint32_t kept = whole(n < begins[3] ? n : begins[3]);
+        bool right = n == three.length;
+        snprintf(name, sizeof name, "cut-%zu", n);
+        snprintf(text, sizeof text, "kept %u\ndropped %zu\n%s\n", (unsigned)kept, right ? 0 : n - begins[kept], right ? "right" : "rebuilt");
+        all_of(folder, name, changed, n, text);
+    }
+    all_of(folder, "whole", bytes, used, "kept 12\ndropped 0\nright\n");
+    /* the largest file, and one above it; as many records as fit, so that the trace is longer than its file */
+    memset(many, 0, sizeof many);
+    all_of(folder, "zeros", many, 65536, "kept 0\ndropped 65536\nrebuilt\n");
+    keep(folder, "too-large", "in", many, 65537);
+    keep(folder, "too-large", "text", "refused 8\n", 10);
+    size_t n = 0;
+    while (n + begins[1] <= 65536) {
+        memcpy(many + n, bytes, begins[1]);
+        n += begins[1];
+    }
+    snprintf(text, sizeof text, "kept %zu\ndropped %zu\nrebuilt\n", n / begins[1], 65536 - n);
+    all_of(folder, "full", many, 65536, text);
+}
+
+int main(int argc, char **argv)
+{
+    if (argc == 2 && !strcmp(argv[1], "calls")) {
+        calls();
+        if (!failures) printf("%ld", checks);
+        return failures != 0;
+    }
+    if (argc == 3 && !strcmp(argv[1], "files")) {
+        files(argv[2]);
+        return failures != 0;
+    }
+    fprintf(stderr, "usage: rescue calls | files FOLDER\n");
+    return 2;
+}

@@ -16,7 +16,8 @@ use Rattle.words.proofs.Runs.{number-at, runsBytes-below, runsOf-runsBytes, run
 use Rattle.trace_layout.specs.Records.{Record, sizeIn, one, bytesOf, only, sizeAt, laidAt}
 use Rattle.trace_layout.specs.Traces.{backMark, mostRecords, newestEdition, known, recordsBytes, offsetsFrom, trailerRuns, trailerOf}
 use Rattle.trace_layout.specs.Traces.{traceOf, AllLaid, listAt, countAt, editionAt, trailerOk, walks, goodTrace, recordsIn, recordsOf}
-use Rattle.trace_layout.proofs.Records.{bounds, size-most, size-least, size-back, record-back, laid-back, length-bytesOf, bytes-read, laid-read}
+use Rattle.trace_layout.proofs.Records.{bounds, size-most, size-least, size-back, record-back, laid-back}
+use Rattle.trace_layout.proofs.Records.{length-bytesOf, bytes-read, laid-read}
 use Rattle.trace_layout.proofs.Records.{sized-read, size-read}
 
 -- ---- the walk over records that were written

@@ -5,7 +5,8 @@ use mathlib.Core.Bool.{false}
 use mathlib.Core.List.{List, [], _∷_}
 use Prim.Native.Nat.{_^_}
 use lib.Count.{trailingZeros, leadingZeros}
-use lib.Ieee.{Float, binary64, add, sub, mul, div, neg, lt, ne, isNan, ofBits, toBits, ofFields, ofInt, round, size, units, odd, span, climb}
+use lib.Ieee.{Float, binary64, add, sub, mul, div, neg, lt, ne, isNan, ofBits, toBits, ofFields, ofInt, round}
+use lib.Ieee.{size, units, odd, span, climb}
 use Rattle.arith.specs.Turns.{iter}
 use Rattle.double.specs.Numbers.{#½, #1}
 use Rattle.double.specs.Fields.{mag, shift, normalOf}
@@ -36,6 +37,6 @@ no-on-residue = refl
 pub finite-undecided : powcone.primalFeasible #½ (triple #1 #1 #1e200) ≡ Undecided
 unfolding powcone.primalFeasible powcone.signs powcone.primalResidue powcone.residueAt powcone.primalMargin powerMargin toldOf iter logOf
     byFieldOf positiveOf normalOf scaledOf mantissaOf shortSeriesOf ratioOf upper logarithms expOf expAt composed horner coefficient
-    factorial rest raised placeOf gap border mag shift add sub mul div neg lt ne isNan toBits ofBits ofFields ofInt round size units odd span climb
-    trailingZeros leadingZeros
+    factorial rest raised placeOf gap border mag shift add sub mul div neg lt ne isNan toBits ofBits ofFields ofInt round size units odd
+    span climb trailingZeros leadingZeros
 finite-undecided = refl

@@ -81,5 +81,6 @@ sets-first vs l h =
     rw z at (sets-eq vs l 0 fits)
 
 -- it is the first n places, if it has n
-pub cut-is : (row found exit : List ℕ) (n : ℕ) → exit ≡ sets row 0 found → n ≡ length found → length found ≤ length row → take n exit ≡ found
+pub cut-is : (row found exit : List ℕ) (n : ℕ) → exit ≡ sets row 0 found → n ≡ length found → length found ≤ length row
+    → take n exit ≡ found
 cut-is row found exit n wrote count h = rw (wrote, sets-first found row h) (take-at found (drop (length found) row) n (sym count))

@@ -9,4 +9,6 @@ unfolding dualMarginAt
 returns c = simp (c .abs3 .ensures, c .before .abs2 .ensures, c .before .before .abs .ensures)
 
 pub dual-margin-spec : {M : Type 1} → statement M
-dual-margin-spec = tie.close (tie.spec (λ c. search needs) (λ c. search needs) (λ c κs. search needs) (λ c κs. search needs) (λ c κs. search needs) returns)
+dual-margin-spec =
+    tie.close
+    (tie.spec (λ c. search needs) (λ c. search needs) (λ c κs. search needs) (λ c κs. search needs) (λ c κs. search needs) returns)

@@ -140,7 +140,8 @@ returns-2 c =
     let p = copied (sealing s) in
     let k = walked-at (sealing s) in (
       done (bs k) (is-bytes k) (o k) (opening k .«open» .ensures) (e k) (rowed k .before .edition-for .ensures) (w k)
-          (k .walk .ensures .0) _ (c .taken .ensures) (old k) (rowed k .row .result) (starts k) _ _ (rowed k .row .ensures) (k .walk .ensures .1)
+          (k .walk .ensures .0) _ (c .taken .ensures) (old k) (rowed k .row .result) (starts k) _ _
+          (rowed k .row .ensures) (k .walk .ensures .1)
           (p .copy .ensures ∙ ap (sets (old k) 0) (p .before .front .ensures)) (s .seal .ensures) (has-room (p .before) .if1 .left),
       is-bytes k,
     )

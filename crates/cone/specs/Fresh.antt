@@ -43,7 +43,7 @@ abbrev pub attemptOf : Cone → Bool → Three → Wide → Attempt
 attemptOf c panics three wide =
     record { panics = panics; scaling = record { cone = c; scaled = 1; serial = 0; three = three; wide = wide } }
 
--- 01: "House defaults: step 0.8, smallest step 0.0001, strategy primal-dual"
+-- 01: "House defaults: step 0.5, smallest step 0.0001, strategy primal-dual"
 abbrev pub houseSettings : Float → Settings
 houseSettings start = record { start = start; step = #houseStep; smallest = #houseSmallest }
 

@@ -196,7 +196,7 @@ pub fn house_settings(start: f64) -> Settings
 {
     Settings {
         start,
-        step: 0.8,
+        step: 0.5,
         smallest: 0.0001,
     }
 }

@@ -86,9 +86,9 @@ abbrev pub #largestStep : Float
 abbrev pub #smallestNormal : Float
 #smallestNormal = ofBits binary64 0x0010_0000_0000_0000
 
--- 01: "House defaults: step 0.8, smallest step 0.0001"
+-- 01: "House defaults: step 0.5, smallest step 0.0001"
 abbrev pub #houseStep : Float
-#houseStep = ofBits binary64 0x3fe9_9999_9999_999a
+#houseStep = ofBits binary64 0x3fe0_0000_0000_0000
 
 abbrev pub #houseSmallest : Float
 #houseSmallest = ofBits binary64 0x3f1a_36e2_eb1c_432d
@@ -128,7 +128,7 @@ pub record NamesRight : Type 0 where
   pub tolerance-right : #tolerance ≡ pow2 40
   pub largest-step-right : #largestStep ≡ dec 99 2
   pub smallest-normal-right : #smallestNormal ≡ pow2 1022
-  pub house-step-right : #houseStep ≡ dec 8 1
+  pub house-step-right : #houseStep ≡ dec 5 1
   pub house-smallest-right : #houseSmallest ≡ dec 1 4
   pub first-start-right : #start1 ≡ dec 1051383945322714 15
   pub second-start-right : #start2 ≡ dec 556409619469370 15

@@ -1,9 +1,9 @@
--- The names of an edition's defaults are the decimals that they stand for. Assumes nothing.
+-- An edition's defaults are the decimals that the documents have, and the newest edition's are the house's. Assumes nothing.
 use mathlib.Core.Path.{refl}
 use lib.Ieee.{ofBits}
 use Rattle.double.specs.Numbers.{dec}
-use Rattle.recorded.specs.Defaults.{DefaultsRight}
+use Rattle.recorded.specs.Defaults.{defaultStep, DefaultsRight}
 
 pub defaults-right : DefaultsRight
-unfolding ofBits dec
-defaults-right = record { step = refl; smallest = refl }
+unfolding ofBits dec defaultStep
+defaults-right = record { first = λ start. refl; second = λ start. refl; newest = λ start. refl }

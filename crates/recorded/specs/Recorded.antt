@@ -31,7 +31,7 @@ rowIn m n bs = padded m (valuesOf (rowOf 8 n bs))
 unfoldable pub coneOf : Record → Cone
 coneOf r = record { kind = r .kind; dim1 = r .dim1; dim2 = r .dim2; exps = padded 32 (valuesOf (r .exps)) }
 
--- 02: "a u32 flag (1 means default settings; at 0 step and smallest step follow)"; Order 8: "A trace of edition 1 means 0.8 by its flag"
+-- 02: "a u32 flag (1 means default settings; at 0 step and smallest step follow)"
 unfoldable pub settingsOf : ℕ → Record → Settings
 settingsOf edition r =
     let start = ofBits binary64 (r .start) in

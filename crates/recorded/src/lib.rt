@@ -6,7 +6,7 @@ ghost use lib.Ieee.{binary64, ofBits};
 ghost use Rattle.words.specs.Words.{wordAt};
 ghost use Rattle.trace_layout.specs.Records.{laidAt, recordAt};
 ghost use Rattle.trace.specs.Shapes.{shapeAt};
-ghost use Rattle.recorded.specs.Defaults.{defaultOf};
+ghost use Rattle.recorded.specs.Defaults.{defaultStep, defaultOf};
 ghost use Rattle.recorded.specs.Recorded.{rowIn, coneOf, settingsOf, stepsOf, recordedOf, refusedRecord, recordedIn};
 use cone::Cone;
 use cone::Settings;
@@ -86,13 +86,21 @@ fn cone_at(edition: u32, t: &[u8], shape: Shape) -> Cone
     }
 }
 
-// What flag 1 means in a trace of the edition. Edition 1 alone is known.
+// 02, Order 8: "A trace of edition 1 means 0.8 by its flag; new traces are edition 2 and mean 0.5". An edition keeps its step, whatever the house does.
+fn default_step(edition: u32) -> f64
+    ensures { λ r. ⌜ r ≡ defaultStep edition ⌝ }
+{
+    if edition == 1 { 0.8 } else { 0.5 }
+}
+
+// What flag 1 means in a trace of the edition.
 fn default_settings(edition: u32, start: f64) -> Settings
     ensures { λ r. ⌜ r ≡ defaultOf edition start ⌝ }
 {
+    let step = default_step(edition);
     Settings {
         start,
-        step: 0.8,
+        step,
         smallest: 0.0001,
     }
 }

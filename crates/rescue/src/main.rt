@@ -1,10 +1,13 @@
-// rescue IN OUT: a cut trace rescued. 02, Order 7. It reads, calls and writes; what it prints is `printedOf` and what it writes `writtenOf` of the crate
-// rescue_file. OUT is opened when all is known, and may be IN: a file that is refused leaves it alone. The file, its text and the output lie on the stack.
+// rescue IN OUT [EDITION]: a cut trace rescued. 02, Orders 7 and 8. It reads, calls and writes; what it prints is `printedOf` and what it writes `writtenOf` of
+// the crate rescue_file. EDITION is the one that the new trace has where IN does not end in one; without it that is the newest. OUT is opened when all is known,
+// and may be IN: a file that is refused leaves it alone. The file, its text and the output lie on the stack.
 ghost use mathlib.Core.Path.{_≡_};
 ghost use lib.ListN.{length};
 use libc::STDERR_FILENO;
 use libc::STDOUT_FILENO;
+use rescue_file::edition_of;
 use rescue_file::put_rescue;
+use trace::NEWEST_EDITION;
 use trace_file::read_argument;
 use trace_file::write_argument;
 use words::front;
@@ -30,10 +33,20 @@ fn output_room() -> [u8; 74916]
     [0; 74916]
 }
 
-fn save(file: &[u8]) {
+// The edition that the third argument names. One that is too long to be taken is empty here, and names none.
+fn edition_given() -> u32 {
+    if os::arg_count() != 4 {
+        return NEWEST_EDITION;
+    }
+    let mut word = io::buffer();
+    let n = os::arg(3, &mut word);
+    edition_of(&word[..n])
+}
+
+fn save(file: &[u8], edition: u32) {
     let mut text = text_room();
     let mut output = output_room();
-    let n = put_rescue(file, &mut text, &mut output);
+    let n = put_rescue(file, &mut text, &mut output, edition);
     // a trace has at least 20 bytes: none is a refusal
     if n.output == 0 {
         io::write_all(STDOUT_FILENO, front(&text, n.text));
@@ -45,13 +58,14 @@ fn save(file: &[u8]) {
 }
 
 fn main() {
-    if os::arg_count() != 3 {
-        io::write_all(STDERR_FILENO, b"usage: rescue IN OUT\n");
+    let count = os::arg_count();
+    if count != 3 && count != 4 {
+        io::write_all(STDERR_FILENO, b"usage: rescue IN OUT [EDITION]\n");
         return;
     }
     let mut file = file_room();
     let got = read_argument(1, b"IN", &mut file);
     if got.done {
-        save(&file[..got.count]);
+        save(&file[..got.count], edition_given());
     }
 }

@@ -1,10 +1,10 @@
-// What a rescue prints and writes of the bytes of a file: the lines `kept N`, `dropped N`, and `rebuilt` or `right`, or only `refused 8`; and the new trace.
+// What a rescue prints and writes of the bytes of a file: the lines `kept N`, `dropped N`, and `rebuilt` or `right`, or only `refused N`; and the new trace.
 ghost use mathlib.Core.Path.{_≡_};
 ghost use Prim.Native.Nat.{_+_, _≤_};
 ghost use lib.ListN.{length};
 ghost use lib.Seq.{sets};
 ghost use Rattle.rescue_file.specs.Text.{verdictLine, rescueText};
-ghost use Rattle.rescue_file.specs.Printed.{printedOf, writtenOf, lengthsOf};
+ghost use Rattle.rescue_file.specs.Printed.{printedOf, writtenOf, lengthsOf, editionOf};
 use lines::put_line;
 use lines::put_refused;
 use lines::put_word;
@@ -51,10 +51,11 @@ pub fn put_text(text: &mut [u8], kept: u32, dropped: u64, right: bool) -> usize
 
 // Text and output, each from its first byte on. 74,916 bytes have room for every trace that comes of a file that is taken: its records have at most as many
 // bytes, and each at least 56.
-pub fn put_rescue(file: &[u8], text: &mut [u8], output: &mut [u8]) -> Lengths
+pub fn put_rescue(file: &[u8], text: &mut [u8], output: &mut [u8], edition: u32) -> Lengths
     requires { ⌜ (63 ≤ length (now text)) × (74916 ≤ length (now output)) ⌝ }
-    ensures { λ r. ⌜ (r ≡ lengthsOf (now (file .entry))) × (now (text .exit) ≡ sets (now (text .entry)) 0 (printedOf (now (file .entry))))
-        × (now (output .exit) ≡ sets (now (output .entry)) 0 (writtenOf (now (file .entry)))) ⌝ }
+    ensures { λ r. ⌜ (r ≡ lengthsOf (now (file .entry)) edition)
+        × (now (text .exit) ≡ sets (now (text .entry)) 0 (printedOf (now (file .entry)) edition))
+        × (now (output .exit) ≡ sets (now (output .entry)) 0 (writtenOf (now (file .entry)) edition)) ⌝ }
 {
     if MOST_BYTES < file.len() {
         return Lengths {
@@ -62,10 +63,33 @@ pub fn put_rescue(file: &[u8], text: &mut [u8], output: &mut [u8]) -> Lengths
             output: 0,
         };
     }
-    let answer = rescue(file, output);
+    let answer = rescue(file, output, edition);
+    if answer.code != 0 {
+        return Lengths {
+            text: put_refused(text, answer.code),
+            output: 0,
+        };
+    }
     let length = answer.length as usize;
     Lengths {
         text: put_text(text, answer.kept, answer.dropped, answer.right),
         output: length,
     }
+}
+
+// The edition that a word names: one digit. Every other word names no known edition.
+pub fn edition_of(word: &[u8]) -> u32
+    ensures { λ r. ⌜ r ≡ editionOf (now (word .entry)) ⌝ }
+{
+    if word.len() != 1 {
+        return 0;
+    }
+    let digit = word[0];
+    if digit < 48 {
+        return 0;
+    }
+    if 57 < digit {
+        return 0;
+    }
+    (digit - 48) as u32
 }

@@ -1,135 +1,168 @@
 -- The theorems of specs/Rescues. Assumes nothing.
 use mathlib.Core.Path.{_≡_, refl, sym, ap, _∙_, subst}
-use mathlib.Core.Bool.{Bool, true, false}
+use mathlib.Core.Bool.{true, false, not}
 use mathlib.Core.List.{List, [], _++_}
-use Prim.Native.Nat.{ℕ, _-_, _≤_}
+use Prim.Native.Nat.{ℕ, zero, suc, _-_, _≤_}
 use native.Mathlib.Omega.{arith}
 use lib.Dec.{ltb}
 use lib.ListN.{length, drop}
 use lib.Seq.{take-at, drop-at}
-use borrow.Author.Tests.{le-ltb}
+use borrow.Author.Tests.{le-ltb, ltb-false, not-false}
+use Rattle.cone.specs.Refusals.{traceRow, settle}
+use Rattle.cone.proofs.Settled.{trace-row-off}
 use Rattle.words.specs.Words.{spelled, wordAt, AllBelow}
 use Rattle.trace_layout.specs.Records.{Record, laidAt}
-use Rattle.trace_layout.specs.Traces.{newestEdition, recordsBytes, traceOf, editionAt, trailerOk, goodTrace, recordsOf}
+use Rattle.trace_layout.specs.Traces.{known, recordsBytes, traceOf, editionAt, goodTrace, recordsOf}
 use Rattle.trace_layout.specs.Inverses.{Makes}
 use Rattle.trace_layout.proofs.Traces.{trace-below, good-written, edition-written, read-written}
 use Rattle.trace_sealed.proofs.Sealing.{length-trace}
-use Rattle.whole_records.specs.Whole.{wholeIn}
 use Rattle.whole_records.proofs.Whole.{no-more}
 use Rattle.whole_records.proofs.Longest.{whole-holds}
-use Rattle.rescued.specs.Rescue.{editionFor, keptOf, savedOf, droppedOf, Saved, reportOf, rescueOf}
-use Rattle.rescued.specs.Rescues.{traceIn, rightAgain, Done, Rescues}
-use Rattle.rescued.proofs.Saving.{makes, own-records, same-bytes, nothing-dropped, newest, rest-dropped}
+use Rattle.rescued.specs.Rescue.{endsKnown, editionFor, keptOf, savedOf, droppedOf, Saved, reportOf, refuse, leave, rescueOf}
+use Rattle.rescued.specs.Rescues.{traceIn, rightAgain, Done, Rescues, Editions}
+use Rattle.rescued.proofs.Saving.{kept-edition, callers-edition, own-edition, makes, own-records, same-bytes, nothing-dropped}
+use Rattle.rescued.proofs.Saving.{rest-dropped}
 
--- what a call leaves that has room
-abbrev left : List ℕ → List ℕ → Saved
-left bs old = record { answer = reportOf bs; output = savedOf bs ++ drop (length (savedOf bs)) old }
+-- a call that has room, in an edition that is known
+pub room-rescued : (bs old : List ℕ) (given e : ℕ) → editionFor bs given ≡ e → known e ≡ true → length (savedOf e bs) ≤ length old
+    → rescueOf bs old given ≡ leave e bs old
+unfolding rescueOf traceRow settle
+room-rescued bs old given e is k h = rw (is, k, le-ltb (length old) (length (savedOf e bs)) h)
 
-pub room-rescued : (bs old : List ℕ) → length (savedOf bs) ≤ length old → rescueOf bs old ≡ left bs old
-unfolding rescueOf
-room-rescued bs old h = rw (le-ltb (length old) (length (savedOf bs)) h)
+-- one in another edition
+pub other-rescued : (bs old : List ℕ) (given e : ℕ) → editionFor bs given ≡ e → known e ≡ false → rescueOf bs old given ≡ refuse old 9
+unfolding rescueOf traceRow settle
+other-rescued bs old given e is k = rw (is, k)
 
-trace-left : (bs old : List ℕ) → traceIn (left bs old) ≡ savedOf bs
-trace-left bs old = take-at (savedOf bs) (drop (length (savedOf bs)) old) (length (savedOf bs)) refl
+trace-left : (e : ℕ) (bs old : List ℕ) → traceIn (leave e bs old) ≡ savedOf e bs
+trace-left e bs old = take-at (savedOf e bs) (drop (length (savedOf e bs)) old) (length (savedOf e bs)) refl
 
 -- a good trace that is saved as it is
-right-again : (x room : List ℕ) → goodTrace x ≡ true → savedOf x ≡ x → (k : ℕ) → length (keptOf x) ≡ k → droppedOf x ≡ 0
-    → length x ≤ length room
-    → _≡_ {A = Saved} (rescueOf x room)
+right-again : (x room : List ℕ) (given e : ℕ) → editionFor x given ≡ e → known e ≡ true → goodTrace x ≡ true → savedOf e x ≡ x → (k : ℕ)
+    → length (keptOf e x) ≡ k → droppedOf e x ≡ 0 → length x ≤ length room
+    → _≡_ {A = Saved} (rescueOf x room given)
     (record { answer = record { code = 0; kept = k; dropped = 0; length = length x; right = true }; output = x ++ drop (length x) room })
-right-again x room good saved k kept dropped h = room-rescued x room (omega (arith, ap length saved)) ∙ rw (good, dropped, saved, kept)
+right-again x room given e is edition good saved k kept dropped h =
+    room-rescued x room given e is edition (omega (arith, ap length saved)) ∙ rw (good, dropped, saved, kept)
 
-done-by : (bs old : List ℕ) (b : Bool) → ltb (length old) (length (savedOf bs)) ≡ b → rescueOf bs old .answer .code ≡ 0
-    → rescueOf bs old ≡ left bs old
-unfolding rescueOf
-done-by bs old true h on = absurd (omega (arith, sym (rw h at on)))
-done-by bs old false h on = rw h
+code-zero : (k e : ℕ) (bs old : List ℕ) → settle k (leave e bs old) (refuse old) .answer .code ≡ 0 → k ≡ 0
+unfolding settle
+code-zero zero e bs old h = refl
+code-zero (suc k) e bs old h = h
 
-module _ (bs old : List ℕ) (on : rescueOf bs old .answer .code ≡ 0) where
-  is-left : rescueOf bs old ≡ left bs old
-  is-left = done-by bs old (ltb (length old) (length (savedOf bs))) refl on
+module _ (bs old : List ℕ) (given : ℕ) (on : rescueOf bs old given .answer .code ≡ 0) where
+  abbrev e : ℕ
+  e = editionFor bs given
 
-  trace-is : traceIn (rescueOf bs old) ≡ savedOf bs
-  trace-is = ap traceIn is-left ∙ trace-left bs old
+  abbrev rs : List Record
+  rs = keptOf e bs
+
+  -- no row applied
+  rows : (not (known e) ≡ false) × (ltb (length old) (length (savedOf e bs)) ≡ false)
+  unfolding rescueOf
+  rows = trace-row-off (not (known e)) (ltb (length old) (length (savedOf e bs))) (code-zero _ e bs old on)
+
+  edition : known e ≡ true
+  edition = not-false (known e) (rows .0)
+
+  is-left : rescueOf bs old given ≡ leave e bs old
+  is-left = room-rescued bs old given e refl edition (ltb-false (length old) (length (savedOf e bs)) (rows .1))
+
+  trace-is : traceIn (rescueOf bs old given) ≡ savedOf e bs
+  trace-is = ap traceIn is-left ∙ trace-left e bs old
 
   module _ (bytes : AllBelow 256 bs) where
-    abbrev e : ℕ
-    e = editionFor bs
-
-    abbrev rs : List Record
-    rs = keptOf bs
-
     abbrev m : Makes e rs
-    m = makes bs bytes
+    m = makes e bs bytes edition
 
-    good-saved : goodTrace (savedOf bs) ≡ true
+    good-saved : goodTrace (savedOf e bs) ≡ true
     good-saved = good-written e rs (m .edition) (m .few) (m .laid)
 
-    records-saved : recordsOf (savedOf bs) ≡ rs
+    records-saved : recordsOf (savedOf e bs) ≡ rs
     records-saved = read-written e rs (m .edition) (m .few) (m .laid)
 
-    edition-saved : editionAt (savedOf bs) ≡ e
+    edition-saved : editionAt (savedOf e bs) ≡ e
     edition-saved = edition-written e rs (m .edition) (m .few) (m .laid)
 
     -- the saved trace, rescued again
-    again : (room : List ℕ) → length (savedOf bs) ≤ length room
-        → rescueOf (savedOf bs) room ≡ record { answer = rightAgain (reportOf bs); output = savedOf bs ++ drop (length (savedOf bs)) room }
-    again room h =
+    again : (room : List ℕ) (other : ℕ) → length (savedOf e bs) ≤ length room
+        → rescueOf (savedOf e bs) room other
+        ≡ record { answer = rightAgain (reportOf e bs); output = savedOf e bs ++ drop (length (savedOf e bs)) room }
+    again room other h =
         let below = trace-below e rs in
-        right-again (savedOf bs) room good-saved (same-bytes (savedOf bs) below good-saved) (length rs)
-        (ap length (own-records (savedOf bs) below good-saved ∙ records-saved)) (nothing-dropped (savedOf bs) below good-saved) h
+        let own = sym edition-saved in
+        right-again (savedOf e bs) room other e (own-edition (savedOf e bs) other below good-saved ∙ edition-saved) edition good-saved
+        (same-bytes e (savedOf e bs) below good-saved own) (length rs)
+        (ap length (own-records e (savedOf e bs) below good-saved own ∙ records-saved))
+        (nothing-dropped e (savedOf e bs) below good-saved own) h
 
-    done-left : Done bs old (left bs old)
+    done-left : Done bs old (leave e bs old)
     done-left = record {
-      good = rw (trace-left bs old) good-saved;
-      behind = drop-at (savedOf bs) (drop (length (savedOf bs)) old) (length (savedOf bs)) refl;
-      records = rw (trace-left bs old, edition-saved, records-saved) (whole-holds .longest e bs bytes);
-      kept = rw (trace-left bs old, records-saved);
+      good = rw (trace-left e bs old) good-saved;
+      behind = drop-at (savedOf e bs) (drop (length (savedOf e bs)) old) (length (savedOf e bs)) refl;
+      records = rw (trace-left e bs old, edition-saved, records-saved) (whole-holds .longest e bs bytes);
+      kept = rw (trace-left e bs old, records-saved);
       right = refl;
-      again = λ room h. rw (trace-left bs old) (again room h);
+      again = λ room other h. rw (trace-left e bs old) (again room other h);
     }
 
-    done : Done bs old (rescueOf bs old)
+    done : Done bs old (rescueOf bs old given)
     done = subst (Done bs old) (sym is-left) done-left
 
-    of-good : goodTrace bs ≡ true → (traceIn (rescueOf bs old) ≡ bs) × (rescueOf bs old .answer .dropped ≡ 0)
-    of-good good = (trace-is ∙ same-bytes bs bytes good, ap (λ (x : Saved). x .answer .dropped) is-left ∙ nothing-dropped bs bytes good)
+    of-good : goodTrace bs ≡ true → (traceIn (rescueOf bs old given) ≡ bs) × (rescueOf bs old given .answer .dropped ≡ 0)
+    of-good good =
+        let own = own-edition bs given bytes good in (
+          trace-is ∙ same-bytes e bs bytes good own,
+          ap (λ (x : Saved). x .answer .dropped) is-left ∙ nothing-dropped e bs bytes good own,
+        )
 
-    of-cut : goodTrace bs ≡ false → let new = traceIn (rescueOf bs old) in
-        (editionAt new ≡ newestEdition)
-        × (rescueOf bs old .answer .dropped ≡ length bs - length (recordsBytes (editionAt new) (recordsOf new)))
-    of-cut cut = (
-      ap editionAt trace-is ∙ edition-saved ∙ newest bs bytes cut,
-      ap (λ (x : Saved). x .answer .dropped) is-left ∙ rest-dropped bs bytes cut
-          ∙ sym (rw (trace-is, edition-saved, records-saved)),
-    )
+    of-cut : goodTrace bs ≡ false → let new = traceIn (rescueOf bs old given) in
+        rescueOf bs old given .answer .dropped ≡ length bs - length (recordsBytes (editionAt new) (recordsOf new))
+    of-cut cut =
+        ap (λ (x : Saved). x .answer .dropped) is-left ∙ rest-dropped e bs bytes cut ∙ sym (rw (trace-is, edition-saved, records-saved))
+
+    edition-is : editionAt (traceIn (rescueOf bs old given)) ≡ e
+    edition-is = ap editionAt trace-is ∙ edition-saved
 
 -- ---- an empty input
 
-none-good : goodTrace [] ≡ false
-unfolding goodTrace trailerOk
-none-good = refl
+none-known : endsKnown [] ≡ false
+unfolding endsKnown
+none-known = refl
 
 none-laid : (e : ℕ) → laidAt e [] ≡ false
 unfolding laidAt wordAt spelled
 none-laid e = refl
 
-empty-saved : savedOf [] ≡ traceOf newestEdition []
-unfolding AllBelow
-empty-saved =
-    ap (λ (k : ℕ). traceOf k (wholeIn k 4096 [])) (newest [] tt none-good)
-    ∙ ap (traceOf newestEdition) (no-more newestEdition 4096 [] (none-laid newestEdition))
+empty-saved : (e : ℕ) → savedOf e [] ≡ traceOf e []
+empty-saved e = ap (traceOf e) (no-more e 4096 [] (none-laid e))
 
-of-empty : (old : List ℕ) → 20 ≤ length old → traceIn (rescueOf [] old) ≡ traceOf newestEdition []
+of-empty : (old : List ℕ) (given : ℕ) → 20 ≤ length old → known given ≡ true → traceIn (rescueOf [] old given) ≡ traceOf given []
 unfolding recordsBytes
-of-empty old h =
-    let size : length (savedOf []) ≡ 20 = ap length empty-saved ∙ length-trace newestEdition [] in
-    ap traceIn (room-rescued [] old (omega (arith, size))) ∙ trace-left [] old ∙ empty-saved
+of-empty old given h k =
+    let size : length (savedOf given []) ≡ 20 = ap length (empty-saved given) ∙ length-trace given [] in
+    ap traceIn (room-rescued [] old given given (callers-edition [] given none-known) k (omega (arith, size)))
+    ∙ trace-left given [] old ∙ empty-saved given
 
 pub rescues : Rescues
 rescues = record {
-  done = λ bs old bytes on. done bs old on bytes;
-  good = λ bs old bytes good on. of-good bs old on bytes good;
-  cut = λ bs old bytes cut on. of-cut bs old on bytes cut;
+  done = λ bs old given bytes on. done bs old given on bytes;
+  good = λ bs old given bytes good on. of-good bs old given on bytes good;
+  cut = λ bs old given bytes cut on. of-cut bs old given on bytes cut;
   empty = of-empty;
+}
+
+-- ---- the edition
+
+same-edition : (bs old : List ℕ) (given other : ℕ) → editionFor bs given ≡ editionFor bs other
+    → rescueOf bs old given ≡ rescueOf bs old other
+unfolding rescueOf
+same-edition bs old given other h = rw h
+
+pub editions : Editions
+editions = record {
+  kept = λ bs old given bytes h on. edition-is bs old given on bytes ∙ kept-edition bs given h;
+  unread = λ bs old given other h. same-edition bs old given other (kept-edition bs given h ∙ sym (kept-edition bs other h));
+  taken = λ bs old given bytes h on. edition-is bs old given on bytes ∙ callers-edition bs given h;
+  other = λ bs old given h k. other-rescued bs old given given (callers-edition bs given h) k;
 }

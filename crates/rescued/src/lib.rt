@@ -2,14 +2,14 @@
 // report records kept, bytes dropped, and whether list and trailer were rebuilt or already right (the input was a good trace)".
 ghost use mathlib.Core.Path.{_≡_};
 ghost use mathlib.Core.Bool.{cond};
-ghost use lib.Dec.{eqb};
 ghost use lib.ListN.{length};
 ghost use Rattle.words.specs.Words.{AllBelow};
-ghost use Rattle.trace_layout.specs.Traces.{newestEdition};
-ghost use Rattle.rescued.specs.Rescue.{refused, rescueOf};
-use trace::NEWEST_EDITION;
-use trace::Opened;
+ghost use Rattle.rescued.specs.Rescue.{editionFor, refusedWith, rescueOf};
+use cone::refusal::trace_row;
+use trace::BACK_MARK;
+use trace::judge::known;
 use trace::judge::open;
+use trace::judge::trailer_at;
 use trace_sealed::copy;
 use trace_sealed::seal;
 use whole_records::walk;
@@ -32,11 +32,11 @@ fn row() -> [u64; 4096]
     [0; 4096]
 }
 
-fn refused() -> Rescued
-    ensures { λ r. ⌜ r ≡ refused ⌝ }
+fn refused(code: u32) -> Rescued
+    ensures { λ r. ⌜ r ≡ refusedWith code ⌝ }
 {
     Rescued {
-        code: 8,
+        code,
         kept: 0,
         dropped: 0,
         length: 0,
@@ -44,15 +44,14 @@ fn refused() -> Rescued
     }
 }
 
-// The edition of what is written: a good trace's own.
-fn edition_for(opened: Opened) -> u32
-    ensures { λ r. ⌜ r ≡ cond (eqb (opened .code) 0) (opened .edition) newestEdition ⌝ }
+// The edition of what is written. 02, Order 8: "Rescue keeps the edition if the input ends in a known edition and `BACK`, and otherwise takes it from its
+// caller".
+fn edition_for(input: &[u8], given: u32) -> u32
+    ensures { λ r. ⌜ r ≡ editionFor (now (input .entry)) given ⌝ }
 {
-    if opened.code == 0 {
-        opened.edition
-    } else {
-        NEWEST_EDITION
-    }
+    let trailer = trailer_at(input);
+    let kept = (8 <= input.len()) & (trailer.mark == BACK_MARK) & known(trailer.edition);
+    if kept { trailer.edition } else { given }
 }
 
 // How many bytes of the input are taken over: the records, and list and trailer where these were right.
@@ -64,21 +63,22 @@ fn taken(right: bool, length: usize, end: usize) -> usize
 
 // A good trace is written anew as every other input is, and comes out byte for byte. The output's length is known before its first byte is written.
 // Beside the equation the contract says what every call has and the theorems ask: the input holds bytes.
-pub fn rescue(input: &[u8], output: &mut [u8]) -> Rescued
-    ensures { λ r. ⌜ (record { answer = r; output = now (output .exit) } ≡ rescueOf (now (input .entry)) (now (output .entry)))
+pub fn rescue(input: &[u8], output: &mut [u8], edition: u32) -> Rescued
+    ensures { λ r. ⌜ (record { answer = r; output = now (output .exit) } ≡ rescueOf (now (input .entry)) (now (output .entry)) edition)
         × AllBelow 256 (now (input .entry)) ⌝ }
 {
     let opened = open(input);
-    let edition = edition_for(opened);
+    let chosen = edition_for(input, edition);
     let mut starts = row();
-    let walked = walk(edition, input, &mut starts);
+    let walked = walk(chosen, input, &mut starts);
     let end = walked.end;
     let length = end + 8 * walked.count + 20;
-    if output.len() < length {
-        return refused();
+    let code = trace_row(!known(chosen), output.len() < length);
+    if code != 0 {
+        return refused(code);
     }
     copy(output, 0, front(input, end));
-    seal(output, end, &starts[..walked.count], edition);
+    seal(output, end, &starts[..walked.count], chosen);
     let right = opened.code == 0;
     Rescued {
         code: 0,

@@ -73,6 +73,7 @@ fn main() {
     let out = [0.0, -1.0, 1.0];
     let inside = [-1.0, 1.0, 1.0];
     stay(b"no pass, house settings", out, house_settings(1.0));
+    stay(b"no pass, step 0.8", out, settings(1.0, 0.8, 0.0001));
     stay(
         b"no pass, one exponent",
         out,

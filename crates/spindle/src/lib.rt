@@ -321,8 +321,8 @@ pub extern "C" fn spindle_replay(trace: &[u8], at: &mut [u64]) -> Replayed
 // ---- 02, Order 7: a cut trace rescued
 
 #[no_mangle]
-pub extern "C" fn spindle_rescue(input: &[u8], output: &mut [u8]) -> Rescued
-    ensures { λ r. ⌜ record { answer = r; output = now (output .exit) } ≡ rescueOf (now (input .entry)) (now (output .entry)) ⌝ }
+pub extern "C" fn spindle_rescue(input: &[u8], output: &mut [u8], edition: u32) -> Rescued
+    ensures { λ r. ⌜ record { answer = r; output = now (output .exit) } ≡ rescueOf (now (input .entry)) (now (output .entry)) edition ⌝ }
 {
-    rescued::rescue(input, output)
+    rescued::rescue(input, output, edition)
 }

@@ -18,9 +18,9 @@ backMark = 0x4b434142
 abbrev pub mostRecords : ℕ
 mostRecords = 4096
 
--- 02: "edition (u32, now 1)"
+-- 02, Order 8: "new traces are edition 2"
 abbrev pub newestEdition : ℕ
-newestEdition = 1
+newestEdition = 2
 
 -- 02, Order 8: "another edition gives 9"
 unfoldable pub known : ℕ → Bool

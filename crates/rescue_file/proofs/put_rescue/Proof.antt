@@ -1,8 +1,8 @@
--- `put_rescue` meets its contract: a file above the limit, and text and output of the answer. Assumes nothing.
+-- `put_rescue` meets its contract: a file above the limit, an edition that is not known, and text and output of the answer. Assumes nothing.
 use mathlib.Core.Path.{refl}
 use borrow.Author.Needs.{needs}
-use Rattle.rescue_file.proofs.Answers.{written, lengths, refused-printed, nothing-written, text-printed}
-use Rattle.rescue_file.proofs.Answers.{output-length, output-written}
+use Rattle.rescue_file.proofs.Answers.{written, lengths, large-printed, large-written, other-printed, other-written, other-left}
+use Rattle.rescue_file.proofs.Answers.{text-printed, output-length, output-written}
 use Rattle.rescue_file.proofs.put_rescue.Statement.{statement}
 use Rattle.rescue_file.proofs.put_rescue.Tie as tie
 
@@ -15,32 +15,52 @@ returns c =
     let p = c .before .before in
     let t = p .before .before in
     let a = given (t .before) .args in
-    let printed = refused-printed (a .file .now) (t .if1 .taken) in
-    let none = nothing-written (a .file .now) (t .if1 .taken) in (
-      lengths (a .file .now) _ _ _ _ (p .put-refused .ensures .0) printed refl none,
+    let printed = large-printed (a .file .now) (a .edition) (t .if1 .taken) in
+    let none = large-written (a .file .now) (a .edition) (t .if1 .taken) in (
+      lengths (a .file .now) _ _ (a .edition) _ _ (p .put-refused .ensures .0) printed refl none,
       written (a .text .now) _ _ _ printed (p .put-refused .ensures .1),
       written (a .output .now) _ _ _ none refl,
     )
 
 -- the places of the code behind the rescue
-abbrev rescuing : tie.After-put-text → tie.After-rescue
-rescuing c = c .before .before .before .before
+abbrev rescuing : tie.After-struct-known → tie.After-rescue
+rescuing c = c .before .before .before
 
 returns-2 : tie.Need-returns-2
 returns-2 c =
     let p = c .before .before in
-    let r = rescuing p in
+    let t = p .before .before in
+    let r = rescuing (t .before) in
     let s = r .before .before in
     let g = given (s .before) in
     let a = g .args in
     let bs = a .file .now in
     let told = r .rescue .ensures .0 in
     let bytes = r .rescue .ensures .1 in
-    let printed = text-printed bs (s .if1 .left) bytes (a .output .now) _ (g .pre .1) _ told in (
-      lengths bs _ _ _ _ (p .put-text .ensures .0) printed
-          (output-length bs (s .if1 .left) bytes (a .output .now) _ (g .pre .1) _ told) refl,
+    let printed = other-printed bs (a .edition) (s .if1 .left) bytes (a .output .now) _ (g .pre .1) _ told (t .if2 .taken) in
+    let none = other-written bs (a .edition) (s .if1 .left) bytes (a .output .now) _ (g .pre .1) _ told (t .if2 .taken) in
+    let stays = other-left bs (a .edition) (s .if1 .left) bytes (a .output .now) _ (g .pre .1) _ told (t .if2 .taken) in (
+      lengths bs _ _ (a .edition) _ _ (p .put-refused2 .ensures .0) printed refl none,
+      written (a .text .now) _ _ _ printed (p .put-refused2 .ensures .1),
+      written (a .output .now) _ _ _ none stays,
+    )
+
+returns-3 : tie.Need-returns-3
+returns-3 c =
+    let p = c .before .before in
+    let t = p .before .before in
+    let r = rescuing (t .before) in
+    let s = r .before .before in
+    let g = given (s .before) in
+    let a = g .args in
+    let bs = a .file .now in
+    let told = r .rescue .ensures .0 in
+    let bytes = r .rescue .ensures .1 in
+    let printed = text-printed bs (a .edition) (s .if1 .left) bytes (a .output .now) _ (g .pre .1) _ told (t .if2 .left) in (
+      lengths bs _ _ (a .edition) _ _ (p .put-text .ensures .0) printed
+          (output-length bs (a .edition) (s .if1 .left) bytes (a .output .now) _ (g .pre .1) _ told (t .if2 .left)) refl,
       written (a .text .now) _ _ _ printed (p .put-text .ensures .1),
-      output-written bs (s .if1 .left) bytes (a .output .now) _ (g .pre .1) _ told,
+      output-written bs (a .edition) (s .if1 .left) bytes (a .output .now) _ (g .pre .1) _ told (t .if2 .left),
     )
 
 pub put-rescue-spec : {M : Type 1} → statement M
@@ -50,4 +70,6 @@ put-rescue-spec =
     (λ c κs. search needs) (λ c. search needs)
     returns
     (λ c κs. search needs) (λ c κs. search needs) (λ c. search needs) (λ c. search needs)
-    returns-2)
+    returns-2
+    (λ c κs. search needs) (λ c. search needs) (λ c. search needs)
+    returns-3)

@@ -41,6 +41,10 @@ outside() {
     sh examples/night.sh >target/log/night.txt 2>&1 || { tail -n 20 target/log/night.txt >&2; die "sh examples/night.sh failed"; }
     sed '/^build: /d' target/log/night.txt | diff - examples/night.stdout || die "examples/night.sh wrote something else than examples/night.stdout"
 
+    say "examples/drain.c: a caller that passes its settings outright"
+    tools/x86 cc target/examples/drain -Iinclude examples/drain.c target/staticlib/libspindle.a
+    tools/x86 run target/examples/drain | diff - examples/drain.stdout || die "examples/drain.c wrote something else than examples/drain.stdout"
+
     say "include/spindle.h as C99 and as C++"
     cc -std=c99 -pedantic -Wall -Wextra -Werror -fsyntax-only -x c include/spindle.h || die "include/spindle.h is not clean C99"
     if command -v c++ >/dev/null 2>&1; then c++ -std=c++11 -pedantic -Wall -Wextra -Werror -fsyntax-only -x c++ include/spindle.h || die "include/spindle.h is not clean C++"; fi

@@ -124,7 +124,7 @@ static Plan planned(const Cone *cones, size_t count)
         uint32_t code = spindle_unit_initialization(cones[i], p.z + p.at[i], n, p.unit + p.at[i], n);
         if (code) refused("unit_initialization", i, code);
     }
-    p.in = (Inputs) { count, p.cone, p.at, p.block_at, p.z, p.s, p.dz, p.ds, { p.x[0], p.x[1] }, 1.0, 0.1, spindle_house_settings(1.0) };
+    p.in = (Inputs) { count, p.cone, p.at, p.block_at, p.z, p.s, p.dz, p.ds, { p.x[0], p.x[1] }, 1.0, 0.1, { 1.0, 0.8, 0.0001 } };
     return p;
 }
 

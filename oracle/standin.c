@@ -288,7 +288,7 @@ DualGrad spindle_dual_grad_h(Cone c, const double *z, size_t n)
     if (r.code) { r.three = no_three; r.wide = no_wide; }
     return r;
 }
-Settings spindle_house_settings(double start) { Settings s = { start, 0.8, 0.0001 }; return s; }
+Settings spindle_house_settings(double start) { Settings s = { start, 0.5, 0.0001 }; return s; }
 uint32_t spindle_house_strategy(void) { return 2; }
 Found spindle_backtrack_search(Cone c, bool primal, const double *dq, size_t ndq, const double *q, size_t nq, double *point, size_t np, Settings s)
 {

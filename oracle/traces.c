@@ -1,4 +1,4 @@
-/* The calls on traces a second time, in C, from the words of document 02's Orders 1, 2 and 7 alone: tests/traces holds the library to it, and the Rust crate can be
+/* The calls on traces a second time, in C, from the words of document 02's Orders 1, 2, 7 and 8 alone: tests/traces holds the library to it, and the Rust crate can be
    tested over it and standin.c on any machine (tools/rust-tests --standin). It shares nothing with the library but spindle.h. It goes the slow way: it reads
    every number of every record, one behind the other, and lays a new record out beside the trace before it asks for its length. */
 #include "spindle.h"
@@ -6,6 +6,7 @@
 
 #define MOST 4096     /* "At most 4,096 records" */
 #define TRAILER 20    /* "a 20-byte trailer" */
+#define NEWEST 2      /* Order 8: "new traces are edition 2" */
 #define LONGEST 2376  /* a record of kind 3 with both dims 32 and flag 0 */
 
 /* The logic has one NaN (docs/DECISIONS.md): every NaN is read and written as this one. */
@@ -62,7 +63,10 @@ static size_t exponents(const Cone *c) { return c->kind == 3 ? c->dim1 : c->kind
 /* "a step is +0 or positive and finite" */
 static bool stepped(double x) { return !__builtin_signbit(x) && x - x == 0; }
 
-static bool record(In *in, Recorded *r)
+/* Order 8: "another edition gives 9" */
+static bool known(uint32_t edition) { return edition - 1 < NEWEST; }
+
+static bool record(In *in, uint32_t edition, Recorded *r)
 {
     static const Recorded none;
     *r = none;
@@ -78,7 +82,8 @@ static bool record(In *in, Recorded *r)
     row(in, &r->settings.start, 1);
     r->flag = (uint32_t)whole(in, 4);
     if (r->flag > 1) return false;
-    r->settings.step = 0.8; /* "1 means default settings; at 0 step and smallest step follow" */
+    /* "1 means default settings; at 0 step and smallest step follow"; Order 8: "A trace of edition 1 means 0.8 by its flag; new traces .. mean 0.5" */
+    r->settings.step = edition == 1 ? 0.8 : 0.5;
     r->settings.smallest = 0.0001;
     if (r->flag == 0) {
         row(in, &r->settings.step, 1);
@@ -103,13 +108,13 @@ static bool judge(const uint8_t *bytes, size_t n, uint32_t i, uint32_t *edition,
     uint64_t at = whole(&trailer, 8);
     *count = (uint32_t)whole(&trailer, 4);
     *edition = (uint32_t)whole(&trailer, 4);
-    if (!mark(&trailer, "BACK") || *edition != 1 || *count > MOST) return false;
+    if (!mark(&trailer, "BACK") || !known(*edition) || *count > MOST) return false;
     if (8 * (size_t)*count > n - TRAILER || at != n - TRAILER - 8 * (size_t)*count) return false;
     *list = (size_t)at;
     In records = { bytes, 0, *list, false }, entries = { bytes, *list, n - TRAILER, false };
     for (uint32_t k = 0; k < *count; k++) {
         Recorded r;
-        if (whole(&entries, 8) != records.at || !record(&records, &r)) return false;
+        if (whole(&entries, 8) != records.at || !record(&records, *edition, &r)) return false;
         if (k == i) *kept = r;
     }
     return records.at == *list;
@@ -133,11 +138,11 @@ static void put_row(Out *out, const double *x, size_t n)
     for (size_t i = 0; i < n; i++) put(out, 8, bits_of(x[i]));
 }
 /* "offset of that list (u64), record count (u32), edition (u32, now 1), four bytes `BACK`" */
-static void put_trailer(Out *out, uint64_t list, uint32_t count)
+static void put_trailer(Out *out, uint64_t list, uint32_t count, uint32_t edition)
 {
     put(out, 8, list);
     put(out, 4, count);
-    put(out, 4, 1);
+    put(out, 4, edition);
     put_mark(out, "BACK");
 }
 
@@ -148,7 +153,7 @@ Written spindle_trace_create(uint8_t *trace, size_t room)
     Out out = { trace, 0 };
     Written w = { room < TRAILER ? 8 : 0, 0 };
     if (w.code) return w;
-    put_trailer(&out, 0, 0);
+    put_trailer(&out, 0, 0, NEWEST);
     w.length = out.at;
     return w;
 }
@@ -200,7 +205,7 @@ Written spindle_trace_append(uint8_t *trace, size_t room, size_t used, Cone cone
     memcpy(trace + list, laid, length);
     Out end = { trace, list + length + 8 * (size_t)count };
     put(&end, 8, list);
-    put_trailer(&end, list + length, count + 1);
+    put_trailer(&end, list + length, count + 1, edition);
     Written w = { 0, end.at };
     return w;
 }
@@ -250,10 +255,11 @@ Replayed spindle_replay(const uint8_t *trace, size_t n, uint64_t *at, size_t nat
 }
 
 /* "keep every whole record until the first that is cut or malformed, write a good list and trailer"; the records are read number by number and their bytes
-   copied. "A good trace comes out byte for byte with 0 dropped." */
-Rescued spindle_rescue(const uint8_t *input, size_t n, uint8_t *output, size_t room)
+   copied. "A good trace comes out byte for byte with 0 dropped." Order 8: "Rescue keeps the edition if the input ends in a known edition and `BACK`, and
+   otherwise takes it from its caller" */
+Rescued spindle_rescue(const uint8_t *input, size_t n, uint8_t *output, size_t room, uint32_t edition)
 {
-    static const Rescued refused = { 8, 0, 0, 0, false };
+    static const Rescued refused = { 8, 0, 0, 0, false }, refused_9 = { 9, 0, 0, 0, false };
     Opened o = spindle_trace_open(input, n);
     if (o.code == 0) {
         if (room < n) return refused;
@@ -261,12 +267,16 @@ Rescued spindle_rescue(const uint8_t *input, size_t n, uint8_t *output, size_t r
         Rescued r = { 0, o.records, 0, n, true };
         return r;
     }
+    In last = { input, n < 8 ? n : n - 8, n, false };
+    uint32_t own = (uint32_t)whole(&last, 4);
+    if (mark(&last, "BACK") && known(own)) edition = own;
+    if (!known(edition)) return refused_9;
     static uint64_t begins[MOST];
     In in = { input, 0, n, false };
     Recorded one;
     uint32_t kept = 0;
     size_t end = 0;
-    while (kept < MOST && record(&in, &one)) { /* "a 4,097th record counts as bad" */
+    while (kept < MOST && record(&in, edition, &one)) { /* "a 4,097th record counts as bad" */
         begins[kept++] = end;
         end = in.at;
     }
@@ -274,7 +284,7 @@ Rescued spindle_rescue(const uint8_t *input, size_t n, uint8_t *output, size_t r
     Out out = { output, end };
     memcpy(output, input, end);
     for (uint32_t i = 0; i < kept; i++) put(&out, 8, begins[i]);
-    put_trailer(&out, end, kept);
+    put_trailer(&out, end, kept, edition);
     Rescued r = { 0, kept, n - end, out.at, false };
     return r;
 }

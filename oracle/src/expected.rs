@@ -288,7 +288,7 @@ fn run(call: &Call, oracle: &mut Oracle, answer: &mut Answer) {
 fn plain(call: &Call) -> Answer {
     let mut answer = Answer { reply: Reply::ZERO, slices: call.slices };
     if call.entry == HOUSE_SETTINGS {
-        answer.reply.values = [call.numbers[0], 0.8, 0.0001];
+        answer.reply.values = [call.numbers[0], 0.5, 0.0001];
     }
     answer
 }

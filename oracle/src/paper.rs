@@ -28,7 +28,7 @@ fn search(q: [f64; 3], dq: [f64; 3], settings: [f64; 3]) -> Call {
     Call { option: 1, numbers: settings, ..call(BACKTRACK_SEARCH, 1, &[dq, q, [9.0; 3]]) }
 }
 
-pub const ROWS: usize = 16;
+pub const ROWS: usize = 17;
 
 pub fn row(i: usize) -> (&'static str, Call) {
     match i {
@@ -50,7 +50,8 @@ pub fn row(i: usize) -> (&'static str, Call) {
         // a finite point whose margin is infinite
         14 => ("infinite margin", call(IS_PRIMAL_FEASIBLE, 2, &[[1.0, 1.0, 1e200]])),
         // undecided does not pass: row b's point, tried three times
-        _ => ("undecided trials", search([0.0, 1.0, 1.0], [0.0; 3], [1.0, 0.5, 0.25])),
+        15 => ("undecided trials", search([0.0, 1.0, 1.0], [0.0; 3], [1.0, 0.5, 0.25])),
+        _ => ("14 tests", search([0.0, -1.0, 1.0], [0.0; 3], [1.0, 0.5, 0.0001])),
     }
 }
 
@@ -78,7 +79,8 @@ fn keeps(i: usize, answer: &Answer) -> bool {
         11 => found(answer, 0.125, 4, [-1.0, 0.5, 1.0]),
         12 => reply.code == 0 && bits(&reply.three.grad, [-3.0, -3.0, 0.0]) && bits(&reply.three.h_dual, [6.0, 0.0, 6.0, -0.0, -0.0, 2.0]),
         13 => found(answer, 0.0, 42, [0.0, -1.0, 1.0]),
-        _ => found(answer, 0.0, 3, [0.0, 1.0, 1.0]),
+        15 => found(answer, 0.0, 3, [0.0, 1.0, 1.0]),
+        _ => found(answer, 0.0, 14, [0.0, -1.0, 1.0]),
     }
 }
 

@@ -1,5 +1,5 @@
 #!/usr/bin/env python3
-"""A second reading and writing of traces, made from the words of document 02's Orders 1 and 7 alone, to hold libspindle.a to.
+"""A second reading and writing of traces, made from the words of document 02's Orders 1, 7 and 8 alone, to hold libspindle.a to.
 
 usage: layout.py rows FILE      writes FILE, some hundred rows of calls for `traces play`, and prints what it must print
        layout.py strings FILE   writes FILE, byte strings for `traces judge`, and prints what it must print of each of them, and of small traces also
@@ -15,7 +15,9 @@ import sys
 MOST = 4096
 NAN = 0x7FF8000000000000
 INFINITE = 0x7FF0000000000000
-DEFAULT = [struct.unpack("<Q", struct.pack("<d", x))[0] for x in (0.8, 0.0001)]  # step and smallest step of edition 1
+NEWEST = 2
+# step and smallest step by default, of each edition that is known
+DEFAULTS = {1: [0x3FE999999999999A, 0x3F1A36E2EB1C432D], 2: [0x3FE0000000000000, 0x3F1A36E2EB1C432D]}
 
 
 def value(pattern):
@@ -49,7 +51,7 @@ class Broken(Exception):
     pass
 
 
-def read_record(data, place, end):
+def read_record(data, place, end, edition):
     """The words that are compared, and the place behind the record."""
 
     def take(form):
@@ -67,7 +69,7 @@ def read_record(data, place, end):
     *numbers, flag = take("%dQI" % (exponents(kind, dim1) + 1))
     if flag > 1:
         raise Broken
-    numbers += take("2Q") if flag == 0 else DEFAULT
+    numbers += take("2Q") if flag == 0 else DEFAULTS[edition]
     numbers += take("%dQ" % (4 * (dim1 + dim2)))
     dual_step, dual_count, primal_step, primal_count = take("QIQI")
     if at - place != size or not step_ok(dual_step) or not step_ok(primal_step):
@@ -81,11 +83,11 @@ def judge(data):
         if len(data) < 20:
             raise Broken
         list_at, count, edition, mark = struct.unpack("<QII4s", data[-20:])
-        if mark != b"BACK" or edition != 1 or count > MOST or list_at + 8 * count + 20 != len(data):
+        if mark != b"BACK" or edition not in DEFAULTS or count > MOST or list_at + 8 * count + 20 != len(data):
             raise Broken
         line, place = ["%d %d" % (edition, count)], 0
         for entry in struct.unpack_from("<%dQ" % count, data, list_at):
-            words, behind = read_record(data, place, list_at)
+            words, behind = read_record(data, place, list_at, edition)
             if entry != place:
                 raise Broken
             line.append("%d %s" % (place, told(words)))
@@ -98,21 +100,27 @@ def judge(data):
 
 
 def rescued(data):
-    """The words that `traces judge` must print behind that line: records kept, bytes dropped, whether the data is a trace, and the whole output."""
+    """The words that `traces judge` must print behind that line: records kept, bytes dropped, whether the data is a trace, its edition, and the whole output;
+    or 9. The caller names an edition of 0 to 3."""
     right, records, place = judge(data) != "9", [], 0
+    edition = sum(data) % 4
+    if data[-4:] == b"BACK" and len(data) >= 8 and struct.unpack("<I", data[-8:-4])[0] in DEFAULTS:
+        edition = data[-8]
+    if edition not in DEFAULTS:
+        return "9"
     if right:
         count = struct.unpack_from("<I", data, len(data) - 12)[0]
         saved, dropped = data, 0
     else:
         try:
             while len(records) < MOST:
-                behind = read_record(data, place, len(data))[1]
+                behind = read_record(data, place, len(data), edition)[1]
                 records.append(data[place:behind])
                 place = behind
         except Broken:
             pass
-        count, saved, dropped = len(records), trace_bytes(records), len(data) - place
-    return "%d %d %d %d %s" % (count, dropped, right, len(saved), told(saved + b"\xa5" * 8))
+        count, saved, dropped = len(records), trace_bytes(records, edition), len(data) - place
+    return "%d %d %d %d %d %s" % (count, dropped, right, saved[-8], len(saved), told(saved + b"\xa5" * 8))
 
 
 def record_bytes(call):
@@ -139,17 +147,17 @@ def record_bytes(call):
     return b"STEP" + struct.pack("<I", len(body) + 8) + body
 
 
-def closed(body, offsets):
+def closed(body, offsets, edition=NEWEST):
     """Some bytes, and behind them a list of these offsets and its trailer."""
-    return body + struct.pack("<%dQ" % len(offsets), *offsets) + struct.pack("<QII4s", len(body), len(offsets), 1, b"BACK")
+    return body + struct.pack("<%dQ" % len(offsets), *offsets) + struct.pack("<QII4s", len(body), len(offsets), edition, b"BACK")
 
 
-def trace_bytes(records):
+def trace_bytes(records, edition=NEWEST):
     offsets, place = [], 0
     for r in records:
         offsets.append(place)
         place += len(r)
-    return closed(b"".join(records), offsets)
+    return closed(b"".join(records), offsets, edition)
 
 
 # ---- rows of calls
@@ -228,10 +236,11 @@ def one_record(rng, kind, dim1, dim2, flag):
 
 
 def small_traces(rng):
-    """Traces of the three kinds and both flags, to be changed in every byte, and trailers that no one-byte change of theirs is near."""
+    """Traces of the three kinds, both flags and both editions, to be changed in every byte, and trailers that no one-byte change of theirs is near."""
     first, second, third, fourth = (one_record(rng, *shape) for shape in ((1, 0, 0, 1), (2, 9, 9, 0), (3, 1, 1, 1), (3, 2, 1, 0)))
     yield trace_bytes([])
     yield trace_bytes([first, third])
+    yield trace_bytes([first, third], 1)
     yield trace_bytes([second, fourth])
     # trailers whose numbers make the length only where a sum wraps, or point nowhere
     yield struct.pack("<QII4s", 2**64 - 8, 1, 1, b"BACK")

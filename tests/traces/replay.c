@@ -1,7 +1,7 @@
 /* Replay through include/spindle.h, over libspindle.a or over oracle/traces.c and oracle/standin.c. See run.
-   replay calls          searches of the three kinds recorded and replayed: all the same; each changed step or count differs, at its offset alone; what a search
-                         refuses differs; so does what a library before 0.6.0 answered to a trial that is undecided now; no room, bytes that are no trace, and
-                         places that must not move
+   replay calls          searches of the three kinds recorded and replayed, in a trace of each edition: all the same; each changed step or count differs, at its
+                         offset alone; what a search refuses differs; what a library before 0.6.0 answered to a trial that is undecided
+                         now; the other edition's default step; no room, bytes that are no trace, and places that must not move
    replay files FOLDER   writes traces there for the program replay, each beside the text that it must print
    Exit status 1: something did not hold; 2: bad usage, or a file cannot be written. */
 #include <inttypes.h>
@@ -12,10 +12,10 @@ static const uint64_t CANARY = UINT64_C(0xA5A5A5A5A5A5A5A5);
 static uint64_t at[PLACES];
 
 /* Two records of one search, whose primal trials are 2^-42 times the step inside the wall: within the margin of document 02's Order 5. First what a library before
-   that answered, which took the start; then what is answered now: none of 42 trials passes. The dual side passes at the start by both. */
+   that answered, which took the start; then what is answered now: none of 14 trials passes. The dual side passes at the start by both. */
 static void record_old_and_new(void)
 {
-    static const Steps answers[2] = {{0, 1, 1, 1, 1}, {0, 1, 42, 1, 0}};
+    static const Steps answers[2] = {{0, 1, 1, 1, 1}, {0, 1, 14, 1, 0}};
     Cone cone = cones[0];
     double z[3] = {-1, 0, 1}, dz[3] = {0, 0, 0}, s[3] = {0, 1, 1}, ds[3] = {-0x1p-42, 0, 0};
     used = spindle_trace_create(changed, sizeof changed).length;
@@ -49,9 +49,39 @@ static int refused(size_t n, size_t places, uint32_t code)
     return r.code == code && r.records == 0 && r.same == 0 && r.differ == 0 && untouched(0);
 }
 
-static void calls(void)
+/* whether the search of record i gives what it holds, if this step is the default one */
+static int same_with(uint32_t i, double step)
 {
-    record_all();
+    Recorded k = spindle_trace_record(bytes, used, i);
+    size_t m = k.cone.dim1 + k.cone.dim2;
+    double dual[64], primal[64];
+    if (k.flag) k.settings.step = step;
+    Steps s = spindle_step_length(k.cone, k.dz, m, k.ds, m, k.z, m, k.s, m, dual, m, primal, m, k.settings);
+    return s.code == 0 && s.dual_step == k.steps.dual_step && s.dual_count == k.steps.dual_count && s.primal_step == k.steps.primal_step
+           && s.primal_count == k.steps.primal_count;
+}
+/* the same records in a trace of the other edition: those differ whose search by default had the other step */
+static void other_edition(uint32_t edition)
+{
+    uint64_t those[RECORDS];
+    uint32_t differ = 0;
+    memcpy(changed, bytes, used);
+    changed[used - 8] = (uint8_t)(3 - edition);
+    for (uint32_t i = 0; i < RECORDS; i++) {
+        expect(same_with(i, edition == 1 ? 0.8 : 0.5), "the edition's own step, passed outright");
+        if (!same_with(i, edition == 1 ? 0.5 : 0.8)) those[differ++] = begins[i];
+    }
+    expect(differ > 0 && finds(those, differ), "another edition has another default step");
+    for (uint32_t unknown = 0; unknown < 256; unknown++) {
+        changed[used - 8] = (uint8_t)unknown;
+        if (unknown < 1 || unknown > NEWEST) expect(refused(used, PLACES, 9), "another edition");
+    }
+}
+
+static void calls(uint32_t edition)
+{
+    record_all(edition);
+    other_edition(edition);
     memcpy(changed, bytes, used);
     expect(finds(0, 0), "what was recorded replays the same");
     fill();
@@ -107,8 +137,10 @@ static void pair(const char *folder, const char *name, const uint8_t *trace, siz
 static void files(const char *folder)
 {
     char text[200];
-    record_all();
     snprintf(text, sizeof text, "records %d\nsame %d\ndiffer 0\n", RECORDS, RECORDS);
+    record_all(1);
+    pair(folder, "edition-1", bytes, used, text);
+    record_all(NEWEST);
     pair(folder, "same", bytes, used, text);
     memcpy(changed, bytes, used);
     changed[begins[3] - 4] ^= 1;
@@ -149,7 +181,7 @@ static void files(const char *folder)
 int main(int argc, char **argv)
 {
     if (argc == 2 && !strcmp(argv[1], "calls")) {
-        calls();
+        for (uint32_t edition = 1; edition <= NEWEST; edition++) calls(edition);
         if (!failures) printf("%ld", checks);
         return failures != 0;
     }

@@ -15,28 +15,28 @@ static int untouched(const uint8_t *from, size_t n)
 }
 
 /* the rescue of n bytes keeps so many records, which end at `end`, and leaves a good trace of them */
-static int rescues(const uint8_t *input, size_t n, uint32_t kept, size_t end, bool right)
+static int rescues(const uint8_t *input, size_t n, uint32_t given, uint32_t kept, size_t end, bool right)
 {
     size_t length = end + 8 * (size_t)kept + 20;
     memset(output, CANARY, length + 20);
-    Rescued r = spindle_rescue(input, n, output, length + 20);
+    Rescued r = spindle_rescue(input, n, output, length + 20, given);
     Opened o = spindle_trace_open(output, length);
     return r.code == 0 && r.kept == kept && r.dropped == (right ? 0 : n - end) && r.length == length && r.right == right
            && !memcmp(output, input, end) && o.code == 0 && o.records == kept && untouched(output + length, 20);
 }
-/* .. which is right when it is rescued again, into just its room */
+/* .. which is right when it is rescued again, into just its room, whatever edition that caller names */
 static int settled(size_t length, uint32_t kept)
 {
     memset(again, CANARY, length + 20);
-    Rescued r = spindle_rescue(output, length, again, length);
+    Rescued r = spindle_rescue(output, length, again, length, 0);
     return r.code == 0 && r.kept == kept && r.dropped == 0 && r.length == length && r.right && !memcmp(again, output, length)
            && untouched(again + length, 20);
 }
-static int refused(const uint8_t *input, size_t n, size_t room)
+static int refused(const uint8_t *input, size_t n, size_t room, uint32_t given, uint32_t code)
 {
     memset(output, CANARY, room + 20);
-    Rescued r = spindle_rescue(input, n, output, room);
-    return r.code == 8 && r.kept == 0 && r.dropped == 0 && r.length == 0 && !r.right && untouched(output, room + 20);
+    Rescued r = spindle_rescue(input, n, output, room, given);
+    return r.code == code && r.kept == 0 && r.dropped == 0 && r.length == 0 && !r.right && untouched(output, room + 20);
 }
 static uint32_t whole(size_t n)
 {
@@ -45,39 +45,62 @@ static uint32_t whole(size_t n)
     return kept;
 }
 
-static void calls(void)
+static uint32_t edition_of(const uint8_t *trace, size_t n) { return spindle_trace_open(trace, n).edition; }
+
+static void calls(uint32_t edition)
 {
     uint64_t at[RECORDS];
-    record_all();
+    record_all(edition);
     for (size_t n = 0; n <= used; n++) {
         uint32_t kept = whole(n);
         size_t length = begins[kept] + 8 * (size_t)kept + 20;
-        expect(rescues(bytes, n, kept, begins[kept], n == used), "a trace cut at a byte");
+        expect(rescues(bytes, n, edition, kept, begins[kept], n == used) && edition_of(output, length) == edition, "a trace cut at a byte");
         Replayed p = spindle_replay(output, length, at, RECORDS);
         expect(p.code == 0 && p.records == kept && p.same == kept, "what was rescued replays the same");
         expect(settled(length, kept), "rescued again");
-        expect(refused(bytes, n, length - 1) && refused(bytes, n, 19), "no room");
+        expect(refused(bytes, n, length - 1, edition, 8) && refused(bytes, n, 19, edition, 8), "no room");
+        /* the caller's edition is needed where the input has none, and then another edition is 9, before 8 */
+        for (uint32_t given = 0; given <= NEWEST + 1; given++) {
+            bool unknown = given < 1 || given > NEWEST;
+            if (n == used) expect(rescues(bytes, n, given, kept, begins[kept], true) && !memcmp(output, bytes, used), "a good trace keeps its edition");
+            else if (unknown) expect(refused(bytes, n, length, given, 9) && refused(bytes, n, 0, given, 9), "another edition");
+            else expect(rescues(bytes, n, given, kept, begins[kept], false) && edition_of(output, length) == given, "the caller's edition");
+        }
+        expect(n == used || refused(bytes, n, length, UINT32_MAX, 9), "the largest number for an edition");
     }
-    /* list and trailer broken: all records are kept, and the very same trace comes out */
+    /* list and trailer broken: all records are kept, and the very same trace comes out. Before the last eight bytes its edition is still there, whatever the
+       caller names; in them it is the caller's, but where the edition turns into the other one, which is a good trace */
     memcpy(changed, bytes, used);
     for (size_t i = begins[RECORDS]; i < used; i++)
         for (int by = 1; by < 256; by++) {
             changed[i] ^= (uint8_t)by;
-            expect(rescues(changed, used, RECORDS, begins[RECORDS], false) && !memcmp(output, bytes, used), "a changed byte of list or trailer");
+            if (i == used - 8 && changed[i] == 3 - edition)
+                expect(rescues(changed, used, edition, RECORDS, begins[RECORDS], true) && !memcmp(output, changed, used), "the other edition");
+            else
+                expect(rescues(changed, used, i < used - 8 ? 0 : edition, RECORDS, begins[RECORDS], false) && !memcmp(output, bytes, used),
+                       "a changed byte of list or trailer");
             changed[i] ^= (uint8_t)by;
         }
+    /* the last eight bytes alone, behind bytes that are no record: the edition is theirs; seven of them are none */
+    memset(again, 1, 30);
+    memcpy(again + 30, bytes + used - 8, 8);
+    for (size_t from = 0; from <= 30; from++) {
+        memcpy(changed + used, again + from, 38 - from);
+        expect(rescues(changed + used, 38 - from, 3 - edition, 0, 0, false) && edition_of(output, 20) == edition, "an edition and BACK alone");
+    }
+    expect(refused(again + 31, 7, 20, 0, 9), "seven bytes");
     /* the last records were lost, and power came back: what follows the first bad record is not searched, whole records neither */
     for (uint32_t i = 0; i < RECORDS; i++) {
         changed[begins[i] + 3] ^= 1;
-        expect(rescues(changed, used, i, begins[i], false), "a bad record in front of whole ones");
+        expect(rescues(changed, used, 0, i, begins[i], false), "a bad record in front of whole ones");
         changed[begins[i] + 3] ^= 1;
     }
     memcpy(changed + used, bytes, used);
-    expect(rescues(changed, 2 * used, RECORDS, begins[RECORDS], false), "a trace and bytes behind it");
+    expect(rescues(changed, 2 * used, 0, RECORDS, begins[RECORDS], false), "a trace and bytes behind it");
     /* bits of a NaN are bytes as others are */
     for (size_t i = 0; i < 8; i++) changed[begins[2] - 100 + i] = (uint8_t)(0xF0 + i);
-    expect(rescues(changed, used, RECORDS, begins[RECORDS], true) && !memcmp(output, changed, used), "a NaN of any bits, in a good trace");
-    expect(rescues(changed, used - 1, RECORDS, begins[RECORDS], false) && !memcmp(output, changed, used), "a NaN of any bits, in a cut one");
+    expect(rescues(changed, used, 0, RECORDS, begins[RECORDS], true) && !memcmp(output, changed, used), "a NaN of any bits, in a good trace");
+    expect(rescues(changed, used - 1, edition, RECORDS, begins[RECORDS], false) && !memcmp(output, changed, used), "a NaN of any bits, in a cut one");
 
     /* the limit */
     Cone cone = {3, 1, 1, {1.0}};
@@ -88,16 +111,17 @@ static void calls(void)
     for (size_t i = 0; i <= MOST; i++) memcpy(many + i * SMALL, bytes, SMALL);
     for (size_t n = MOST - 1; n <= MOST + 1; n++) {
         uint32_t kept = n < MOST ? (uint32_t)n : MOST;
-        expect(rescues(many, n * SMALL, kept, kept * SMALL, false), "4,095 to 4,097 records");
+        expect(rescues(many, n * SMALL, edition, kept, kept * SMALL, false), "4,095 to 4,097 records");
         expect(settled(kept * (SMALL + 8) + 20, kept), "4,095 to 4,097 records, rescued again");
     }
 }
 
 /* ---- files for the program */
 
+/* as the program does that is told no edition */
 static void all_of(const char *folder, const char *name, const uint8_t *input, size_t n, const char *text)
 {
-    Rescued r = spindle_rescue(input, n, output, sizeof output);
+    Rescued r = spindle_rescue(input, n, output, sizeof output, NEWEST);
     keep(folder, name, "in", input, n);
     keep(folder, name, "text", text, strlen(text));
     keep(folder, name, "out", output, r.length);
@@ -105,10 +129,10 @@ static void all_of(const char *folder, const char *name, const uint8_t *input, s
 static void files(const char *folder)
 {
     char name[40], text[80];
-    record_all();
+    record_all(NEWEST);
     /* one record of each kind */
     memset(changed, 0, sizeof changed);
-    Rescued three = spindle_rescue(bytes, begins[3], changed, sizeof changed);
+    Rescued three = spindle_rescue(bytes, begins[3], changed, sizeof changed, NEWEST);
     for (size_t n = 0; n <= three.length; n++) {
         uint32_t kept = whole(n < begins[3] ? n : begins[3]);
         bool right = n == three.length;
@@ -134,7 +158,7 @@ static void files(const char *folder)
 int main(int argc, char **argv)
 {
     if (argc == 2 && !strcmp(argv[1], "calls")) {
-        calls();
+        for (uint32_t edition = 1; edition <= NEWEST; edition++) calls(edition);
         if (!failures) printf("%ld", checks);
         return failures != 0;
     }

@@ -5,7 +5,7 @@
 #include <string.h>
 #include "spindle.h"
 
-enum { RECORDS = 12 };
+enum { RECORDS = 12, NEWEST = SPINDLE_NEWEST_EDITION };
 
 static uint8_t bytes[70000], changed[sizeof bytes];
 static size_t used, begins[RECORDS + 1]; /* begins[RECORDS]: where the last record ends */
@@ -19,9 +19,12 @@ static void expect(int ok, const char *what)
 
 /* ---- a trace of searches that were made */
 
+/* what flag 1 means in a trace of the edition: in the newest what callers get who pass no settings, in edition 1 what they got before Order 8 */
+static Settings by_default(uint32_t edition) { return edition == NEWEST ? spindle_house_settings(1.0) : (Settings){1.0, 0.8, 0.0001}; }
+
 static const Cone cones[3] = {{1, 0, 0, {0}}, {2, 0, 0, {0.3}}, {3, 2, 3, {0.25, 0.75}}};
 
-static void record(size_t i)
+static void record(uint32_t edition, size_t i)
 {
     Cone cone = cones[i % 3];
     size_t n = cone.kind == 3 ? 5 : 3;
@@ -32,7 +35,7 @@ static void record(size_t i)
         ds[k] = (1.25 - (double)k) * (0.5 + (double)i);
     }
     uint32_t flag = i / 3 % 2;
-    Settings settings = flag ? spindle_house_settings(1.0) : (Settings){0.9, 0.7, 1e-5};
+    Settings settings = flag ? by_default(edition) : (Settings){0.9, 0.7, 1e-5};
     Steps steps = spindle_step_length(cone, dz, n, ds, n, z, n, s, n, dual, n, primal, n, settings);
     expect(steps.code == 0, "a search");
     Written w = spindle_trace_append(bytes, sizeof bytes, used, cone, flag, settings, dz, n, ds, n, z, n, s, n, steps);
@@ -40,10 +43,15 @@ static void record(size_t i)
     begins[i + 1] = begins[i] + (w.length - used - 8);
     used = w.length;
 }
-static void record_all(void)
+/* the edition stands in four bytes, eight before the end; append keeps it */
+static void record_all(uint32_t edition)
 {
     used = spindle_trace_create(bytes, sizeof bytes).length;
-    for (size_t i = 0; i < RECORDS; i++) record(i);
+    expect(bytes[used - 8] == NEWEST, "a new trace is of the newest edition");
+    bytes[used - 8] = (uint8_t)edition;
+    for (size_t i = 0; i < RECORDS; i++) record(edition, i);
+    Opened o = spindle_trace_open(bytes, used);
+    expect(o.code == 0 && o.edition == edition && o.records == RECORDS, "append keeps the edition");
 }
 
 /* ---- files for the programs */

@@ -60,6 +60,8 @@ static int untouched(size_t from)
     return 1;
 }
 
+static double default_step = 0.5; /* of the edition at hand */
+
 static void read_back(uint32_t i, size_t at, const Cone *cone, uint32_t flag, const Settings *settings, size_t n, const Steps *steps)
 {
     Recorded r = spindle_trace_record(trace, used, i);
@@ -67,7 +69,7 @@ static void read_back(uint32_t i, size_t at, const Cone *cone, uint32_t flag, co
     expect(r.cone.dim1 == (cone->kind == 3 ? cone->dim1 : 3) && r.cone.dim2 == (cone->kind == 3 ? cone->dim2 : 0), "a record's dims");
     expect(same(r.cone.exps, cone->exps, exponents(cone)), "a record's exponents");
     expect(bits(r.settings.start) == bits(settings->start), "a record's start");
-    expect(bits(r.settings.step) == bits(flag ? 0.8 : settings->step), "a record's step setting");
+    expect(bits(r.settings.step) == bits(flag ? default_step : settings->step), "a record's step setting");
     expect(bits(r.settings.smallest) == bits(flag ? 0.0001 : settings->smallest), "a record's smallest step");
     expect(same(r.dz, dz, n) && same(r.ds, ds, n) && same(r.z, z, n) && same(r.s, s, n), "a record's vectors");
     expect(padded(&r), "places that the kind does not use");
@@ -110,7 +112,7 @@ static void written_and_read(void)
         for (int j = 0; j <= k; j++) read_back(j, at[j], &cones[j % 3], flags[j], &settings, numbers[j % 3], &steps[j % 3]);
     }
     Opened o = spindle_trace_open(trace, used);
-    expect(o.code == 0 && o.edition == 1 && o.records == 6, "open");
+    expect(o.code == 0 && o.edition == 2 && o.records == 6, "open");
     Recorded none = spindle_trace_record(trace, used, 6);
     expect(none.code == 9 && none.at == 0 && none.flag == 0 && none.cone.kind == 0 && none.cone.dim1 == 0 && none.cone.dim2 == 0, "no record 6");
     expect(padded(&none) && zeros(&none.settings.start, 3), "no record 6: zeros");
@@ -119,6 +121,34 @@ static void written_and_read(void)
     memcpy(old, lent, sizeof lent);
     spindle_trace_open(trace, used);
     expect(!memcmp(lent, old, sizeof lent), "reading changes nothing");
+}
+
+/* a trace of edition 1 stays one: flag 1 means its 0.8 there, whatever is handed in beside it; another edition is 9 */
+static void old_edition(void)
+{
+    used = spindle_trace_create(trace, ROOM).length;
+    expect(trace[12] == 2 && !trace[13] && !trace[14] && !trace[15], "a new trace is of edition 2");
+    for (uint32_t edition = 0; edition < 256; edition++) {
+        trace[12] = (uint8_t)edition;
+        Opened o = spindle_trace_open(trace, used);
+        if (edition == 1 || edition == 2) expect(o.code == 0 && o.edition == edition, "an edition that is known");
+        else {
+            memcpy(old, lent, sizeof lent);
+            expect(o.code == 9 && o.edition == 0, "another edition");
+            refused(append(cones[0], 1, settings, 3, steps[0]), 9, "append to another edition");
+        }
+    }
+    trace[12] = 1;
+    default_step = 0.8;
+    for (uint32_t k = 0; k < 6; k++) {
+        size_t at = used - 20 - 8 * k, n = k % 3 == 2 ? 5 : 3;
+        Written w = append(cones[k % 3], k % 2, settings, n, steps[k % 3]);
+        used = w.length;
+        Opened o = spindle_trace_open(trace, used);
+        expect(w.code == 0 && o.code == 0 && o.edition == 1 && o.records == k + 1, "append keeps edition 1");
+        read_back(k, at, &cones[k % 3], k % 2, &settings, n, &steps[k % 3]);
+    }
+    default_step = 0.5;
 }
 
 static void refusals(void)
@@ -193,7 +223,7 @@ static size_t many(uint8_t *to, const uint8_t *record, size_t size, uint32_t cou
         memcpy(to + count * size + 8 * i, &at, 8); /* little-endian as the machine */
     }
     uint64_t list = count * size;
-    uint32_t edition = 1;
+    uint32_t edition = 2;
     uint8_t *trailer = to + (size + 8) * count;
     memcpy(trailer, &list, 8);
     memcpy(trailer + 8, &count, 4);
@@ -320,17 +350,26 @@ static void judge(const uint8_t *bytes, size_t n)
     }
     printf("%s", spindle_trace_record(bytes, n, o.records).code == 9 ? "" : " (one record more than there are)");
 }
-/* what a rescue of the bytes reports and leaves, and that a byte less of room is refused */
+/* what a rescue of the bytes reports and leaves, its caller naming the edition that their sum modulo 4 is, and that a byte less of room is refused */
 static void save(const uint8_t *bytes, size_t n)
 {
     static uint8_t output[8192];
     memset(output, CANARY, sizeof output);
-    Rescued r = spindle_rescue(bytes, n, output, sizeof output);
+    uint32_t given = 0;
+    for (size_t i = 0; i < n; i++) given += bytes[i];
+    given %= 4;
+    Rescued r = spindle_rescue(bytes, n, output, sizeof output, given);
+    if (r.code == 9) {
+        int left = r.kept == 0 && r.dropped == 0 && r.length == 0 && !r.right;
+        for (size_t i = 0; i < sizeof output; i++) left &= output[i] == CANARY;
+        printf(" rescued 9%s\n", left ? "" : " (and something told or left)");
+        return;
+    }
     uint64_t told = 0;
     for (uint64_t i = 0; i < r.length + 8; i++) told = more(told, output[i]);
-    printf(" rescued %" PRIu32 " %" PRIu64 " %d %" PRIu64 " %" PRIx64, r.kept, r.dropped, r.right, r.length, told);
+    printf(" rescued %" PRIu32 " %" PRIu64 " %d %d %" PRIu64 " %" PRIx64, r.kept, r.dropped, r.right, output[r.length - 8], r.length, told);
     uint8_t first = output[0] = 0x5A;
-    Rescued no = spindle_rescue(bytes, n, output, r.length - 1);
+    Rescued no = spindle_rescue(bytes, n, output, r.length - 1, given);
     int refused = no.code == 8 && no.kept == 0 && no.dropped == 0 && no.length == 0 && !no.right && output[0] == first;
     printf("%s\n", r.code == 0 && refused ? "" : " (refused, or taken without room)");
 }
@@ -392,7 +431,7 @@ static void fill(void)
     printf("full: %" PRIu32 " records of 64 numbers, %zu bytes: appended one by one in %.3f s, ", records, n, filled);
     uint8_t *saved = malloc(room);
     from = clock();
-    Rescued r = spindle_rescue(b, n - 1, saved, room);
+    Rescued r = spindle_rescue(b, n - 1, saved, room, SPINDLE_NEWEST_EDITION);
     double rescued = seconds(from);
     expect(r.code == 0 && r.kept == MOST && !memcmp(saved, b, n), "a full trace rescued");
     free(saved);
@@ -414,7 +453,7 @@ __attribute__((noinline)) static void create_once(void) { written = spindle_trac
 __attribute__((noinline)) static void append_once(void) { written = append(widest, 0, settings, 64, steps[1]); }
 __attribute__((noinline)) static void open_once(void) { opened = spindle_trace_open(trace, used); }
 __attribute__((noinline)) static void record_once(void) { if (spindle_trace_record(trace, used, 0).code) failures++; }
-__attribute__((noinline)) static void rescue_once(void) { if (spindle_rescue(trace, used, old, sizeof old).code) failures++; }
+__attribute__((noinline)) static void rescue_once(void) { if (spindle_rescue(trace, used, old, sizeof old, SPINDLE_NEWEST_EDITION).code) failures++; }
 
 static void chosen_call(void)
 {
@@ -454,6 +493,7 @@ int main(int argc, char **argv)
         written_and_read();
         refusals();
         the_limit();
+        old_edition();
         printf("%ld\n", checks);
         return failures != 0;
     }

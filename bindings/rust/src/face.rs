@@ -34,7 +34,7 @@ pub struct FoundOut {
     pub step: f64,
 }
 
-#[derive(Clone, Copy)]
+#[derive(Clone, Copy, Default)]
 #[repr(C)]
 pub struct Steps {
     pub code: u32,
@@ -138,5 +138,5 @@ extern "C" {
     pub fn spindle_trace_open(trace: *const u8, n: usize) -> Opened;
     pub fn spindle_trace_record(trace: *const u8, n: usize, i: u32) -> Recorded;
     pub fn spindle_replay(trace: *const u8, n: usize, at: *mut u64, nat: usize) -> Replayed;
-    pub fn spindle_rescue(input: *const u8, n: usize, output: *mut u8, room: usize) -> Rescued;
+    pub fn spindle_rescue(input: *const u8, n: usize, output: *mut u8, room: usize, edition: u32) -> Rescued;
 }

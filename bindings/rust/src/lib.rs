@@ -32,7 +32,7 @@
 mod face;
 mod trace;
 
-pub use trace::{rescue, Recorded, Recorder, Records, Replay, Rescue, Trace, TraceBuffer, MOST_RECORDS};
+pub use trace::{rescue, Recorded, Recorder, Records, Replay, Rescue, Trace, TraceBuffer, MOST_RECORDS, NEWEST_EDITION};
 
 /// The version of this crate, which is that of the library and its C header.
 pub const VERSION: &str = env!("CARGO_PKG_VERSION");
@@ -57,7 +57,7 @@ pub enum Refusal {
     AnswerNotFinite,
     /// 8: a trace has no room for what would be written, or 4,096 records already; a replay has no room for its offsets, a rescue for its trace.
     NoRoom,
-    /// 9: the bytes are no trace, or a record breaks a trace's layout. It comes before 8.
+    /// 9: the bytes are no trace, a record breaks a trace's layout, or an edition is not known. It comes before 8.
     BadTrace,
     /// 10: the record has another serial than the call expects: it is of another round. It comes after 5.
     OtherSerial,
@@ -97,7 +97,7 @@ impl Refusal {
             Refusal::OutOfRange => "the point lies where the formula has no value",
             Refusal::AnswerNotFinite => "the finished answer holds a NaN or an infinity",
             Refusal::NoRoom => "no room for what the trace would become or for the offsets, or 4,096 records already",
-            Refusal::BadTrace => "the bytes are no trace, or the record breaks a trace's layout",
+            Refusal::BadTrace => "the bytes are no trace, the record breaks a trace's layout, or the edition is not known",
             Refusal::OtherSerial => "the record has another serial than the call expects",
             Refusal::NoSerialLeft => "the record has the last serial: make a fresh one",
             Refusal::Unknown(_) => "a number that this crate does not know",

@@ -4,6 +4,9 @@ use crate::{face, Cone, Found, Refusal, Settings};
 /// The most records that a trace can hold.
 pub const MOST_RECORDS: usize = 4096;
 
+/// The edition of a new trace. Every trace of it or of an earlier one, from 1 on, is known.
+pub const NEWEST_EDITION: u32 = 2;
+
 /// Bytes that are a trace: step searches, in the order in which they were recorded.
 ///
 /// ```
@@ -39,7 +42,7 @@ impl<'a> Trace<'a> {
         Ok(Trace { bytes, edition: out.edition, records: out.records })
     }
 
-    /// Which layout and which default settings the trace has.
+    /// Which default settings the trace has: step 0.8 in edition 1, 0.5 in edition 2. A new trace is of edition [`NEWEST_EDITION`].
     pub fn edition(&self) -> u32 {
         self.edition
     }
@@ -173,10 +176,13 @@ pub struct Replay<'a> {
 /// Makes a trace of what is left of one: walks from byte 0, keeps every whole record, byte for byte, until the first that is cut or malformed, and writes them
 /// to `output` with a good list and trailer behind them. A good trace comes out byte for byte. Any bytes are taken, none at all too.
 ///
-/// [`Refusal::NoRoom`] where `output` is too short, and then nothing was written; behind the new trace it is left alone.
+/// The new trace has the edition that the input ends in, if it ends in a known edition and `BACK`, and else `edition`, which is not looked at otherwise.
+///
+/// [`Refusal::BadTrace`] where `edition` is needed and not known. [`Refusal::NoRoom`] where `output` is too short. Then nothing was written; behind the new
+/// trace it is left alone.
 ///
 /// ```
-/// # use spindle::{rescue, Cone, Recorder};
+/// # use spindle::{rescue, Cone, Recorder, NEWEST_EDITION};
 /// # let mut bytes = [0; 400];
 /// # let mut recorder = Recorder::create(&mut bytes)?;
 /// # let (mut dual, mut primal) = ([0.0; 3], [0.0; 3]);
@@ -186,13 +192,13 @@ pub struct Replay<'a> {
 ///
 /// // the power went while the trailer was written
 /// let mut output = [0; 400];
-/// let rescued = rescue(&whole[..whole.len() - 7], &mut output)?;
+/// let rescued = rescue(&whole[..whole.len() - 7], &mut output, NEWEST_EDITION)?;
 /// assert_eq!(rescued.trace.bytes(), whole);
 /// assert_eq!((rescued.trace.len(), rescued.dropped, rescued.right), (1, 21, false));
 /// # Ok::<(), spindle::Refusal>(())
 /// ```
-pub fn rescue<'b>(input: &[u8], output: &'b mut [u8]) -> Result<Rescue<'b>, Refusal> {
-    let out = unsafe { face::spindle_rescue(input.as_ptr(), input.len(), output.as_mut_ptr(), output.len()) };
+pub fn rescue<'b>(input: &[u8], output: &'b mut [u8], edition: u32) -> Result<Rescue<'b>, Refusal> {
+    let out = unsafe { face::spindle_rescue(input.as_ptr(), input.len(), output.as_mut_ptr(), output.len(), edition) };
     Refusal::check(out.code)?;
     let output: &'b [u8] = output;
     let trace = Trace::open(output.get(..out.length as usize).unwrap_or(output))?;
@@ -325,6 +331,23 @@ pub struct TraceBuffer<'a> {
     used: usize,
     edition: u32,
     records: u32,
+    defaults: Settings,
+}
+
+/// What a record by default means in a trace of the edition, as the library itself reads one: the table of editions stands there alone.
+fn defaults(edition: u32) -> Settings {
+    let (mut bytes, zeros) = ([0; 180], [0.0; 3]);
+    let (x, n) = (zeros.as_ptr(), zeros.len());
+    unsafe {
+        let empty = face::spindle_trace_create(bytes.as_mut_ptr(), bytes.len());
+        // the empty trace is its trailer: list, count, edition, `BACK`
+        bytes[12..16].copy_from_slice(&edition.to_le_bytes());
+        let one = face::spindle_trace_append(
+            bytes.as_mut_ptr(), bytes.len(), empty.length as usize, Cone::exponential(), 1, Settings::house(1.0), x, n, x, n, x, n, x, n,
+            face::Steps::default(),
+        );
+        face::spindle_trace_record(bytes.as_ptr(), one.length as usize, 0).settings
+    }
 }
 
 impl<'a> TraceBuffer<'a> {
@@ -338,16 +361,19 @@ impl<'a> TraceBuffer<'a> {
     /// Goes on with the trace that the first `used` bytes are. [`Refusal::BadTrace`] if they are none, or the buffer is shorter.
     pub fn open(bytes: &'a mut [u8], used: usize) -> Result<TraceBuffer<'a>, Refusal> {
         let Trace { edition, records, .. } = Trace::open(bytes.get(..used).ok_or(Refusal::BadTrace)?)?;
-        Ok(TraceBuffer { bytes, used, edition, records })
+        Ok(TraceBuffer { bytes, used, edition, records, defaults: defaults(edition) })
     }
 
-    /// Appends a record of another trace; every NaN of it is written as 7FF8000000000000. [`Refusal::NoRoom`] where the buffer has no room for it, or
-    /// [`MOST_RECORDS`] are there.
+    /// Appends a record of another trace; every NaN of it is written as 7FF8000000000000. A search by default keeps its settings: where this trace's edition
+    /// means others, they are written outright. [`Refusal::NoRoom`] where the buffer has no room for it, or [`MOST_RECORDS`] are there.
     pub fn append(&mut self, record: &Recorded) -> Result<(), Refusal> {
         self.put(&record.cone, record.flag, record.settings, [record.dz(), record.ds(), record.z(), record.s()], record.steps)
     }
 
+    // By default only what this edition means by it: an older one has another default than the house.
     fn put(&mut self, cone: &Cone, flag: u32, settings: Settings, [dz, ds, z, s]: [&[f64]; 4], steps: face::Steps) -> Result<(), Refusal> {
+        let meant = (settings.step, settings.smallest) == (self.defaults.step, self.defaults.smallest);
+        let flag = if meant { flag } else { 0 };
         let out = unsafe {
             face::spindle_trace_append(
                 self.bytes.as_mut_ptr(), self.bytes.len(), self.used, *cone, flag, settings, dz.as_ptr(), dz.len(), ds.as_ptr(), ds.len(),
@@ -389,7 +415,8 @@ impl<'a> Recorder<'a> {
         Ok(Recorder { buffer: TraceBuffer::open(bytes, used)? })
     }
 
-    /// [`Cone::step_length`] with the house's settings, [`Settings::house`] of `start`, recorded as a search by default.
+    /// [`Cone::step_length`] with the house's settings, [`Settings::house`] of `start`, recorded as a search by default. Into a trace of an older edition, which
+    /// means other settings by that, they are recorded outright.
     ///
     /// [`Refusal::NoRoom`] where the search could be made and not recorded: then as at every refusal nothing that was lent has changed, and
     /// [`Cone::step_length`] makes the search without a record.

@@ -126,7 +126,10 @@ fn searches_hand_back_the_tested_point() {
     assert_eq!((none.step, none.tests, point), (0.0, 3, [0.0, -1.0, 1.0]));
 
     let house = cone.search_primal(&[0.0; 3], &[0.0, -1.0, 1.0], &mut point, Settings::house(1.0)).unwrap();
-    assert_eq!((house.step, house.tests), (0.0, 42));
+    assert_eq!((house.step, house.tests), (0.0, 14));
+    let old = Settings { start: 1.0, step: 0.8, smallest: 0.0001 };
+    let outright = cone.search_primal(&[0.0; 3], &[0.0, -1.0, 1.0], &mut point, old).unwrap();
+    assert_eq!((outright.step, outright.tests), (0.0, 42));
     assert_eq!(Strategy::default(), Strategy::PrimalDual);
 
     let (mut dual, mut primal) = ([0.0; 3], [0.0; 3]);

@@ -1,5 +1,5 @@
 //! Traces: what a recorder searched is what a trace reads, for every kind and both ways to give settings; every refusal, and bytes that stay.
-use spindle::{rescue, Cone, Found, Recorded, Recorder, Refusal, Settings, Trace, TraceBuffer, MOST_RECORDS};
+use spindle::{rescue, Cone, Found, Recorded, Recorder, Refusal, Settings, Trace, TraceBuffer, MOST_RECORDS, NEWEST_EDITION};
 
 /// A cone with directions and points for a search.
 struct Search {
@@ -79,7 +79,7 @@ fn what_was_searched_is_what_is_read() {
     }
     let used = recorder.bytes().len();
     let trace = recorder.trace();
-    assert_eq!((trace.len(), trace.edition(), trace.bytes().len()), (6, 1, used));
+    assert_eq!((trace.len(), trace.edition(), trace.bytes().len()), (6, NEWEST_EDITION, used));
     for (i, record) in trace.iter().enumerate() {
         let settings = if i % 2 == 0 { Settings::house(0.5) } else { OUTRIGHT };
         searches()[i / 2].is(&record, i % 2 == 0, settings);
@@ -257,6 +257,54 @@ fn a_refused_search_differs_and_offsets_need_room() {
     assert_eq!(at, [7]);
 }
 
+/// The trace with no record of edition 1: list, count, edition, `BACK`.
+fn first_edition(bytes: &mut [u8]) -> usize {
+    let used = TraceBuffer::create(bytes).unwrap().bytes().len();
+    bytes[used - 8] = 1;
+    used
+}
+
+#[test]
+fn a_recorder_goes_on_with_an_old_trace() {
+    let mut bytes = vec![0; 4000];
+    let used = first_edition(&mut bytes);
+    let mut recorder = Recorder::open(&mut bytes, used).unwrap();
+    for search in searches() {
+        // the search is the house's, whatever the trace means by default, and so it is written outright
+        assert_eq!(search.recorded(&mut recorder, Some(1.0)), search.plain(Settings::house(1.0)));
+        search.is(&recorder.trace().iter().next_back().unwrap(), false, Settings::house(1.0));
+        assert_eq!(search.recorded(&mut recorder, None), search.plain(OUTRIGHT));
+    }
+    let trace = recorder.trace();
+    let mut at = [0; 6];
+    assert_eq!((trace.edition(), trace.replay(&mut at).unwrap().same), (1, 6));
+}
+
+#[test]
+fn a_search_by_default_keeps_its_settings_in_another_edition() {
+    // six records of edition 2, those by default turned into searches of edition 1 by their trailer
+    let mut bytes = bytes_of_all();
+    let end = bytes.len() - 8;
+    bytes[end] = 1;
+    let old = Trace::open(&bytes).unwrap();
+    assert_eq!((old.edition(), old.get(0).unwrap().by_default(), old.get(0).unwrap().settings().step), (1, true, 0.8));
+    let mut copy = vec![0; 4000];
+    let mut buffer = TraceBuffer::create(&mut copy).unwrap();
+    for record in old {
+        buffer.append(&record).unwrap();
+        let last = buffer.trace().iter().next_back().unwrap();
+        assert_eq!((last.by_default(), last.settings()), (false, record.settings()));
+    }
+    // and by default again, where it goes back
+    let mut back = vec![0; 4000];
+    let used = first_edition(&mut back);
+    let mut again = TraceBuffer::open(&mut back, used).unwrap();
+    for record in old {
+        again.append(&record).unwrap();
+    }
+    assert_eq!(again.bytes(), bytes);
+}
+
 #[test]
 fn a_trace_cut_anywhere_is_rescued() {
     let bytes = bytes_of_all();
@@ -267,7 +315,7 @@ fn a_trace_cut_anywhere_is_rescued() {
         let kept = ends.iter().filter(|&&end| end <= n).count();
         let end = if kept == 0 { 0 } else { ends[kept - 1] };
         let mut output = vec![7; end + 8 * kept + 20 + 1];
-        let rescued = rescue(&bytes[..n], &mut output).unwrap();
+        let rescued = rescue(&bytes[..n], &mut output, NEWEST_EDITION).unwrap();
         assert_eq!((rescued.trace.len(), rescued.dropped, rescued.right), (kept, (n - end) as u64, false));
         assert_eq!(rescued.trace.bytes()[..end], bytes[..end]);
         assert_eq!(rescued.trace.bytes().len() + 1, end + 8 * kept + 21);
@@ -279,21 +327,34 @@ fn a_trace_cut_anywhere_is_rescued() {
 fn a_good_trace_is_right_and_comes_out_the_same() {
     let bytes = bytes_of_all();
     let mut output = vec![7; bytes.len() + 3];
-    let rescued = rescue(&bytes, &mut output).unwrap();
+    let rescued = rescue(&bytes, &mut output, 0).unwrap();
     assert_eq!((rescued.trace.bytes(), rescued.dropped, rescued.right), (&bytes[..], 0, true));
     assert_eq!(output[bytes.len()..], [7; 3]);
     // a byte of the trailer was lost: the same trace is built anew
-    let rescued = rescue(&bytes[..bytes.len() - 1], &mut output).unwrap();
+    let rescued = rescue(&bytes[..bytes.len() - 1], &mut output, NEWEST_EDITION).unwrap();
     assert_eq!((rescued.trace.bytes(), rescued.right), (&bytes[..], false));
 }
 
 #[test]
-fn a_rescue_needs_room_and_nothing_else() {
+fn a_rescue_needs_room_and_an_edition() {
     let bytes = bytes_of_all();
     let mut output = vec![7; bytes.len() - 1];
-    assert_eq!(rescue(&bytes, &mut output).map(|r| r.dropped), Err(Refusal::NoRoom));
+    assert_eq!(rescue(&bytes, &mut output, 0).map(|r| r.dropped), Err(Refusal::NoRoom));
     assert!(output.iter().all(|&byte| byte == 7));
-    assert_eq!(rescue(&[], &mut output[..19]).map(|r| r.dropped), Err(Refusal::NoRoom));
-    let none = rescue(&[], &mut output).unwrap();
-    assert_eq!((none.trace.is_empty(), none.dropped, none.right), (true, 0, false));
+    assert_eq!(rescue(&[], &mut output[..19], 1).map(|r| r.dropped), Err(Refusal::NoRoom));
+    for unknown in [0, NEWEST_EDITION + 1, u32::MAX] {
+        assert_eq!(rescue(&bytes[..200], &mut output[..19], unknown).map(|r| r.dropped), Err(Refusal::BadTrace));
+    }
+    assert!(output.iter().all(|&byte| byte == 7));
+    for edition in 1..=NEWEST_EDITION {
+        let none = rescue(&[], &mut output, edition).unwrap();
+        assert_eq!((none.trace.is_empty(), none.dropped, none.right, none.trace.edition()), (true, 0, false, edition));
+    }
+    // the list is gone, and the edition still stands before `BACK`
+    let mut broken = bytes;
+    let end = broken.len() - 8;
+    broken[end] = 1;
+    broken.splice(end - 30..end, []);
+    let mut output = vec![7; 4000];
+    assert_eq!(rescue(&broken, &mut output, NEWEST_EDITION).unwrap().trace.edition(), 1);
 }

@@ -1,14 +1,14 @@
 -- A search that was made, run again on what its record gives back, has the same answer. Assumes nothing.
-use mathlib.Core.Path.{_≡_, refl, sym}
-use mathlib.Core.Bool.{Bool, true, false, not, _||_}
+use mathlib.Core.Path.{_≡_, refl}
+use mathlib.Core.Bool.{true, false, not, _||_}
 use mathlib.Core.List.{List}
 use Prim.Native.Nat.{ℕ, zero, suc, _≤_}
 use lib.Dec.{eqb}
 use lib.Ieee.{Float, binary64, toBits}
 use lib.ListN.{length, take}
 use lib.Seq.{length-take-le}
-use borrow.Author.Tests.{eqb-true, eq-eqb}
-use Rattle.arith.proofs.Branches.{false-not-true, or-left, or-right}
+use borrow.Author.Tests.{eqb-true, eq-eqb, not-false}
+use Rattle.arith.proofs.Branches.{or-left, or-right}
 use Rattle.cone.specs.declared.Cone.{Cone}
 use Rattle.cone.specs.declared.Settings.{Settings}
 use Rattle.cone.specs.declared.Steps.{Steps}
@@ -28,12 +28,8 @@ unfolding settle
 code-zero zero d p q h = refl
 code-zero (suc k) d p q h = h
 
-not-off : (b : Bool) → not b ≡ false → b ≡ true
-not-off true h = refl
-not-off false h = absurd (false-not-true (sym h))
-
 length-is : (n : ℕ) (xs : List Float) → otherLength n xs ≡ false → length xs ≡ n
-length-is n xs h = eqb-true (length xs) n (not-off (eqb (length xs) n) h)
+length-is n xs h = eqb-true (length xs) n (not-false _ h)
 
 -- a search that was done
 pub record Taken (c : Cone) (dz ds z s p q : List Float) : Type 0 where
@@ -64,7 +60,7 @@ module _ (c : Cone) (dz ds z s p q : List Float) (how : Settings) where
       let upto-z = or-left (a || b || d) e upto-s in
       let upto-ds = or-left (a || b) d upto-z in
       record {
-        cone = not-off (coneOk c) (none .cone);
+        cone = not-false _ (none .cone);
         dz-length = length-is n dz (or-left a b upto-ds);
         ds-length = length-is n ds (or-right a b upto-ds);
         z-length = length-is n z (or-right (a || b) d upto-z);

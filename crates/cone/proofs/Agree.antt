@@ -8,6 +8,8 @@ use Rattle.arith.specs.Outcomes.{OneAnswer, OneOutcome}
 use Rattle.cone.proofs.Outcomes.{one, two}
 use Rattle.cone.proofs.judge.all_finite.Reads as judge-all-finite
 use Rattle.cone.proofs.judge.sides_finite.Reads as judge-sides-finite
+use Rattle.cone.proofs.judge.rule_ok.Reads as judge-rule-ok
+use Rattle.cone.proofs.judge.tolerance_of.Reads as judge-tolerance-of
 use Rattle.cone.proofs.judge.wide_ok.Reads as judge-wide-ok
 use Rattle.cone.proofs.judge.three_ok.Reads as judge-three-ok
 use Rattle.cone.proofs.judge.cone_ok.Reads as judge-cone-ok
@@ -42,6 +44,12 @@ judge-all-finite-agrees κs a x y s t p q = p ∙ sym q
 
 pub judge-sides-finite-agrees : OneAnswer judge-sides-finite.Post
 judge-sides-finite-agrees κs a x y s t p q = p ∙ sym q
+
+pub judge-rule-ok-agrees : OneAnswer judge-rule-ok.Post
+judge-rule-ok-agrees κs a x y s t p q = p ∙ sym q
+
+pub judge-tolerance-of-agrees : OneAnswer judge-tolerance-of.Post
+judge-tolerance-of-agrees κs a x y s t p q = p ∙ sym q
 
 pub judge-wide-ok-agrees : OneAnswer judge-wide-ok.Post
 judge-wide-ok-agrees κs a x y s t p q = p ∙ sym q

@@ -11,11 +11,10 @@ use lib.Seq.{length-take-le}
 use borrow.Author.Tests.{leb-true, eqb-true, eq-eqb, ne-eqb, not-false}
 use Rattle.arith.proofs.Branches.{and-left, and-right, or-left, or-right}
 use Rattle.double.specs.Operators.{at}
-use Rattle.double.specs.Numbers.{#tolerance}
 use Rattle.cone.specs.declared.Cone.{Cone}
 use Rattle.cone.specs.declared.Scaling.{Scaling}
-use Rattle.cone.specs.Judges.{allOf, exponentOk, sumOk, wideOk, threeOk, coneOk, numelOf, blockOf}
-use Rattle.cone.specs.Judges.{recordFinite, threeFinite, wideFinite}
+use Rattle.cone.specs.Judges.{allOf, exponentOk, ruleOk, toleranceOf, sumOk, wideOk, threeOk, coneOkWithin, coneOk}
+use Rattle.cone.specs.Judges.{numelOf, blockOf, recordFinite, threeFinite, wideFinite}
 use Rattle.cone.specs.Refusals.{badCone}
 use Rattle.cone.specs.Calls.{WideCall}
 
@@ -46,10 +45,10 @@ cone-is-ok c e = not-false _ e
 
 -- ---- what a generalized cone that passes has
 
-module _ (n m : ℕ) (e : List Float) (h : wideOk n m e ≡ true) where
+module _ (n m : ℕ) (e : List Float) (tolerance : Float) (h : wideOk n m e tolerance ≡ true) where
   abbrev dims : (((leb 1 n && leb n 32) && leb 1 m) && leb m 32) ≡ true
   unfolding wideOk
-  dims = and-left _ (allOf exponentOk (take n e)) (and-left _ (sumOk (take n e) #tolerance) h)
+  dims = and-left _ (allOf exponentOk (take n e)) (and-left _ (sumOk (take n e) tolerance) h)
 
   pub dim1-at-most : n ≤ 32
   dim1-at-most = leb-true n 32 (and-right (leb 1 n) _ (and-left _ (leb 1 m) (and-left _ (leb m 32) dims)))
@@ -60,16 +59,19 @@ module _ (n m : ℕ) (e : List Float) (h : wideOk n m e ≡ true) where
 -- ---- what is judged, by kind
 
 module _ (c : Cone) where
-  pub cone-wide : c .kind ≡ 3 → coneOk c ≡ wideOk (c .dim1) (c .dim2) (c .exps)
-  unfolding coneOk
+  abbrev tolerance : Float
+  tolerance = toleranceOf (c .rule)
+
+  pub cone-wide : c .kind ≡ 3 → coneOk c ≡ (ruleOk (c .rule) && wideOk (c .dim1) (c .dim2) (c .exps) tolerance)
+  unfolding coneOk coneOkWithin
   cone-wide e = simp (eq-eqb _ _ e)
 
-  pub cone-3D : (c .kind ≡ 3 → ⊥) → coneOk c ≡ threeOk (c .kind) (at (c .exps) 0)
-  unfolding coneOk
+  pub cone-3D : (c .kind ≡ 3 → ⊥) → coneOk c ≡ (ruleOk (c .rule) && threeOk (c .kind) (at (c .exps) 0))
+  unfolding coneOk coneOkWithin
   cone-3D e = simp (ne-eqb _ _ e)
 
-  pub wide-passes : coneOk c ≡ true → c .kind ≡ 3 → wideOk (c .dim1) (c .dim2) (c .exps) ≡ true
-  wide-passes h e = sym (cone-wide e) ∙ h
+  pub wide-passes : coneOk c ≡ true → c .kind ≡ 3 → wideOk (c .dim1) (c .dim2) (c .exps) tolerance ≡ true
+  wide-passes h e = and-right (ruleOk (c .rule)) _ (sym (cone-wide e) ∙ h)
 
 module _ (s : Scaling) where
   pub record-wide : s .cone .kind ≡ 3 → recordFinite s ≡ wideFinite (s .wide) (s .cone .dim1) (s .cone .dim2)
@@ -101,7 +103,7 @@ module _ (c : Cone) where
 
 small : (c : Cone) (d : ℕ) (b : Bool) → d ≤ 6 → eqb (c .kind) 3 ≡ b → coneOk c ≡ true → cond b (c .dim1 + c .dim2) d ≤ 64
 small c d true h e k =
-    let w = wide-passes c k (eqb-true _ _ e) in omega (arith, dim1-at-most _ _ _ w, dim2-at-most _ _ _ w)
+    let w = wide-passes c k (eqb-true _ _ e) in omega (arith, dim1-at-most _ _ _ _ w, dim2-at-most _ _ _ _ w)
 small c d false h e k = omega arith
 
 pub numel-at-most : (c : Cone) → coneOk c ≡ true → numelOf c ≤ 64
@@ -118,7 +120,7 @@ cut n m ans h l e = ap length e ∙ length-take-le n ans (omega arith)
 
 pub wide-call : (c : Cone) (z : List Float) → coneOk c ≡ true → length z ≡ numelOf c → WideCall c z
 wide-call c z k l = record {
-  dims = λ e. (dim1-at-most _ _ _ (wide-passes c k e), dim2-at-most _ _ _ (wide-passes c k e));
+  dims = λ e. (dim1-at-most _ _ _ _ (wide-passes c k e), dim2-at-most _ _ _ _ (wide-passes c k e));
   sized = λ e. l ∙ numel-wide c e;
 }
 

@@ -12,9 +12,10 @@ use Rattle.cone.specs.declared.Wide.{Wide}
 use Rattle.cone.specs.declared.Scaling.{Scaling}
 use Rattle.cone.specs.declared.Attempt.{Attempt}
 
--- 01: "A cone is kind, dim1, dim2 and 32 exponent places". The cone with nothing in it: no kind is 0
+-- 01: "A cone is kind, dim1, dim2" and its 32 exponent places; 02, Order 9: "The cone carries its rule number". The cone with nothing in it: no kind
+-- is 0, and no rule
 abbrev pub emptyCone : Cone
-emptyCone = record { kind = 0; dim1 = 0; dim2 = 0; exps = replicate 32 #0 }
+emptyCone = record { kind = 0; dim1 = 0; dim2 = 0; rule = 0; exps = replicate 32 #0 }
 
 -- 01: "fresh: no, and all its numbers +0". The numbers that kinds 1 and 2 keep: "z, the gradient and both packed blocks"
 unfoldable pub noThree : Three

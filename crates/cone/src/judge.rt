@@ -2,8 +2,9 @@
 ghost use mathlib.Core.Path.{_≡_};
 ghost use lib.ListN.{take};
 ghost use lib.Ieee.Scale.{finite};
-ghost use Rattle.cone.specs.Judges.{allOf, powerOk, exponentOk, sumOk, wideOk, threeOk, coneOk, numelOf, blockOf};
-ghost use Rattle.cone.specs.Judges.{settingsOk, settingsFinite, strategyOk, sidesFinite, threeFinite, wideFinite, recordFinite};
+ghost use Rattle.cone.specs.Judges.{allOf, powerOk, exponentOk, ruleOk, toleranceOf, sumOk, wideOk, threeOk};
+ghost use Rattle.cone.specs.Judges.{coneOkWithin, coneOk, numelOf, blockOf, settingsOk, settingsFinite, strategyOk};
+ghost use Rattle.cone.specs.Judges.{sidesFinite, threeFinite, wideFinite, recordFinite};
 use crate::Cone;
 use crate::DUAL;
 use crate::PRIMAL_DUAL;
@@ -14,8 +15,10 @@ use algebra::vector::head;
 use algebra::vector::sum;
 use double::is_finite;
 
-// 2^-40: how far from 1 the exponents of a generalized cone may sum up.
-pub const TOLERANCE: f64 = 9.094947017729282379150390625e-13;
+// How far from 1 the exponents of a generalized cone may sum up: 2^-40 under rule 1, 2^-50 under rule 2.
+const TOLERANCE1: f64 = 9.094947017729282379150390625e-13;
+
+const TOLERANCE2: f64 = 8.8817841970012523233890533447265625e-16;
 
 // Whether no place holds a NaN or an infinity.
 pub fn all_finite(xs: &[f64]) -> bool
@@ -66,6 +69,18 @@ fn all_exponents(xs: &[f64]) -> bool
     all
 }
 
+pub fn rule_ok(rule: u32) -> bool
+    ensures { λ r. ⌜ r ≡ ruleOk rule ⌝ }
+{
+    (rule == 1) | (rule == 2)
+}
+
+pub fn tolerance_of(rule: u32) -> f64
+    ensures { λ r. ⌜ r ≡ toleranceOf rule ⌝ }
+{
+    if rule == 2 { TOLERANCE2 } else { TOLERANCE1 }
+}
+
 // The difference is exact where it matters: a sum between 1/2 and 2 less 1 is a double.
 fn sum_ok(xs: &[f64], tolerance: f64) -> bool
     ensures { λ r. ⌜ r ≡ sumOk (now (xs .entry)) tolerance ⌝ }
@@ -74,8 +89,8 @@ fn sum_ok(xs: &[f64], tolerance: f64) -> bool
     (d <= tolerance) & (-tolerance <= d)
 }
 
-pub fn wide_ok(dim1: u32, dim2: u32, exps: &[f64]) -> bool
-    ensures { λ r. ⌜ r ≡ wideOk dim1 dim2 (now (exps .entry)) ⌝ }
+pub fn wide_ok(dim1: u32, dim2: u32, exps: &[f64], tolerance: f64) -> bool
+    ensures { λ r. ⌜ r ≡ wideOk dim1 dim2 (now (exps .entry)) tolerance ⌝ }
 {
     let used = head(exps, dim1 as usize);
     (1 <= dim1)
@@ -83,7 +98,7 @@ pub fn wide_ok(dim1: u32, dim2: u32, exps: &[f64]) -> bool
         & (1 <= dim2)
         & (dim2 <= 32)
         & all_exponents(used)
-        & sum_ok(used, TOLERANCE)
+        & sum_ok(used, tolerance)
 }
 
 // A cone whose kind is not 3.
@@ -97,14 +112,22 @@ pub fn three_ok(kind: u32, alpha: f64) -> bool
     }
 }
 
-pub fn cone_ok(cone: Cone) -> bool
-    ensures { λ r. ⌜ r ≡ coneOk cone ⌝ }
+fn cone_ok_within(cone: Cone, tolerance: f64) -> bool
+    ensures { λ r. ⌜ r ≡ coneOkWithin tolerance cone ⌝ }
 {
     let kind = cone.kind;
     if kind == 3 {
-        return wide_ok(cone.dim1, cone.dim2, &cone.exps);
+        return wide_ok(cone.dim1, cone.dim2, &cone.exps, tolerance);
     }
     three_ok(kind, cone.exps[0])
+}
+
+// The rule is judged for every kind; its tolerance is kind 3's alone.
+pub fn cone_ok(cone: Cone) -> bool
+    ensures { λ r. ⌜ r ≡ coneOk cone ⌝ }
+{
+    let rule = cone.rule;
+    rule_ok(rule) & cone_ok_within(cone, tolerance_of(rule))
 }
 
 // ---- lengths

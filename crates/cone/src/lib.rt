@@ -11,12 +11,14 @@ pub mod judge;
 pub mod refusal;
 
 // A cone: kind 1 exponential, 2 power, 3 generalized. Kind 2 uses exps[0], kind 3 both dims and exps[..dim1]; the other places are
-// neither read nor judged.
+// neither read nor judged. The rule, 1 or 2 by the planner's release, says how far from 1 the exponents of kind 3 may sum up; it is judged
+// for every kind.
 #[repr(C)]
 pub struct Cone {
     pub kind: u32,
     pub dim1: u32,
     pub dim2: u32,
+    pub rule: u32,
     pub exps: [f64; 32],
 }
 
@@ -131,6 +133,7 @@ pub fn empty_cone() -> Cone
         kind: 0,
         dim1: 0,
         dim2: 0,
+        rule: 0,
         exps: [0.0; 32],
     }
 }

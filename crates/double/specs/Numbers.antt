@@ -74,9 +74,12 @@ abbrev pub #ε : Float
 abbrev pub #√ε : Float
 #√ε = ofBits binary64 0x3e50_0000_0000_0000
 
--- 01, number 1: "its computed exponent sum more than 2^-40 from 1"
-abbrev pub #tolerance : Float
-#tolerance = ofBits binary64 0x3d70_0000_0000_0000
+-- 02, Order 9: "Release 1 cones keep 2^-40"; "From planner release 2" it is 2^-50. Each by its rule's number
+abbrev pub #tolerance1 : Float
+#tolerance1 = ofBits binary64 0x3d70_0000_0000_0000
+
+abbrev pub #tolerance2 : Float
+#tolerance2 = ofBits binary64 0x3cd0_0000_0000_0000
 
 -- 01, number 4: "step not above 0 or more than 0.99"
 abbrev pub #largestStep : Float
@@ -125,7 +128,8 @@ pub record NamesRight : Type 0 where
   pub pi-right : #π ≡ dec 314159265358979323846 20
   pub epsilon-right : #ε ≡ pow2 52
   pub root-epsilon-right : #√ε ≡ pow2 26
-  pub tolerance-right : #tolerance ≡ pow2 40
+  pub first-tolerance-right : #tolerance1 ≡ pow2 40
+  pub second-tolerance-right : #tolerance2 ≡ pow2 50
   pub largest-step-right : #largestStep ≡ dec 99 2
   pub smallest-normal-right : #smallestNormal ≡ pow2 1022
   pub house-step-right : #houseStep ≡ dec 5 1

@@ -14,7 +14,7 @@ use Rattle.exponential.specs.Steps.{border, gap, placeOf, raised, rest, coeffic
 use Rattle.verdict.specs.Answers.{toldOf}
 use Rattle.verdict.specs.Margins.{powerMargin}
 use Rattle.cone.specs.Fresh.{freshOf, noThree, noWide}
-use Rattle.cone.specs.Judges.{allOf, coneOk, threeOk, numelOf, threeFinite, recordFinite}
+use Rattle.cone.specs.Judges.{allOf, coneOk, coneOkWithin, threeOk, numelOf, threeFinite, recordFinite}
 use Rattle.cone.specs.Refusals.{firstRow, settle, lastRows}
 use Rattle.expcone.specs.Feasible as expcone
 use Rattle.wright.specs.Omega.{taylorStart, startOf, refineOf, refinedAt, refinedOf, omegaOf, omegaArg, omegaAt}
@@ -38,9 +38,9 @@ use Rattle.border.specs.Rows.{AllRight, Border, table}
 
 pub border-rows : Border
 unfolding table isPrimalFeasibleOf isDualFeasibleOf dualGradHOf backtrackSearchOf record-entries.gradientPrimalOf
-    readFaults searchFaults gradientRows firstRow settle lastRows coneOk threeOk numelOf allOf threeFinite recordFinite freshOf noThree
-    noWide passesIn answerIn expAnswer powAnswer cones.dualGradHOf three.updateDualGradHOf three.gradientPrimalOf searchOf scan trial
-    movedOf toldOf absOf powerMargin expcone.primalFeasible expcone.primalSigns expcone.primalResidue expcone.primalResidueAt
+    readFaults searchFaults gradientRows firstRow settle lastRows coneOk coneOkWithin threeOk numelOf allOf threeFinite recordFinite freshOf
+    noThree noWide passesIn answerIn expAnswer powAnswer cones.dualGradHOf three.updateDualGradHOf three.gradientPrimalOf searchOf scan
+    trial movedOf toldOf absOf powerMargin expcone.primalFeasible expcone.primalSigns expcone.primalResidue expcone.primalResidueAt
     expcone.primalMargin expcone.primalMarginAt expcone.dualFeasible expcone.dualSigns expcone.dualResidue expcone.dualResidueAt
     expcone.dualMargin expcone.dualMarginAt powcone.primalFeasible powcone.signs powcone.primalResidue powcone.primalMargin
     powcone.residueAt taylorStart startOf refineOf refinedAt refinedOf omegaOf omegaArg omegaAt gradientBy gradientPrimalOf gradHAt

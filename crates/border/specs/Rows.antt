@@ -18,10 +18,10 @@ use Rattle.record_entries.specs.Entries.{gradientPrimalOf}
 use Rattle.search_entries.specs.Entries.{backtrackSearchOf}
 
 abbrev pub exponential : Cone
-exponential = record { kind = 1; dim1 = 0; dim2 = 0; exps = replicate 32 #0 }
+exponential = record { kind = 1; dim1 = 0; dim2 = 0; rule = 1; exps = replicate 32 #0 }
 
 abbrev pub power : Float → Cone
-power α = record { kind = 2; dim1 = 0; dim2 = 0; exps = α ∷ replicate 31 #0 }
+power α = record { kind = 2; dim1 = 0; dim2 = 0; rule = 1; exps = α ∷ replicate 31 #0 }
 
 abbrev pub triple : Float → Float → Float → List Float
 triple x y z = x ∷ y ∷ z ∷ []

@@ -115,7 +115,7 @@ pub fn numbers_of(cone: Cone, three: Three, wide: Wide) -> bool {
 fn same_cone(a: Cone, b: Cone) -> bool {
     let x = a.exps;
     let y = b.exps;
-    let mut all = (a.kind == b.kind) & (a.dim1 == b.dim1) & (a.dim2 == b.dim2);
+    let mut all = (a.kind == b.kind) & (a.dim1 == b.dim1) & (a.dim2 == b.dim2) & (a.rule == b.rule);
     for i in 0..32 {
         if double::to_bits(x[i]) != double::to_bits(y[i]) {
             all = false;

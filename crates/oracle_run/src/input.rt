@@ -89,12 +89,14 @@ pub fn cone() -> Cone {
     let kind = short();
     let dim1 = short();
     let dim2 = short();
+    let rule = short();
     let n = count();
     let exps = numbers32(n);
     Cone {
         kind,
         dim1,
         dim2,
+        rule,
         exps,
     }
 }

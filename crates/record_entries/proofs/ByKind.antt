@@ -10,7 +10,7 @@ use lib.Ieee.Scale.{finite}
 use lib.ListN.{length}
 use borrow.Author.Tests.{eq-eqb, ne-eqb, eqb-true, eqb-false}
 use Rattle.cone.specs.declared.Scaling.{Scaling}
-use Rattle.cone.specs.Judges.{coneOk, threeOk, allFinite}
+use Rattle.cone.specs.Judges.{ruleOk, coneOk, threeOk, allFinite}
 use Rattle.cone.specs.Refusals.{firstRow, otherLength, neverScaled, otherSerial, judgedOf}
 use Rattle.cone.proofs.Lengths.{cone-wide, cone-3D, record-wide, record-3D, numel-wide, numel-3D, block-wide, block-3D}
 use Rattle.kinds.specs.Cones.{alphaOf}
@@ -22,32 +22,36 @@ use Rattle.record_entries.specs.Entries.{getHsOf, mulHsOf, higherCorrect
 
 -- ---- kinds 1 and 2
 
+-- the first exponent place, which is kind 2's exponent
+abbrev α : Scaling → Float
+α r = alphaOf (r .cone)
+
 module _ (r : Scaling) (k : r .cone .kind ≡ 3 → ⊥) where
   pub gradient-primal-3D
       : (g s : List Float)
-      → three.gradientPrimalOf (r .cone .kind) (alphaOf (r .cone)) (r .three) g s ≡ gradientPrimalOf r g s
+      → three.gradientPrimalOf (r .cone .kind) (r .cone .rule) (α r) (r .three) g s ≡ gradientPrimalOf r g s
   unfolding three.gradientPrimalOf three.rowsOf gradientPrimalOf gradientRows
   gradient-primal-3D g s = simp (ne-eqb _ _ k, cone-3D (r .cone) k, numel-3D (r .cone) k, record-3D r k)
 
-  pub barrier-primal-3D : (s : List Float) → three.barrierPrimalOf (r .cone .kind) (alphaOf (r .cone)) (r .three) s ≡ barrierPrimalOf r s
+  pub barrier-primal-3D : (s : List Float) → three.barrierPrimalOf (r .cone .kind) (r .cone .rule) (α r) (r .three) s ≡ barrierPrimalOf r s
   unfolding three.barrierPrimalOf three.rowsOf barrierPrimalOf primalBarrierOf barrierRows
   barrier-primal-3D s = simp (ne-eqb _ _ k, cone-3D (r .cone) k, numel-3D (r .cone) k, record-3D r k)
 
   pub compute-barrier-3D
       : (z s dz ds : List Float) (step : Float)
-      → three.computeBarrierOf (r .cone .kind) (alphaOf (r .cone)) (r .three) z s dz ds step ≡ computeBarrierOf r z s dz ds step
+      → three.computeBarrierOf (r .cone .kind) (r .cone .rule) (α r) (r .three) z s dz ds step ≡ computeBarrierOf r z s dz ds step
   unfolding three.computeBarrierOf three.rowsOf computeBarrierOf combinedBarrierOf computeRows
   compute-barrier-3D z s dz ds step = simp (ne-eqb _ _ k, cone-3D (r .cone) k, numel-3D (r .cone) k, record-3D r k)
 
   pub get-hs-3D
       : (serial : ℕ) (block : List Float)
-      → three.getHsOf (r .cone .kind) (alphaOf (r .cone)) (neverScaled r) (otherSerial serial r) (r .three) block ≡ getHsOf r serial block
+      → three.getHsOf (r .cone .kind) (r .cone .rule) (α r) (neverScaled r) (otherSerial serial r) (r .three) block ≡ getHsOf r serial block
   unfolding three.getHsOf three.rowsOf getHsOf blockRows
   get-hs-3D serial block = simp (ne-eqb _ _ k, cone-3D (r .cone) k, block-3D (r .cone) k, record-3D r k)
 
   pub mul-hs-3D
       : (serial : ℕ) (y x : List Float)
-      → three.mulHsOf (r .cone .kind) (alphaOf (r .cone)) (neverScaled r) (otherSerial serial r) (r .three) y x ≡ mulHsOf r serial y x
+      → three.mulHsOf (r .cone .kind) (r .cone .rule) (α r) (neverScaled r) (otherSerial serial r) (r .three) y x ≡ mulHsOf r serial y x
   unfolding three.mulHsOf three.rowsOf mulHsOf productRows
   mul-hs-3D serial y x = simp (ne-eqb _ _ k, cone-3D (r .cone) k, numel-3D (r .cone) k, record-3D r k)
 
@@ -86,10 +90,14 @@ or-false : (b : Bool) → (b || false) ≡ b
 or-false true = refl
 or-false false = refl
 
+and-false : (b : Bool) → (b && false) ≡ false
+and-false true = refl
+and-false false = refl
+
 module _ (r : Scaling) (serial : ℕ) where
   abbrev rows : Bool → Bool → ℕ
   rows lengths numbers =
-      three.rowsOf (r .cone .kind) (alphaOf (r .cone)) (r .three) lengths (neverScaled r) (otherSerial serial r) numbers
+      three.rowsOf (r .cone .kind) (r .cone .rule) (α r) (r .three) lengths (neverScaled r) (otherSerial serial r) numbers
 
   module _ (out : ℕ) (a b : List Float) (numbers : Bool) where
     abbrev lengths : Bool
@@ -97,11 +105,13 @@ module _ (r : Scaling) (serial : ℕ) where
 
     rows-wide : r .cone .kind ≡ 3 → rows lengths numbers ≡ correctionRows r serial out a b numbers
     unfolding three.rowsOf correctionRows firstRow threeOk
-    rows-wide k = simp (k, or-true (not (coneOk (r .cone))))
+    rows-wide k = simp (k, and-false (ruleOk (r .cone .rule)), or-true (not (coneOk (r .cone))))
 
     rows-3D : (r .cone .kind ≡ 3 → ⊥) → rows lengths numbers ≡ correctionRows r serial out a b numbers
     unfolding three.rowsOf correctionRows
-    rows-3D k = simp (ne-eqb _ _ k, cone-3D (r .cone) k, or-false (not (threeOk (r .cone .kind) (alphaOf (r .cone)))), record-3D r k)
+    rows-3D k =
+        let ok = ruleOk (r .cone .rule) && threeOk (r .cone .kind) (α r) in
+        simp (ne-eqb _ _ k, cone-3D (r .cone) k, or-false (not ok), record-3D r k)
 
     rows-of : (is3 : Bool) → eqb (r .cone .kind) 3 ≡ is3 → rows lengths numbers ≡ correctionRows r serial out a b numbers
     rows-of true e = rows-wide (eqb-true _ _ e)
@@ -109,14 +119,14 @@ module _ (r : Scaling) (serial : ℕ) where
 
   pub higher-correction-3D
       : (η ds v : List Float)
-      → three.higherCorrectionOf (r .cone .kind) (alphaOf (r .cone)) (neverScaled r) (otherSerial serial r) (r .three) η ds v
+      → three.higherCorrectionOf (r .cone .kind) (r .cone .rule) (α r) (neverScaled r) (otherSerial serial r) (r .three) η ds v
       ≡ higherCorrectionOf r serial η ds v
   unfolding three.higherCorrectionOf higherCorrectionOf
   higher-correction-3D η ds v = simp (rows-of (length η) ds v (allFinite ds && allFinite v) (eqb (r .cone .kind) 3) refl)
 
   pub combined-ds-shift-3D
       : (out stepz steps : List Float) (σμ : Float)
-      → three.combinedDsShiftOf (r .cone .kind) (alphaOf (r .cone)) (neverScaled r) (otherSerial serial r) (r .three) out stepz steps σμ
+      → three.combinedDsShiftOf (r .cone .kind) (r .cone .rule) (α r) (neverScaled r) (otherSerial serial r) (r .three) out stepz steps σμ
       ≡ combinedDsShiftOf r serial out stepz steps σμ
   unfolding three.combinedDsShiftOf combinedDsShiftOf
   combined-ds-shift-3D out stepz steps σμ =

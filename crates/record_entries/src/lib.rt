@@ -20,7 +20,7 @@ pub fn gradient_primal(scaling: Scaling, g: &mut [f64], s: &[f64]) -> Rounds
     }
     let exps = scaling.cone.exps;
     let three = scaling.three;
-    record_three::gradient_primal(kind, exps[0], three, g, s)
+    record_three::gradient_primal(kind, scaling.cone.rule, exps[0], three, g, s)
 }
 
 pub fn barrier_primal(scaling: Scaling, s: &[f64]) -> Number
@@ -32,7 +32,7 @@ pub fn barrier_primal(scaling: Scaling, s: &[f64]) -> Number
     }
     let exps = scaling.cone.exps;
     let three = scaling.three;
-    record_three::barrier_primal(kind, exps[0], three, s)
+    record_three::barrier_primal(kind, scaling.cone.rule, exps[0], three, s)
 }
 
 pub fn compute_barrier(
@@ -51,7 +51,7 @@ pub fn compute_barrier(
     }
     let exps = scaling.cone.exps;
     let three = scaling.three;
-    record_three::compute_barrier(kind, exps[0], three, z, s, dz, ds, alpha)
+    record_three::compute_barrier(kind, scaling.cone.rule, exps[0], three, z, s, dz, ds, alpha)
 }
 
 // ---- the scaling matrix. This call and the three below name the serial that they expect of the record
@@ -67,6 +67,7 @@ pub fn get_hs(scaling: Scaling, serial: u32, block: &mut [f64]) -> u32
     let three = scaling.three;
     record_three::get_hs(
         kind,
+        scaling.cone.rule,
         exps[0],
         scaling.scaled == 0,
         scaling.serial != serial,
@@ -86,6 +87,7 @@ pub fn mul_hs(scaling: Scaling, serial: u32, y: &mut [f64], x: &[f64]) -> u32
     let three = scaling.three;
     record_three::mul_hs(
         kind,
+        scaling.cone.rule,
         exps[0],
         scaling.scaled == 0,
         scaling.serial != serial,
@@ -112,6 +114,7 @@ pub fn higher_correction(
     let three = scaling.three;
     record_three::higher_correction(
         kind,
+        scaling.cone.rule,
         exps[0],
         scaling.scaled == 0,
         scaling.serial != serial,
@@ -138,6 +141,7 @@ pub fn combined_ds_shift(
     let three = scaling.three;
     record_three::combined_ds_shift(
         kind,
+        scaling.cone.rule,
         exps[0],
         scaling.scaled == 0,
         scaling.serial != serial,

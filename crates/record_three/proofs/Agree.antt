@@ -15,7 +15,7 @@ use Rattle.record_three.proofs.mul_hs.Reads as mul-hs
 use Rattle.record_three.proofs.higher_correction.Reads as higher-correction
 use Rattle.record_three.proofs.combined_ds_shift.Reads as combined-ds-shift
 
-pub gradient-primal-agrees : OneOutcome gradient-primal.Post {A = List Float} (λ κs s. now (s .1 .1 .1 .0))
+pub gradient-primal-agrees : OneOutcome gradient-primal.Post {A = List Float} (λ κs s. now (s .1 .1 .1 .1 .0))
 gradient-primal-agrees κs a x y s t p q = one {A = Rounds} (p ∙ sym q)
 
 pub barrier-primal-agrees : OneAnswer barrier-primal.Post
@@ -24,14 +24,14 @@ barrier-primal-agrees κs a x y s t p q = p ∙ sym q
 pub compute-barrier-agrees : OneAnswer compute-barrier.Post
 compute-barrier-agrees κs a x y s t p q = p ∙ sym q
 
-pub get-hs-agrees : OneOutcome get-hs.Post {A = List Float} (λ κs s. now (s .1 .1 .1 .1 .1 .0))
+pub get-hs-agrees : OneOutcome get-hs.Post {A = List Float} (λ κs s. now (s .1 .1 .1 .1 .1 .1 .0))
 get-hs-agrees κs a x y s t p q = one {A = ℕ} (p ∙ sym q)
 
-pub mul-hs-agrees : OneOutcome mul-hs.Post {A = List Float} (λ κs s. now (s .1 .1 .1 .1 .1 .0))
+pub mul-hs-agrees : OneOutcome mul-hs.Post {A = List Float} (λ κs s. now (s .1 .1 .1 .1 .1 .1 .0))
 mul-hs-agrees κs a x y s t p q = one {A = ℕ} (p ∙ sym q)
 
-pub higher-correction-agrees : OneOutcome higher-correction.Post {A = List Float} (λ κs s. now (s .1 .1 .1 .1 .1 .0))
+pub higher-correction-agrees : OneOutcome higher-correction.Post {A = List Float} (λ κs s. now (s .1 .1 .1 .1 .1 .1 .0))
 higher-correction-agrees κs a x y s t p q = one {A = ℕ} (p ∙ sym q)
 
-pub combined-ds-shift-agrees : OneOutcome combined-ds-shift.Post {A = List Float} (λ κs s. now (s .1 .1 .1 .1 .1 .0))
+pub combined-ds-shift-agrees : OneOutcome combined-ds-shift.Post {A = List Float} (λ κs s. now (s .1 .1 .1 .1 .1 .1 .0))
 combined-ds-shift-agrees κs a x y s t p q = one {A = ℕ} (p ∙ sym q)

@@ -8,9 +8,9 @@ use Rattle.cone.proofs.Settled.{no-fault}
 use Rattle.record_three.specs.Entries.{rowsOf}
 
 pub lengths-right
-    : (kind : ℕ) (α : Float) (t : Three) (lengths unscaled serial finite : Bool) {k : ℕ}
-    → k ≡ rowsOf kind α t lengths unscaled serial finite
+    : (kind rule : ℕ) (α : Float) (t : Three) (lengths unscaled serial finite : Bool) {k : ℕ}
+    → k ≡ rowsOf kind rule α t lengths unscaled serial finite
     → k ≡ 0
     → lengths ≡ false
 unfolding rowsOf
-lengths-right kind α t lengths unscaled serial finite e z = no-fault _ (sym e ∙ z) .length
+lengths-right kind rule α t lengths unscaled serial finite e z = no-fault _ (sym e ∙ z) .length

@@ -9,7 +9,7 @@ use Rattle.algebra.specs.Packed.{mulOf}
 use Rattle.cone.specs.declared.Three.{Three}
 use Rattle.cone.specs.declared.Number.{Number}
 use Rattle.cone.specs.declared.Rounds.{Rounds}
-use Rattle.cone.specs.Judges.{threeOk, threeFinite, allFinite, sidesFinite}
+use Rattle.cone.specs.Judges.{ruleOk, threeOk, threeFinite, allFinite, sidesFinite}
 use Rattle.cone.specs.Points.{threeOf}
 use Rattle.cone.specs.Refusals.{firstRow, otherLength, Lent, settle, refuse, refuseNumber, refuseRounds, publishOf, judgedOf, withRounds}
 use Rattle.kinds.specs.declared.three.Gradient.{Gradient}
@@ -17,10 +17,10 @@ use Rattle.kinds.specs.declared.three.Valued.{Valued}
 use Rattle.kinds.specs.Three as three
 
 -- The table, by what is wrong with the call's lengths and its record, and whether its own numbers are finite.
-unfoldable pub rowsOf : ℕ → Float → Three → Bool → Bool → Bool → Bool → ℕ
-rowsOf kind α t lengths unscaled serial finite =
+unfoldable pub rowsOf : ℕ → ℕ → Float → Three → Bool → Bool → Bool → Bool → ℕ
+rowsOf kind rule α t lengths unscaled serial finite =
     firstRow (record {
-      cone = not (threeOk kind α);
+      cone = not (ruleOk rule && threeOk kind α);
       length = lengths;
       number = not (finite && threeFinite t);
       setting = false;
@@ -39,53 +39,55 @@ abbrev pub judged : Valued → Number
 judged v = judgedOf (v .panics) (v .value)
 
 -- 000, 001 gradient_primal
-unfoldable pub gradientPrimalOf : ℕ → Float → Three → List Float → List Float → Lent Rounds
-gradientPrimalOf kind α t g s =
-    settle (rowsOf kind α t (otherLength 3 g || otherLength 3 s) false false (allFinite s))
+unfoldable pub gradientPrimalOf : ℕ → ℕ → Float → Three → List Float → List Float → Lent Rounds
+gradientPrimalOf kind rule α t g s =
+    settle (rowsOf kind rule α t (otherLength 3 g || otherLength 3 s) false false (allFinite s))
     (published g (three.gradientPrimalOf kind α (threeOf s)))
     (refuseRounds g)
 
 -- 000, 001 barrier_primal
-unfoldable pub barrierPrimalOf : ℕ → Float → Three → List Float → Number
-barrierPrimalOf kind α t s =
-    settle (rowsOf kind α t (otherLength 3 s) false false (allFinite s)) (judged (three.barrierPrimalOf kind α (threeOf s))) refuseNumber
+unfoldable pub barrierPrimalOf : ℕ → ℕ → Float → Three → List Float → Number
+barrierPrimalOf kind rule α t s =
+    settle (rowsOf kind rule α t (otherLength 3 s) false false (allFinite s))
+    (judged (three.barrierPrimalOf kind α (threeOf s)))
+    refuseNumber
 
 -- 000, 001 compute_barrier; the step is the Rust's α
-unfoldable pub computeBarrierOf : ℕ → Float → Three → List Float → List Float → List Float → List Float → Float → Number
-computeBarrierOf kind α t z s dz ds step =
+unfoldable pub computeBarrierOf : ℕ → ℕ → Float → Three → List Float → List Float → List Float → List Float → Float → Number
+computeBarrierOf kind rule α t z s dz ds step =
     let lengths = otherLength 3 z || otherLength 3 s || otherLength 3 dz || otherLength 3 ds in
-    settle (rowsOf kind α t lengths false false (sidesFinite dz ds z s && finite step))
+    settle (rowsOf kind rule α t lengths false false (sidesFinite dz ds z s && finite step))
     (judged (three.computeBarrierOf kind α (threeOf z) (threeOf s) (threeOf dz) (threeOf ds) step))
     refuseNumber
 
 -- ---- the scaling matrix, of a record that was never scaled or not, and has another serial than the caller's or not
 
 -- 000, 001 get_Hs
-unfoldable pub getHsOf : ℕ → Float → Bool → Bool → Three → List Float → Lent ℕ
-getHsOf kind α unscaled serial t block =
-    settle (rowsOf kind α t (otherLength 6 block) unscaled serial true) (publishOf block (t .hs)) (refuse block)
+unfoldable pub getHsOf : ℕ → ℕ → Float → Bool → Bool → Three → List Float → Lent ℕ
+getHsOf kind rule α unscaled serial t block =
+    settle (rowsOf kind rule α t (otherLength 6 block) unscaled serial true) (publishOf block (t .hs)) (refuse block)
 
 -- 000, 001 mul_Hs
-unfoldable pub mulHsOf : ℕ → Float → Bool → Bool → Three → List Float → List Float → Lent ℕ
-mulHsOf kind α unscaled serial t y x =
-    settle (rowsOf kind α t (otherLength 3 y || otherLength 3 x) unscaled serial (allFinite x))
+unfoldable pub mulHsOf : ℕ → ℕ → Float → Bool → Bool → Three → List Float → List Float → Lent ℕ
+mulHsOf kind rule α unscaled serial t y x =
+    settle (rowsOf kind rule α t (otherLength 3 y || otherLength 3 x) unscaled serial (allFinite x))
     (publishOf y (mulOf (t .hs) (threeOf x)))
     (refuse y)
 
 -- ---- kinds 1 and 2 alone: another kind is no cone here
 
 -- 000, 001 higher_correction
-unfoldable pub higherCorrectionOf : ℕ → Float → Bool → Bool → Three → List Float → List Float → List Float → Lent ℕ
-higherCorrectionOf kind α unscaled serial t η ds v =
+unfoldable pub higherCorrectionOf : ℕ → ℕ → Float → Bool → Bool → Three → List Float → List Float → List Float → Lent ℕ
+higherCorrectionOf kind rule α unscaled serial t η ds v =
     let lengths = otherLength 3 η || otherLength 3 ds || otherLength 3 v in
-    settle (rowsOf kind α t lengths unscaled serial (allFinite ds && allFinite v))
+    settle (rowsOf kind rule α t lengths unscaled serial (allFinite ds && allFinite v))
     (publishOf η (three.higherCorrectionOf kind α (t .hdual) (t .z) (threeOf ds) (threeOf v)))
     (refuse η)
 
 -- 000, 001 combined_ds_shift
-unfoldable pub combinedDsShiftOf : ℕ → Float → Bool → Bool → Three → List Float → List Float → List Float → Float → Lent ℕ
-combinedDsShiftOf kind α unscaled serial t out stepz steps σμ =
+unfoldable pub combinedDsShiftOf : ℕ → ℕ → Float → Bool → Bool → Three → List Float → List Float → List Float → Float → Lent ℕ
+combinedDsShiftOf kind rule α unscaled serial t out stepz steps σμ =
     let lengths = otherLength 3 out || otherLength 3 stepz || otherLength 3 steps in
-    settle (rowsOf kind α t lengths unscaled serial (allFinite stepz && allFinite steps && finite σμ))
+    settle (rowsOf kind rule α t lengths unscaled serial (allFinite stepz && allFinite steps && finite σμ))
     (publishOf out (three.combinedDsShiftOf kind α (t .hdual) (t .z) (t .grad) (threeOf stepz) (threeOf steps) σμ))
     (refuse out)

@@ -1,6 +1,6 @@
-// The entries over a record for kinds 1 and 2, which take of the record the cone's kind and exponent, the numbers of these kinds, and,
-// where it matters, whether it was never scaled and whether its serial is another than the caller's: so none copies the rest. Each judges
-// its arguments by the table of document 01, computes into locals, and only then writes.
+// The entries over a record for kinds 1 and 2, which take of the record the cone's kind, rule and exponent, the numbers of these kinds,
+// and, where it matters, whether it was never scaled and whether its serial is another than the caller's: so none copies the rest. Each
+// judges its arguments by the table of document 01, computes into locals, and only then writes.
 ghost use mathlib.Core.Path.{_≡_};
 ghost use Rattle.cone.specs.Refusals.{judgedOf};
 ghost use Rattle.record_three.specs.Entries.{rowsOf, gradientPrimalOf, barrierPrimalOf, computeBarrierOf, getHsOf, mulHsOf};
@@ -10,6 +10,7 @@ use cone::Number;
 use cone::Rounds;
 use cone::Three;
 use cone::judge::all_finite;
+use cone::judge::rule_ok;
 use cone::judge::sides_finite;
 use cone::judge::three_finite;
 use cone::judge::three_ok;
@@ -26,6 +27,7 @@ use kinds::three::Valued;
 // The table, by what is wrong with the call's lengths and its record, and whether its own numbers are finite.
 fn rows(
     kind: u32,
+    rule: u32,
     alpha: f64,
     three: Three,
     lengths: bool,
@@ -33,10 +35,10 @@ fn rows(
     serial: bool,
     finite: bool,
 ) -> u32
-    ensures { λ r. ⌜ r ≡ rowsOf kind alpha three lengths unscaled serial finite ⌝ }
+    ensures { λ r. ⌜ r ≡ rowsOf kind rule alpha three lengths unscaled serial finite ⌝ }
 {
     first_row(Faults {
-        cone: !three_ok(kind, alpha),
+        cone: !(rule_ok(rule) & three_ok(kind, alpha)),
         length: lengths,
         number: !(finite & three_finite(three)),
         setting: false,
@@ -48,11 +50,28 @@ fn rows(
 
 // ---- the primal side
 
-pub fn gradient_primal(kind: u32, alpha: f64, three: Three, g: &mut [f64], s: &[f64]) -> Rounds
-    ensures { λ r. ⌜ record { answer = r; slice = now (g .exit) } ≡ gradientPrimalOf kind alpha three (now (g .entry)) (now (s .entry)) ⌝ }
+pub fn gradient_primal(
+    kind: u32,
+    rule: u32,
+    alpha: f64,
+    three: Three,
+    g: &mut [f64],
+    s: &[f64],
+) -> Rounds
+    ensures { λ r. ⌜ record { answer = r; slice = now (g .exit) }
+        ≡ gradientPrimalOf kind rule alpha three (now (g .entry)) (now (s .entry)) ⌝ }
 {
     let lengths = (g.len() != 3) | (s.len() != 3);
-    let code = rows(kind, alpha, three, lengths, false, false, all_finite(s));
+    let code = rows(
+        kind,
+        rule,
+        alpha,
+        three,
+        lengths,
+        false,
+        false,
+        all_finite(s),
+    );
     if code != 0 {
         return Rounds { code, rounds: 0 };
     }
@@ -76,11 +95,20 @@ fn judged(v: Valued) -> Number
     finished(v.value)
 }
 
-pub fn barrier_primal(kind: u32, alpha: f64, three: Three, s: &[f64]) -> Number
-    ensures { λ r. ⌜ r ≡ barrierPrimalOf kind alpha three (now (s .entry)) ⌝ }
+pub fn barrier_primal(kind: u32, rule: u32, alpha: f64, three: Three, s: &[f64]) -> Number
+    ensures { λ r. ⌜ r ≡ barrierPrimalOf kind rule alpha three (now (s .entry)) ⌝ }
 {
     let lengths = s.len() != 3;
-    let code = rows(kind, alpha, three, lengths, false, false, all_finite(s));
+    let code = rows(
+        kind,
+        rule,
+        alpha,
+        three,
+        lengths,
+        false,
+        false,
+        all_finite(s),
+    );
     if code != 0 {
         return Number { code, value: 0.0 };
     }
@@ -90,6 +118,7 @@ pub fn barrier_primal(kind: u32, alpha: f64, three: Three, s: &[f64]) -> Number
 // step is the Rust's α; it may be any finite number.
 pub fn compute_barrier(
     kind: u32,
+    rule: u32,
     alpha: f64,
     three: Three,
     z: &[f64],
@@ -98,11 +127,12 @@ pub fn compute_barrier(
     ds: &[f64],
     step: f64,
 ) -> Number
-    ensures { λ r. ⌜ r ≡ computeBarrierOf kind alpha three (now (z .entry)) (now (s .entry)) (now (dz .entry)) (now (ds .entry)) step ⌝ }
+    ensures { λ r. ⌜ r
+        ≡ computeBarrierOf kind rule alpha three (now (z .entry)) (now (s .entry)) (now (dz .entry)) (now (ds .entry)) step ⌝ }
 {
     let lengths = (z.len() != 3) | (s.len() != 3) | (dz.len() != 3) | (ds.len() != 3);
     let finite = sides_finite(dz, ds, z, s) & is_finite(step);
-    let code = rows(kind, alpha, three, lengths, false, false, finite);
+    let code = rows(kind, rule, alpha, three, lengths, false, false, finite);
     if code != 0 {
         return Number { code, value: 0.0 };
     }
@@ -121,6 +151,7 @@ pub fn compute_barrier(
 
 pub fn get_hs(
     kind: u32,
+    rule: u32,
     alpha: f64,
     unscaled: bool,
     serial: bool,
@@ -128,9 +159,10 @@ pub fn get_hs(
     block: &mut [f64],
 ) -> u32
     ensures { λ r. ⌜ record { answer = r; slice = now (block .exit) }
-        ≡ getHsOf kind alpha unscaled serial three (now (block .entry)) ⌝ }
+        ≡ getHsOf kind rule alpha unscaled serial three (now (block .entry)) ⌝ }
 {
-    let code = rows(kind, alpha, three, block.len() != 6, unscaled, serial, true);
+    let lengths = block.len() != 6;
+    let code = rows(kind, rule, alpha, three, lengths, unscaled, serial, true);
     if code != 0 {
         return code;
     }
@@ -140,6 +172,7 @@ pub fn get_hs(
 
 pub fn mul_hs(
     kind: u32,
+    rule: u32,
     alpha: f64,
     unscaled: bool,
     serial: bool,
@@ -148,10 +181,19 @@ pub fn mul_hs(
     x: &[f64],
 ) -> u32
     ensures { λ r. ⌜ record { answer = r; slice = now (y .exit) }
-        ≡ mulHsOf kind alpha unscaled serial three (now (y .entry)) (now (x .entry)) ⌝ }
+        ≡ mulHsOf kind rule alpha unscaled serial three (now (y .entry)) (now (x .entry)) ⌝ }
 {
     let lengths = (y.len() != 3) | (x.len() != 3);
-    let code = rows(kind, alpha, three, lengths, unscaled, serial, all_finite(x));
+    let code = rows(
+        kind,
+        rule,
+        alpha,
+        three,
+        lengths,
+        unscaled,
+        serial,
+        all_finite(x),
+    );
     if code != 0 {
         return code;
     }
@@ -164,6 +206,7 @@ pub fn mul_hs(
 
 pub fn higher_correction(
     kind: u32,
+    rule: u32,
     alpha: f64,
     unscaled: bool,
     serial: bool,
@@ -173,11 +216,11 @@ pub fn higher_correction(
     v: &[f64],
 ) -> u32
     ensures { λ r. ⌜ record { answer = r; slice = now (eta .exit) }
-        ≡ higherCorrectionOf kind alpha unscaled serial three (now (eta .entry)) (now (ds .entry)) (now (v .entry)) ⌝ }
+        ≡ higherCorrectionOf kind rule alpha unscaled serial three (now (eta .entry)) (now (ds .entry)) (now (v .entry)) ⌝ }
 {
     let lengths = (eta.len() != 3) | (ds.len() != 3) | (v.len() != 3);
     let finite = all_finite(ds) & all_finite(v);
-    let code = rows(kind, alpha, three, lengths, unscaled, serial, finite);
+    let code = rows(kind, rule, alpha, three, lengths, unscaled, serial, finite);
     if code != 0 {
         return code;
     }
@@ -189,6 +232,7 @@ pub fn higher_correction(
 
 pub fn combined_ds_shift(
     kind: u32,
+    rule: u32,
     alpha: f64,
     unscaled: bool,
     serial: bool,
@@ -199,12 +243,12 @@ pub fn combined_ds_shift(
     sigmamu: f64,
 ) -> u32
     ensures { λ r. ⌜ record { answer = r; slice = now (shifted .exit) }
-        ≡ combinedDsShiftOf kind alpha unscaled serial three
+        ≡ combinedDsShiftOf kind rule alpha unscaled serial three
         (now (shifted .entry)) (now (stepz .entry)) (now (steps .entry)) sigmamu ⌝ }
 {
     let lengths = (shifted.len() != 3) | (stepz.len() != 3) | (steps.len() != 3);
     let finite = all_finite(stepz) & all_finite(steps) & is_finite(sigmamu);
-    let code = rows(kind, alpha, three, lengths, unscaled, serial, finite);
+    let code = rows(kind, rule, alpha, three, lengths, unscaled, serial, finite);
     if code != 0 {
         return code;
     }

@@ -5,14 +5,16 @@ use mathlib.Core.List.{List}
 use Prim.Native.Nat.{ℕ, _≤_}
 use lib.Ieee.{Float}
 use borrow.Author.Tests.{not-false}
+use Rattle.arith.proofs.Branches.{and-right}
 use Rattle.cone.specs.declared.Wide.{Wide}
+use Rattle.cone.specs.Judges.{ruleOk}
 use Rattle.cone.proofs.Settled.{no-fault}
 use Rattle.cone.proofs.Lengths.{dim1-at-most, dim2-at-most}
 use Rattle.record_wide.specs.Entries.{rowsIn}
 
 module _
-    (n m : ℕ) (e : List Float) (w : Wide) (lengths unscaled serial finite : Bool) {k : ℕ}
-    (r : k ≡ rowsIn n m e w lengths unscaled serial finite) (z : k ≡ 0)
+    (n m rule : ℕ) (e : List Float) (w : Wide) (lengths unscaled serial finite : Bool) {k : ℕ}
+    (r : k ≡ rowsIn n m rule e w lengths unscaled serial finite) (z : k ≡ 0)
   where
     pub lengths-right : lengths ≡ false
     unfolding rowsIn
@@ -21,5 +23,5 @@ module _
     pub small-dims : (n ≤ 32) × (m ≤ 32)
     unfolding rowsIn
     small-dims =
-        let ok = not-false _ (no-fault _ (sym r ∙ z) .cone) in
-        (dim1-at-most n m e ok, dim2-at-most n m e ok)
+        let ok = and-right (ruleOk rule) _ (not-false _ (no-fault _ (sym r ∙ z) .cone)) in
+        (dim1-at-most n m e _ ok, dim2-at-most n m e _ ok)

@@ -10,7 +10,7 @@ use Rattle.cone.specs.declared.Wide.{Wide}
 use Rattle.cone.specs.declared.Scaling.{Scaling}
 use Rattle.cone.specs.declared.Number.{Number}
 use Rattle.cone.specs.declared.Rounds.{Rounds}
-use Rattle.cone.specs.Judges.{wideOk, wideFinite, allFinite, sidesFinite}
+use Rattle.cone.specs.Judges.{ruleOk, toleranceOf, wideOk, wideFinite, allFinite, sidesFinite}
 use Rattle.cone.specs.Refusals.{firstRow, otherLength, neverScaled, otherSerial}
 use Rattle.cone.specs.Refusals.{Lent, settle, refuse, refuseNumber, refuseRounds, publishOf, numberOf, withRounds}
 use Rattle.genpowcone.specs.Rank3 as genRank3
@@ -21,10 +21,10 @@ abbrev pub dims : Scaling → ℕ
 dims r = r .cone .dim1 + r .cone .dim2
 
 -- The table, by what is wrong with the call's lengths and its record, and whether its own numbers are finite.
-unfoldable pub rowsIn : ℕ → ℕ → List Float → Wide → Bool → Bool → Bool → Bool → ℕ
-rowsIn dim1 dim2 exps w lengths unscaled serial finite =
+unfoldable pub rowsIn : ℕ → ℕ → ℕ → List Float → Wide → Bool → Bool → Bool → Bool → ℕ
+rowsIn dim1 dim2 rule exps w lengths unscaled serial finite =
     firstRow (record {
-      cone = not (wideOk dim1 dim2 exps);
+      cone = not (ruleOk rule && wideOk dim1 dim2 exps (toleranceOf rule));
       length = lengths;
       number = not (finite && wideFinite w dim1 dim2);
       setting = false;
@@ -35,7 +35,7 @@ rowsIn dim1 dim2 exps w lengths unscaled serial finite =
 
 abbrev pub rowsOf : Scaling → Bool → Bool → Bool → Bool → ℕ
 rowsOf r lengths unscaled serial finite =
-    rowsIn (r .cone .dim1) (r .cone .dim2) (r .cone .exps) (r .wide) lengths unscaled serial finite
+    rowsIn (r .cone .dim1) (r .cone .dim2) (r .cone .rule) (r .cone .exps) (r .wide) lengths unscaled serial finite
 
 -- ---- the primal side: of the record, the cone alone (02, Order 4)
 

@@ -10,7 +10,9 @@ use cone::Number;
 use cone::Rounds;
 use cone::Scaling;
 use cone::judge::all_finite;
+use cone::judge::rule_ok;
 use cone::judge::sides_finite;
+use cone::judge::tolerance_of;
 use cone::judge::wide_finite;
 use cone::judge::wide_ok;
 use cone::refusal::Faults;
@@ -25,6 +27,7 @@ use kinds::wide;
 fn rows<'a>(
     dim1: u32,
     dim2: u32,
+    rule: u32,
     exps: &'a [f64; 32],
     z: &'a [f64; 64],
     mu: f64,
@@ -39,7 +42,7 @@ fn rows<'a>(
     serial: bool,
     finite: bool,
 ) -> u32
-    ensures { λ code. ⌜ code ≡ rowsIn dim1 dim2 (now (exps .entry)) (record {
+    ensures { λ code. ⌜ code ≡ rowsIn dim1 dim2 rule (now (exps .entry)) (record {
       z = now (z .entry);
       mu = mu;
       grad = now (grad .entry);
@@ -51,7 +54,7 @@ fn rows<'a>(
     }) lengths unscaled serial finite ⌝ }
 {
     first_row(Faults {
-        cone: !wide_ok(dim1, dim2, exps),
+        cone: !(rule_ok(rule) & wide_ok(dim1, dim2, exps, tolerance_of(rule))),
         length: lengths,
         number: !(finite & wide_finite(z, mu, grad, p, q, r, d1, d2, dim1, dim2)),
         setting: false,
@@ -83,6 +86,7 @@ pub fn gradient_primal(scaling: Scaling, g: &mut [f64], s: &[f64]) -> Rounds
     let code = rows(
         scaling.cone.dim1,
         scaling.cone.dim2,
+        scaling.cone.rule,
         &scaling.cone.exps,
         &scaling.wide.z,
         scaling.wide.mu,
@@ -115,6 +119,7 @@ pub fn barrier_primal(scaling: Scaling, s: &[f64]) -> Number
     let code = rows(
         scaling.cone.dim1,
         scaling.cone.dim2,
+        scaling.cone.rule,
         &scaling.cone.exps,
         &scaling.wide.z,
         scaling.wide.mu,
@@ -154,6 +159,7 @@ pub fn compute_barrier(
     let code = rows(
         scaling.cone.dim1,
         scaling.cone.dim2,
+        scaling.cone.rule,
         &scaling.cone.exps,
         &scaling.wide.z,
         scaling.wide.mu,
@@ -185,6 +191,7 @@ pub fn get_hs(scaling: Scaling, serial: u32, block: &mut [f64]) -> u32
     let code = rows(
         scaling.cone.dim1,
         scaling.cone.dim2,
+        scaling.cone.rule,
         &scaling.cone.exps,
         &scaling.wide.z,
         scaling.wide.mu,
@@ -222,6 +229,7 @@ pub fn mul_hs(scaling: Scaling, serial: u32, y: &mut [f64], x: &[f64]) -> u32
     let code = rows(
         scaling.cone.dim1,
         scaling.cone.dim2,
+        scaling.cone.rule,
         &scaling.cone.exps,
         &scaling.wide.z,
         scaling.wide.mu,

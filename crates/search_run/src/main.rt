@@ -10,26 +10,32 @@ fn word(text: &[u8]) {
     io::write_all(1, text);
 }
 
-fn exponential() -> Cone {
+fn exponential(rule: u32) -> Cone {
     Cone {
         kind: 1,
         dim1: 0,
         dim2: 0,
+        rule,
         exps: [0.0; 32],
     }
 }
 
-// Power with the exponent ½, and generalized with the two exponents ½ and one tail place.
-fn halves(kind: u32) -> Cone {
+// Power with the exponent ½, and generalized with the exponents ½ and, in the second place, one nearby, and one tail place.
+fn halved(kind: u32, rule: u32, second: f64) -> Cone {
     let mut exps = [0.0; 32];
     exps[0] = 0.5;
-    exps[1] = 0.5;
+    exps[1] = second;
     Cone {
         kind,
         dim1: 2,
         dim2: 1,
+        rule,
         exps,
     }
+}
+
+fn halves(kind: u32) -> Cone {
+    halved(kind, 1, 0.5)
 }
 
 fn settings(start: f64, step: f64, smallest: f64) -> Settings {
@@ -61,11 +67,30 @@ fn show(label: &[u8], cone: Cone, primal: bool, dq: [f64; 3], q: [f64; 3], how: 
 
 // The exponential cone, from q nowhere: every trial has the point q.
 fn stay(label: &[u8], q: [f64; 3], how: Settings) {
-    show(label, exponential(), true, [0.0, 0.0, 0.0], q, how);
+    show(label, exponential(1), true, [0.0, 0.0, 0.0], q, how);
 }
 
 fn dual(label: &[u8], cone: Cone, q: [f64; 3]) {
     show(label, cone, false, [0.0, 0.0, 0.0], q, house_settings(1.0));
+}
+
+// 2^-50, and the exponents next to ½ + 2^-50 and ½ - 2^-50 away from ½ with which the sum is the next double.
+const FINE: f64 = 8.8817841970012523233890533447265625e-16;
+
+const ABOVE: f64 = 0.5 + FINE + 2.220446049250313080847263336181640625e-16;
+
+const BELOW: f64 = 0.5 - FINE - 1.1102230246251565404236316680908203125e-16;
+
+fn rules(edge: [f64; 3]) {
+    dual(b"rule 2, sum 2^-50 above 1", halved(3, 2, 0.5 + FINE), edge);
+    dual(b"rule 2, sum 2^-50 below 1", halved(3, 2, 0.5 - FINE), edge);
+    dual(b"rule 2, the next sum above", halved(3, 2, ABOVE), edge);
+    dual(b"rule 2, the next sum below", halved(3, 2, BELOW), edge);
+    dual(b"rule 1, the next sum above", halved(3, 1, ABOVE), edge);
+    dual(b"rule 1, the next sum below", halved(3, 1, BELOW), edge);
+    dual(b"exponential, rule 2", exponential(2), [-1.0, 0.0, 1.0]);
+    dual(b"exponential, rule 3", exponential(3), [-1.0, 0.0, 1.0]);
+    dual(b"power, rule 0", halved(2, 0, 0.5), edge);
 }
 
 fn main() {
@@ -108,7 +133,7 @@ fn main() {
     stay(b"subnormal start, fails", out, settings(5e-324, 0.5, least));
     stay(b"-0 in q, passes", [-0.0, 1.0, 2.0], house_settings(1.0));
     stay(b"-0 in q, fails", [-0.0, -1.0, 1.0], house_settings(1.0));
-    let exp = exponential();
+    let exp = exponential(1);
     let down = [0.0, -4.0, 0.0];
     show(
         b"the last trial passes",
@@ -149,6 +174,7 @@ fn main() {
         settings(1.0, 0.5, 0.0625),
     );
     dual(b"generalized, dual", halves(3), edge);
+    rules(edge);
     stay(b"step 0.991", inside, settings(1.0, 0.991, 0.5));
     stay(b"start zero", inside, settings(0.0, 0.5, 0.5));
     stay(b"start infinite", inside, settings(1.0 / 0.0, 0.5, 0.5));

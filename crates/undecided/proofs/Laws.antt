@@ -11,10 +11,9 @@ use lib.Ieee.{Float}
 use lib.Ieee.Scale.{finite}
 use Rattle.arith.proofs.Branches.{and-left, and-right, false-not-true}
 use Rattle.double.specs.Operators.{at}
-use Rattle.double.specs.Numbers.{#tolerance}
 use Rattle.verdict.specs.Answers.{isYes, judged}
 use Rattle.cone.specs.declared.Cone.{Cone}
-use Rattle.cone.specs.Judges.{allOf, allFinite, powerOk, exponentOk, sumOk, wideOk, coneOk, numelOf}
+use Rattle.cone.specs.Judges.{allOf, allFinite, powerOk, exponentOk, toleranceOf, sumOk, wideOk, coneOk, numelOf}
 use Rattle.cone.specs.Points.{threeOf}
 use Rattle.expcone.specs.Feasible as expcone
 use Rattle.powcone.specs.Feasible as powcone
@@ -57,8 +56,8 @@ not-three (x ∷ y ∷ []) l e = absurd (omega arith)
 not-three (x ∷ y ∷ z ∷ []) l e = not-all (finite x) (finite y) (finite z) e
 not-three (x ∷ y ∷ z ∷ w ∷ p) l e = absurd (omega arith)
 
-module _ (d₁ d₂ : ℕ) (exps : List Float) where
-  facts-1 : (primal : Bool) (p : List Float) → Facts (cone 1 d₁ d₂ exps) primal p
+module _ (d₁ d₂ rule : ℕ) (exps : List Float) where
+  facts-1 : (primal : Bool) (p : List Float) → Facts (cone 1 d₁ d₂ rule exps) primal p
   unfolding answerIn expAnswer expcone.primalFeasible expcone.dualFeasible signsOf residueOf marginOf numelOf
   facts-1 true p = record {
     made = refl;
@@ -71,7 +70,7 @@ module _ (d₁ d₂ : ℕ) (exps : List Float) where
     margin-boundless = λ l n h. exponential.dual-boundless (threeOf p) (not-three p l n) (holds h);
   }
 
-  facts-2 : (primal : Bool) (p : List Float) → powerOk (at exps 0) ≡ true → Facts (cone 2 d₁ d₂ exps) primal p
+  facts-2 : (primal : Bool) (p : List Float) → powerOk (at exps 0) ≡ true → Facts (cone 2 d₁ d₂ rule exps) primal p
   unfolding answerIn powAnswer powcone.primalFeasible powcone.dualFeasible signsOf residueOf marginOf numelOf
   facts-2 true p ok = record {
     made = refl;
@@ -85,7 +84,7 @@ module _ (d₁ d₂ : ℕ) (exps : List Float) where
   }
 
   -- kind 3: no length is asked, since a coordinate is a head or of the tail
-  facts-3 : (primal : Bool) (p : List Float) → allOf exponentOk (take d₁ exps) ≡ true → Facts (cone 3 d₁ d₂ exps) primal p
+  facts-3 : (primal : Bool) (p : List Float) → allOf exponentOk (take d₁ exps) ≡ true → Facts (cone 3 d₁ d₂ rule exps) primal p
   unfolding answerIn genpowAnswer genpowcone.primalFeasible genpowcone.dualFeasible signsOf residueOf marginOf
   facts-3 true p ok = record {
     made = refl;
@@ -98,19 +97,21 @@ module _ (d₁ d₂ : ℕ) (exps : List Float) where
     margin-boundless = λ l n h. generalized.dual-boundless (take d₁ exps) p (holds ok) (holds h) n;
   }
 
-  wide-exponents : wideOk d₁ d₂ exps ≡ true → allOf exponentOk (take d₁ exps) ≡ true
+  wide-exponents : wideOk d₁ d₂ exps (toleranceOf rule) ≡ true → allOf exponentOk (take d₁ exps) ≡ true
   unfolding wideOk
   wide-exponents ok =
       let α = take d₁ exps in
       let dims = leb 1 d₁ && leb d₁ 32 && leb 1 d₂ && leb d₂ 32 in
-      and-right dims (allOf exponentOk α) (and-left (dims && allOf exponentOk α) (sumOk α #tolerance) ok)
+      and-right dims (allOf exponentOk α) (and-left (dims && allOf exponentOk α) (sumOk α (toleranceOf rule)) ok)
 
 facts : (c : Cone) → coneOk c ≡ true → (primal : Bool) (p : List Float) → Facts c primal p
 facts c ok primal p =
-    each-kind (λ (d : Cone). Facts d primal p) (c .dim1) (c .dim2) (c .exps)
-    (facts-1 (c .dim1) (c .dim2) (c .exps) primal p)
-    (facts-2 (c .dim1) (c .dim2) (c .exps) primal p)
-    (λ wide. facts-3 (c .dim1) (c .dim2) (c .exps) primal p (wide-exponents (c .dim1) (c .dim2) (c .exps) wide)) (c .kind) ok
+    let d₁ = c .dim1 in
+    let d₂ = c .dim2 in
+    each-kind (λ (d : Cone). Facts d primal p) d₁ d₂ (c .rule) (c .exps)
+    (facts-1 d₁ d₂ (c .rule) (c .exps) primal p)
+    (facts-2 d₁ d₂ (c .rule) (c .exps) primal p)
+    (λ wide. facts-3 d₁ d₂ (c .rule) (c .exps) primal p (wide-exponents d₁ d₂ (c .rule) (c .exps) wide)) (c .kind) ok
 
 -- ---- all kinds
 

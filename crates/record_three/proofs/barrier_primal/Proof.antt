@@ -8,14 +8,14 @@ use Rattle.record_three.proofs.barrier_primal.Tie as tie
 
 returns : tie.Need-returns
 unfolding barrierPrimalOf
-returns c = refused _ _ _ _ (c .before .rows .ensures ∙ ap (rowsOf _ _ _ _ _ _) (c .before .before .all-finite .ensures)) (c .if1 .taken)
+returns c = refused _ _ _ _ (c .before .rows .ensures ∙ ap (rowsOf _ _ _ _ _ _ _) (c .before .before .all-finite .ensures)) (c .if1 .taken)
 
 returns-2 : tie.Need-returns-2
 unfolding barrierPrimalOf
 returns-2 c =
     let point = c .before .before in
     let past = point .before in
-    through _ _ _ _ (past .before .rows .ensures ∙ ap (rowsOf _ _ _ _ _ _) (past .before .before .all-finite .ensures)) (past .if1 .left)
+    through _ _ _ _ (past .before .rows .ensures ∙ ap (rowsOf _ _ _ _ _ _ _) (past .before .before .all-finite .ensures)) (past .if1 .left)
     (simp (← point .three-of .ensures, ← c .before .barrier-primal .ensures) (c .judged .ensures))
 
 pub barrier-primal-spec : {M : Type 1} → statement M

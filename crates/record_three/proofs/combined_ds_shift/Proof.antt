@@ -31,13 +31,13 @@ returns c =
     let judged = c .before in
     let number = judged .before in
     let points = both (number .before .before .all-finite .ensures) (number .before .all-finite2 .ensures) in
-    refused _ _ _ _ (judged .rows .ensures ∙ ap (rowsOf _ _ _ _ _ _) (both points (number .is-finite .ensures))) (c .if1 .taken)
+    refused _ _ _ _ (judged .rows .ensures ∙ ap (rowsOf _ _ _ _ _ _ _) (both points (number .is-finite .ensures))) (c .if1 .taken)
 
 publish-requires : tie.Need-publish-requires
 publish-requires c κs =
     let let-through = past (c .before .before) in
     let a = start (let-through .before) .args in
-    let right = lengths-right _ _ _ _ _ _ _ (let-through .before .rows .ensures) (let-through .if1 .left) in
+    let right = lengths-right _ _ _ _ _ _ _ _ (let-through .before .rows .ensures) (let-through .if1 .left) in
     omega (arith, same-3 3 (length (a .shifted .now)) (length (a .stepz .now)) (length (a .steps .now)) right .0)
 
 returns-2 : tie.Need-returns-2
@@ -48,7 +48,9 @@ returns-2 c =
     let judged = past computed .before in
     let number = judged .before in
     let points = both (number .before .before .all-finite .ensures) (number .before .all-finite2 .ensures) in
-    through _ _ _ _ (judged .rows .ensures ∙ ap (rowsOf _ _ _ _ _ _) (both points (number .is-finite .ensures))) (past computed .if1 .left)
+    through _ _ _ _
+    (judged .rows .ensures ∙ ap (rowsOf _ _ _ _ _ _ _) (both points (number .is-finite .ensures)))
+    (past computed .if1 .left)
     (simp (← computed .before .before .three-of .ensures, ← computed .before .three-of2 .ensures, ← computed .combined-ds-shift .ensures)
     (published .publish .ensures))
 

@@ -12,7 +12,7 @@ returns c =
     let judged = c .before in
     let step = judged .before in
     let numbers = both (step .before .sides-finite .ensures) (step .is-finite .ensures) in
-    refused _ _ _ _ (judged .rows .ensures ∙ ap (rowsOf _ _ _ _ _ _) numbers) (c .if1 .taken)
+    refused _ _ _ _ (judged .rows .ensures ∙ ap (rowsOf _ _ _ _ _ _ _) numbers) (c .if1 .taken)
 
 returns-2 : tie.Need-returns-2
 unfolding computeBarrierOf
@@ -23,7 +23,7 @@ returns-2 c =
     let judged = past .before in
     let step = judged .before in
     let numbers = both (step .before .sides-finite .ensures) (step .is-finite .ensures) in
-    through _ _ _ _ (judged .rows .ensures ∙ ap (rowsOf _ _ _ _ _ _) numbers) (past .if1 .left)
+    through _ _ _ _ (judged .rows .ensures ∙ ap (rowsOf _ _ _ _ _ _ _) numbers) (past .if1 .left)
     (simp (
       ← of-s .before .three-of .ensures,
       ← of-s .three-of2 .ensures,

@@ -17,7 +17,8 @@ publish-requires : tie.Need-publish-requires
 publish-requires c κs =
     let past = c .before .before .before .before in
     let start = past .before .before .before in
-    omega (arith, same-1 6 (length (start .args .block .now)) (lengths-right _ _ _ _ _ _ _ (past .before .rows .ensures) (past .if1 .left)))
+    let right = lengths-right _ _ _ _ _ _ _ _ (past .before .rows .ensures) (past .if1 .left) in
+    omega (arith, same-1 6 (length (start .args .block .now)) right)
 
 returns-2 : tie.Need-returns-2
 unfolding getHsOf

@@ -42,16 +42,16 @@ start c = past c .before .before .before .before .before
 settled
     : (c : tie.After-gradient-primal) {x : Lent Rounds}
     → x ≡ published (start c .args .g .now) (c .gradient-primal .result)
-    → (let a = start c .args in x ≡ gradientPrimalOf (a .kind) (a .alpha) (a .three) (a .g .now) (a .s .now))
+    → (let a = start c .args in x ≡ gradientPrimalOf (a .kind) (a .rule) (a .alpha) (a .three) (a .g .now) (a .s .now))
 unfolding gradientPrimalOf
 settled c p =
     let judged = past c .before in
-    through _ _ _ _ (judged .rows .ensures ∙ ap (rowsOf _ _ _ _ _ _) (judged .before .all-finite .ensures)) (past c .if1 .left)
+    through _ _ _ _ (judged .rows .ensures ∙ ap (rowsOf _ _ _ _ _ _ _) (judged .before .all-finite .ensures)) (past c .if1 .left)
     (simp (← c .before .three-of .ensures, ← c .gradient-primal .ensures) p)
 
 returns : tie.Need-returns
 unfolding gradientPrimalOf
-returns c = refused _ _ _ _ (c .before .rows .ensures ∙ ap (rowsOf _ _ _ _ _ _) (c .before .before .all-finite .ensures)) (c .if1 .taken)
+returns c = refused _ _ _ _ (c .before .rows .ensures ∙ ap (rowsOf _ _ _ _ _ _ _) (c .before .before .all-finite .ensures)) (c .if1 .taken)
 
 returns-2 : tie.Need-returns-2
 returns-2 c = settled (c .before) (panicked _ _ (c .if2 .taken))
@@ -61,7 +61,7 @@ publish-requires c κs =
     let went-on = c .before .before .before .before in
     let judged = past (went-on .before) in
     let a = start (went-on .before) .args in
-    let right = lengths-right _ _ _ _ _ _ _ (judged .before .rows .ensures) (judged .if1 .left) in
+    let right = lengths-right _ _ _ _ _ _ _ _ (judged .before .rows .ensures) (judged .if1 .left) in
     omega (arith, same-2 3 (length (a .g .now)) (length (a .s .now)) right .0)
 
 returns-3 : tie.Need-returns-3

@@ -26,13 +26,13 @@ unfolding higherCorrectionOf
 returns c =
     let judged = c .before in
     let numbers = both (judged .before .before .all-finite .ensures) (judged .before .all-finite2 .ensures) in
-    refused _ _ _ _ (judged .rows .ensures ∙ ap (rowsOf _ _ _ _ _ _) numbers) (c .if1 .taken)
+    refused _ _ _ _ (judged .rows .ensures ∙ ap (rowsOf _ _ _ _ _ _ _) numbers) (c .if1 .taken)
 
 publish-requires : tie.Need-publish-requires
 publish-requires c κs =
     let let-through = past (c .before .before) in
     let a = start (let-through .before) .args in
-    let right = lengths-right _ _ _ _ _ _ _ (let-through .before .rows .ensures) (let-through .if1 .left) in
+    let right = lengths-right _ _ _ _ _ _ _ _ (let-through .before .rows .ensures) (let-through .if1 .left) in
     omega (arith, same-3 3 (length (a .eta .now)) (length (a .ds .now)) (length (a .v .now)) right .0)
 
 returns-2 : tie.Need-returns-2
@@ -42,7 +42,7 @@ returns-2 c =
     let computed = published .before .before .before in
     let judged = past computed .before in
     let numbers = both (judged .before .before .all-finite .ensures) (judged .before .all-finite2 .ensures) in
-    through _ _ _ _ (judged .rows .ensures ∙ ap (rowsOf _ _ _ _ _ _) numbers) (past computed .if1 .left)
+    through _ _ _ _ (judged .rows .ensures ∙ ap (rowsOf _ _ _ _ _ _ _) numbers) (past computed .if1 .left)
     (simp (← computed .before .before .three-of .ensures, ← computed .before .three-of2 .ensures, ← computed .higher-correction .ensures)
     (published .publish .ensures))
 

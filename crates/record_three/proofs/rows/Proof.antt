@@ -6,7 +6,14 @@ use Rattle.record_three.proofs.rows.Tie as tie
 
 returns : tie.Need-returns
 unfolding rowsOf
-returns c = simp (c .first-row .ensures, c .before .three-finite .ensures, c .before .before .three-ok .ensures)
+returns c =
+    let three-ok = c .before .before in
+    simp (
+      c .first-row .ensures,
+      c .before .three-finite .ensures,
+      three-ok .three-ok .ensures,
+      three-ok .before .rule-ok .ensures,
+    )
 
 pub rows-spec : {M : Type 1} → statement M
-rows-spec = tie.close (tie.spec (λ c κs. search needs) (λ c κs. search needs) (λ c κs. search needs) returns)
+rows-spec = tie.close (tie.spec (λ c κs. search needs) (λ c κs. search needs) (λ c κs. search needs) (λ c κs. search needs) returns)

@@ -26,15 +26,15 @@ returns : tie.Need-returns
 unfolding barrierPrimalOf
 returns c =
     let judged = c .before in
-    refused _ _ _ _ (judged .rows .ensures ∙ ap (rowsIn _ _ _ _ _ _ _) (numbers judged .all-finite .ensures)) (c .if1 .taken)
+    refused _ _ _ _ (judged .rows .ensures ∙ ap (rowsIn _ _ _ _ _ _ _ _) (numbers judged .all-finite .ensures)) (c .if1 .taken)
 
 barrier-primal-requires : tie.Need-barrier-primal-requires
 barrier-primal-requires c κs =
     let past = c .before .before in
     let judged = past .before in
     let a = start judged .args in
-    let small = small-dims _ _ _ _ _ _ _ _ (judged .rows .ensures) (past .if1 .left) in
-    let right = lengths-right _ _ _ _ _ _ _ _ (judged .rows .ensures) (past .if1 .left) in
+    let small = small-dims _ _ _ _ _ _ _ _ _ (judged .rows .ensures) (past .if1 .left) in
+    let right = lengths-right _ _ _ _ _ _ _ _ _ (judged .rows .ensures) (past .if1 .left) in
     omega (arith, same-1 (dims (a .t1)) (length (a .s .now)) right, small .0, small .1)
 
 returns-2 : tie.Need-returns-2
@@ -43,7 +43,7 @@ returns-2 c =
     let computed = c .before in
     let past = computed .before .before .before in
     let judged = past .before in
-    through _ _ _ _ (judged .rows .ensures ∙ ap (rowsIn _ _ _ _ _ _ _) (numbers judged .all-finite .ensures)) (past .if1 .left)
+    through _ _ _ _ (judged .rows .ensures ∙ ap (rowsIn _ _ _ _ _ _ _ _) (numbers judged .all-finite .ensures)) (past .if1 .left)
     (c .finished .ensures ∙ ap numberOf (computed .barrier-primal .ensures))
 
 pub barrier-primal-spec : {M : Type 1} → statement M

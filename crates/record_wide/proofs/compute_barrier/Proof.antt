@@ -24,7 +24,7 @@ unfolding computeBarrierOf
 returns c =
     let n = numbers (c .before) in
     let finite = both (n .before .sides-finite .ensures) (n .is-finite .ensures) in
-    refused _ _ _ _ (c .before .rows .ensures ∙ ap (rowsIn _ _ _ _ _ _ _) finite) (c .if1 .taken)
+    refused _ _ _ _ (c .before .rows .ensures ∙ ap (rowsIn _ _ _ _ _ _ _ _) finite) (c .if1 .taken)
 
 compute-barrier-requires : tie.Need-compute-barrier-requires
 compute-barrier-requires c κs =
@@ -32,8 +32,8 @@ compute-barrier-requires c κs =
     let judged = past .before in
     let slices-known = numbers judged .before .before in
     let a = slices-known .before .before .before .before .args in
-    let small = small-dims _ _ _ _ _ _ _ _ (judged .rows .ensures) (past .if1 .left) in
-    let right = lengths-right _ _ _ _ _ _ _ _ (judged .rows .ensures) (past .if1 .left) in
+    let small = small-dims _ _ _ _ _ _ _ _ _ (judged .rows .ensures) (past .if1 .left) in
+    let right = lengths-right _ _ _ _ _ _ _ _ _ (judged .rows .ensures) (past .if1 .left) in
     let same = same-4 (dims (a .t1)) (length (a .z .now)) (length (a .s .now)) (length (a .dz .now)) (length (a .ds .now)) right in
     (omega (arith, same .1, small .0, small .1), omega (arith, same .0, small .0, small .1))
 
@@ -44,7 +44,7 @@ returns-2 c =
     let past = computed .before .before .before in
     let n = numbers (past .before) in
     let finite = both (n .before .sides-finite .ensures) (n .is-finite .ensures) in
-    through _ _ _ _ (past .before .rows .ensures ∙ ap (rowsIn _ _ _ _ _ _ _) finite) (past .if1 .left)
+    through _ _ _ _ (past .before .rows .ensures ∙ ap (rowsIn _ _ _ _ _ _ _ _) finite) (past .if1 .left)
     (c .finished .ensures ∙ ap numberOf (computed .compute-barrier .ensures))
 
 pub compute-barrier-spec : {M : Type 1} → statement M

@@ -23,15 +23,15 @@ returns c = refused _ _ _ _ (c .before .rows .ensures) (c .if1 .taken)
 get-hs-requires : tie.Need-get-hs-requires
 get-hs-requires c κs =
     let past = c .before .before in
-    small-dims _ _ _ _ _ _ _ _ (past .before .rows .ensures) (past .if1 .left)
+    small-dims _ _ _ _ _ _ _ _ _ (past .before .rows .ensures) (past .if1 .left)
 
 publish-wide-requires : tie.Need-publish-wide-requires
 publish-wide-requires c κs =
     let past = c .before .before .before .before .before in
     let judged = past .before in
     let a = start judged .args in
-    let small = small-dims _ _ _ _ _ _ _ _ (judged .rows .ensures) (past .if1 .left) in
-    let right = lengths-right _ _ _ _ _ _ _ _ (judged .rows .ensures) (past .if1 .left) in
+    let small = small-dims _ _ _ _ _ _ _ _ _ (judged .rows .ensures) (past .if1 .left) in
+    let right = lengths-right _ _ _ _ _ _ _ _ _ (judged .rows .ensures) (past .if1 .left) in
     omega (arith, same-1 (dims (a .t1)) (length (a .block .now)) right, small .0, small .1)
 
 returns-2 : tie.Need-returns-2

@@ -27,8 +27,8 @@ start c = numbers c .before .before .before
 both-fit : (c : tie.Else1) → (let a = start (c .before) .args in (length (a .g .now) ≤ 64) × (length (a .s .now) ≤ 64))
 both-fit c =
     let a = start (c .before) .args in
-    let small = small-dims _ _ _ _ _ _ _ _ (c .before .rows .ensures) (c .if1 .left) in
-    let right = lengths-right _ _ _ _ _ _ _ _ (c .before .rows .ensures) (c .if1 .left) in
+    let small = small-dims _ _ _ _ _ _ _ _ _ (c .before .rows .ensures) (c .if1 .left) in
+    let right = lengths-right _ _ _ _ _ _ _ _ _ (c .before .rows .ensures) (c .if1 .left) in
     let same = same-2 (dims (a .t1)) (length (a .g .now)) (length (a .s .now)) right in
     (omega (arith, same .0, small .0, small .1), omega (arith, same .1, small .0, small .1))
 
@@ -36,7 +36,7 @@ returns : tie.Need-returns
 unfolding gradientPrimalOf
 returns c =
     let judged = c .before in
-    refused _ _ _ _ (judged .rows .ensures ∙ ap (rowsIn _ _ _ _ _ _ _) (numbers judged .all-finite .ensures)) (c .if1 .taken)
+    refused _ _ _ _ (judged .rows .ensures ∙ ap (rowsIn _ _ _ _ _ _ _ _) (numbers judged .all-finite .ensures)) (c .if1 .taken)
 
 gradient-primal-requires : tie.Need-gradient-primal-requires
 gradient-primal-requires c κs = both-fit (c .before .before) .1
@@ -55,7 +55,7 @@ returns-2 c =
     let judged = past .before in
     let old = start judged .args .g .now in
     let a = computed .gradient-primal .result in
-    through _ _ _ _ (judged .rows .ensures ∙ ap (rowsIn _ _ _ _ _ _ _) (numbers judged .all-finite .ensures)) (past .if1 .left)
+    through _ _ _ _ (judged .rows .ensures ∙ ap (rowsIn _ _ _ _ _ _ _ _) (numbers judged .all-finite .ensures)) (past .if1 .left)
     (simp (← computed .gradient-primal .ensures)
     (with-count (publishOf old (take (length old) (a .g))) (a .rounds) (published .publish-wide .ensures) (c .counted .ensures)))
 

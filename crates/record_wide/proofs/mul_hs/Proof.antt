@@ -28,19 +28,19 @@ abbrev lent : tie.After-mul-hs-arg4 → tie.Else1
 lent c = c .before .before .before .before .before
 
 small : (c : tie.Else1) → (let r = start (c .before) .args .t1 in (r .cone .dim1 ≤ 32) × (r .cone .dim2 ≤ 32))
-small c = small-dims _ _ _ _ _ _ _ _ (c .before .rows .ensures) (c .if1 .left)
+small c = small-dims _ _ _ _ _ _ _ _ _ (c .before .rows .ensures) (c .if1 .left)
 
 sized : (c : tie.Else1) → (let a = start (c .before) .args in (length (a .y .now) ≡ dims (a .t1)) × (length (a .x .now) ≡ dims (a .t1)))
 sized c =
     let a = start (c .before) .args in
-    let right = lengths-right _ _ _ _ _ _ _ _ (c .before .rows .ensures) (c .if1 .left) in
+    let right = lengths-right _ _ _ _ _ _ _ _ _ (c .before .rows .ensures) (c .if1 .left) in
     same-2 (dims (a .t1)) (length (a .y .now)) (length (a .x .now)) right
 
 returns : tie.Need-returns
 unfolding mulHsOf
 returns c =
     let judged = c .before in
-    refused _ _ _ _ (judged .rows .ensures ∙ ap (rowsIn _ _ _ _ _ _ _) (numbers judged .all-finite .ensures)) (c .if1 .taken)
+    refused _ _ _ _ (judged .rows .ensures ∙ ap (rowsIn _ _ _ _ _ _ _ _) (numbers judged .all-finite .ensures)) (c .if1 .taken)
 
 mul-hs-requires : tie.Need-mul-hs-requires
 mul-hs-requires c κs =
@@ -59,7 +59,7 @@ returns-2 c =
     let computed = published .before .before .before in
     let past = lent (computed .before) in
     let judged = past .before in
-    through _ _ _ _ (judged .rows .ensures ∙ ap (rowsIn _ _ _ _ _ _ _) (numbers judged .all-finite .ensures)) (past .if1 .left)
+    through _ _ _ _ (judged .rows .ensures ∙ ap (rowsIn _ _ _ _ _ _ _ _) (numbers judged .all-finite .ensures)) (past .if1 .left)
     (simp (← computed .mul-hs .ensures) (published .publish-wide .ensures))
 
 pub mul-hs-spec : {M : Type 1} → statement M

@@ -6,7 +6,20 @@ use Rattle.record_wide.proofs.rows.Tie as tie
 
 returns : tie.Need-returns
 unfolding rowsIn
-returns c = simp (← c .before .before .wide-ok .ensures, ← c .before .wide-finite .ensures) (c .first-row .ensures)
+returns c =
+    let wide-ok = c .before .before in
+    let tolerance = wide-ok .before in
+    simp (
+      c .first-row .ensures,
+      c .before .wide-finite .ensures,
+      wide-ok .wide-ok .ensures,
+      tolerance .tolerance-of .ensures,
+      tolerance .before .before .rule-ok .ensures,
+    )
 
 pub rows-spec : {M : Type 1} → statement M
-rows-spec = tie.close (tie.spec (λ c κs. search needs) (λ c κs. search needs) (λ c κs. search needs) returns)
+rows-spec =
+    tie.close
+    (tie.spec
+    (λ c κs. search needs) (λ c κs. search needs) (λ c κs. search needs) (λ c κs. search needs) (λ c κs. search needs)
+    returns)

@@ -12,12 +12,13 @@ use Rattle.cone.specs.declared.Settings.{Settings}
 use Rattle.cone.specs.declared.Steps.{Steps}
 use Rattle.words.specs.Words.{wordAt}
 use Rattle.trace.specs.declared.Shape.{Shape}
-use Rattle.trace_layout.specs.Records.{rulesIn, exponents, settingsIn, flagPlace, kindAt, dim1At, dim2At, flagAt, sizeAt, laidAt, recordAt}
+use Rattle.trace_layout.specs.Records.{rulesIn, exponents, settingsIn, flagPlace, kindAt, dim1At, dim2At, ruleAt, flagAt, sizeAt}
+use Rattle.trace_layout.specs.Records.{laidAt, recordAt}
 use Rattle.trace.specs.Shapes.{shapeAt}
 use Rattle.recorded.specs.Defaults.{defaultOf}
 use Rattle.recorded.specs.Recorded.{rowIn, coneOf, settingsOf, stepsOf, recordedOf}
-use Rattle.trace_layout.proofs.Fields.{kind-of, dim1-of, dim2-of, exps-of, start-of, flag-of, step-of, smallest-of, dz-of, ds-of, z-of}
-use Rattle.trace_layout.proofs.Fields.{s-of, dualstep-of, dualcount-of, primalstep-of, primalcount-of}
+use Rattle.trace_layout.proofs.Fields.{kind-of, dim1-of, dim2-of, rule-of, exps-of, start-of, flag-of, step-of, smallest-of, dz-of, ds-of}
+use Rattle.trace_layout.proofs.Fields.{z-of, s-of, dualstep-of, dualcount-of, primalstep-of, primalcount-of}
 use Rattle.trace_layout.proofs.Records.{found, Bounds, bounds, exponents-most, rules-most}
 
 module _ (e : ℕ) (t : List ℕ) where
@@ -75,10 +76,11 @@ module _ (e : ℕ) (t : List ℕ) (shape : Shape) (is : shape ≡ shapeAt e t) w
 
   -- ---- the parts
 
-  pub cone-read : (exps : List Float) → exps ≡ rowIn 32 (exponents (shape .kind) (shape .dim1)) (drop (20 + 4 * rulesIn e) t)
-      → record { kind = shape .kind; dim1 = shape .dim1; dim2 = shape .dim2; exps = exps } ≡ coneOf (recordAt e t)
+  pub cone-read : (rule : ℕ) (exps : List Float) → rule ≡ ruleAt e t
+      → exps ≡ rowIn 32 (exponents (shape .kind) (shape .dim1)) (drop (20 + 4 * rulesIn e) t)
+      → record { kind = shape .kind; dim1 = shape .dim1; dim2 = shape .dim2; rule = rule; exps = exps } ≡ coneOf (recordAt e t)
   unfolding coneOf rowIn
-  cone-read exps h = rw (h, kind-is, dim1-is, dim2-is, kind-of e t, dim1-of e t, dim2-of e t, exps-of e t)
+  cone-read rule exps g h = rw (g, h, kind-is, dim1-is, dim2-is, kind-of e t, dim1-of e t, dim2-of e t, rule-of e t, exps-of e t)
 
   pub flag-own : shape .flag ≡ 0 → settingsIn (flagAt e t) ≡ 2
   unfolding settingsIn

@@ -6,4 +6,4 @@ use Rattle.recorded.specs.Defaults.{defaultStep, DefaultsRight}
 
 pub defaults-right : DefaultsRight
 unfolding ofBits dec defaultStep
-defaults-right = record { first = λ start. refl; second = λ start. refl; newest = λ start. refl }
+defaults-right = record { first = λ start. refl; second = λ start. refl; third = λ start. refl; newest = λ start. refl }

@@ -16,7 +16,7 @@ abbrev pub #firstStep : Float
 abbrev pub #defaultSmallest : Float
 #defaultSmallest = ofBits binary64 0x3f1a_36e2_eb1c_432d
 
--- 02, Order 8: "A trace of edition 1 means 0.8 by its flag; new traces are edition 2 and mean 0.5"
+-- 02, Order 8: "A trace of edition 1 means 0.8 by its flag; new traces are edition 2 and mean 0.5"; Order 9: edition 3 with "the default 0.5"
 unfoldable pub defaultStep : ℕ → Float
 defaultStep edition = cond (eqb edition 1) #firstStep #½
 
@@ -31,5 +31,6 @@ toldStep step start = record { start = start; step = step; smallest = dec 1 4 }
 pub record DefaultsRight : Type 0 where
   pub first : (start : Float) → defaultOf 1 start ≡ toldStep (dec 8 1) start
   pub second : (start : Float) → defaultOf 2 start ≡ toldStep (dec 5 1) start
+  pub third : (start : Float) → defaultOf 3 start ≡ toldStep (dec 5 1) start
   -- in a new trace flag 1 means what callers get who pass no settings
   pub newest : (start : Float) → defaultOf newestEdition start ≡ houseSettings start

@@ -29,7 +29,7 @@ unfoldable pub rowIn : ℕ → ℕ → List ℕ → List Float
 rowIn m n bs = padded m (valuesOf (rowOf 8 n bs))
 
 unfoldable pub coneOf : Record → Cone
-coneOf r = record { kind = r .kind; dim1 = r .dim1; dim2 = r .dim2; exps = padded 32 (valuesOf (r .exps)) }
+coneOf r = record { kind = r .kind; dim1 = r .dim1; dim2 = r .dim2; rule = r .rule; exps = padded 32 (valuesOf (r .exps)) }
 
 -- 02: "a u32 flag (1 means default settings; at 0 step and smallest step follow)"
 unfoldable pub settingsOf : ℕ → Record → Settings

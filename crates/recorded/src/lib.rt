@@ -4,7 +4,7 @@ ghost use mathlib.Core.Bool.{true};
 ghost use Prim.Native.Nat.{_+_, _*_, _≤_};
 ghost use lib.Ieee.{binary64, ofBits};
 ghost use Rattle.words.specs.Words.{wordAt};
-ghost use Rattle.trace_layout.specs.Records.{laidAt, recordAt};
+ghost use Rattle.trace_layout.specs.Records.{ruleAt, laidAt, recordAt};
 ghost use Rattle.trace.specs.Shapes.{shapeAt};
 ghost use Rattle.recorded.specs.Defaults.{defaultStep, defaultOf};
 ghost use Rattle.recorded.specs.Recorded.{rowIn, coneOf, settingsOf, stepsOf, recordedOf, refusedRecord, recordedIn};
@@ -71,6 +71,17 @@ fn row32(bytes: &[u8], n: usize) -> [f64; 32]
     row
 }
 
+// The rule stands behind the dims, in an edition that has it.
+fn rule_at(edition: u32, t: &[u8]) -> u32
+    ensures { λ r. ⌜ r ≡ ruleAt edition (now (t .entry)) ⌝ }
+{
+    if rules_in(edition) == 0 {
+        1
+    } else {
+        u32_at(t, 20)
+    }
+}
+
 fn cone_at(edition: u32, t: &[u8], shape: Shape) -> Cone
     requires { ⌜ (laidAt edition (now t) ≡ true) × (shape ≡ shapeAt edition (now t)) ⌝ }
     ensures { λ r. ⌜ r ≡ coneOf (recordAt edition (now (t .entry))) ⌝ }
@@ -78,15 +89,18 @@ fn cone_at(edition: u32, t: &[u8], shape: Shape) -> Cone
     let n = exponents(shape.kind, shape.dim1);
     let place = 20 + 4 * rules_in(edition);
     let exps = row32(behind(t, place), n);
+    let rule = rule_at(edition, t);
     Cone {
         kind: shape.kind,
         dim1: shape.dim1,
         dim2: shape.dim2,
+        rule,
         exps,
     }
 }
 
-// 02, Order 8: "A trace of edition 1 means 0.8 by its flag; new traces are edition 2 and mean 0.5". An edition keeps its step, whatever the house does.
+// 02, Order 8: "A trace of edition 1 means 0.8 by its flag; new traces are edition 2 and mean 0.5"; Order 9: edition 3 has "the default 0.5". An edition
+// keeps its step, whatever the house does.
 fn default_step(edition: u32) -> f64
     ensures { λ r. ⌜ r ≡ defaultStep edition ⌝ }
 {

@@ -41,18 +41,18 @@ noted-most true at = omega arith
 noted-most false at = omega arith
 
 -- a record that was found asks for points of at most 64 numbers
-numel-kind : (k d₁ d₂ : ℕ) (exps : List Float) → d₁ ≤ 32 → d₂ ≤ 32 → (three : Bool) → eqb k 3 ≡ three
-    → numelOf (record { kind = k; dim1 = d₁; dim2 = d₂; exps = exps }) ≤ 64
+numel-kind : (k d₁ d₂ rule : ℕ) (exps : List Float) → d₁ ≤ 32 → d₂ ≤ 32 → (three : Bool) → eqb k 3 ≡ three
+    → numelOf (record { kind = k; dim1 = d₁; dim2 = d₂; rule = rule; exps = exps }) ≤ 64
 unfolding numelOf
-numel-kind k d₁ d₂ exps h₁ h₂ true three = rw three (omega arith)
-numel-kind k d₁ d₂ exps h₁ h₂ false three = rw three (omega arith)
+numel-kind k d₁ d₂ rule exps h₁ h₂ true three = rw three (omega arith)
+numel-kind k d₁ d₂ rule exps h₁ h₂ false three = rw three (omega arith)
 
 pub numel-most : (e at : ℕ) (t : List ℕ) (r : Recorded) → laidAt e t ≡ true → r ≡ recordedOf e at (recordAt e t) → numelOf (r .cone) ≤ 64
 unfolding recordedOf coneOf
 numel-most e at t r laid is =
     let b = bounds (kindAt t) (dim1At t) (dim2At t) (flagAt e t) (found e t laid .shape) in
     rw (is, kind-of e t, dim1-of e t, dim2-of e t)
-    (numel-kind (kindAt t) (dim1At t) (dim2At t) _ (b .dim1) (b .dim2) (eqb (kindAt t) 3) refl)
+    (numel-kind (kindAt t) (dim1At t) (dim2At t) _ _ (b .dim1) (b .dim2) (eqb (kindAt t) 3) refl)
 
 -- ---- a trace that was judged; one that was refused has no records
 

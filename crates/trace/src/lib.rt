@@ -7,8 +7,8 @@ pub const STEP_MARK: u32 = 0x50455453;
 
 pub const BACK_MARK: u32 = 0x4b434142;
 
-// 02, Order 8: "new traces are edition 2"
-pub const NEWEST_EDITION: u32 = 2;
+// 02, Order 9: "New traces are edition 3"
+pub const NEWEST_EDITION: u32 = 3;
 
 // 02: "At most 4,096 records"
 pub const MOST_RECORDS: u32 = 4096;

@@ -19,13 +19,13 @@ dim1Of c = cond (eqb (c .kind) 3) (c .dim1) 3
 abbrev pub dim2Of : Cone → ℕ
 dim2Of c = cond (eqb (c .kind) 3) (c .dim2) 0
 
--- The numbers beside the vectors. 02, Order 9: a cone without a rule of its own is "under rule 1"
+-- The numbers beside the vectors
 unfoldable pub entryOf : Cone → ℕ → Settings → Steps → Entry
 entryOf c flag settings steps = record {
   kind = c .kind;
   dim1 = dim1Of c;
   dim2 = dim2Of c;
-  rule = 1;
+  rule = c .rule;
   start = toBits binary64 (settings .start);
   flag = flag;
   step = toBits binary64 (settings .step);

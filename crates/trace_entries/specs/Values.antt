@@ -15,6 +15,7 @@ Doubles xs = (i : ℕ) → T (fits binary64 (getD xs i nan))
 
 -- the arguments of `append` beside the lent slice are values of their types
 pub record Passed (c : Cone) (flag : ℕ) (settings : Settings) (dz ds z s : List Float) (steps : Steps) : Type 0 where
+  pub rule : c .rule < 2 ^ 32
   pub places : length (c .exps) ≡ 32
   pub exps : Doubles (c .exps)
   pub start : T (fits binary64 (settings .start))

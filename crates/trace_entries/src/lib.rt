@@ -91,7 +91,7 @@ fn entry_of(cone: Cone, flag: u32, settings: Settings, steps: Steps) -> Entry
         kind,
         dim1,
         dim2,
-        rule: 1,
+        rule: cone.rule,
         start,
         flag,
         step,

@@ -69,7 +69,7 @@ module _ (c : Cone) (flag : ℕ) (settings : Settings) (dz ds z s : List Float) 
       let p = can-lay e x (usedExps c) dz ds z s h in
       record {
         shape = p .shape;
-        ruled = no-rule-but-one e 1 (eqb e 3) refl (p .ruled);
+        ruled = no-rule-but-one e (c .rule) (eqb e 3) refl (p .ruled);
         exps = length-bitsOf (usedExps c) ∙ exponent-places (p .shape);
         settings =
             length-take-le (settingsIn flag) (toBits binary64 (settings .step) ∷ toBits binary64 (settings .smallest) ∷ [])
@@ -91,7 +91,7 @@ module _ (c : Cone) (flag : ℕ) (settings : Settings) (dz ds z s : List Float) 
   pub given-sized : Sized r
   unfolding recordOf entryOf
   given-sized = record {
-    rule = omega arith;
+    rule = omega (arith, passed .rule);
     exps = bits-below (usedExps c) (doubles-take (exponents (c .kind) (dim1Of c)) (c .exps) (passed .exps));
     start = omega (arith, pattern-lt (settings .start) (passed .start));
     settings = settings-below;

@@ -24,7 +24,7 @@ keptOf edition at c flag settings dz ds z s steps = record {
   code = 0;
   flag = flag;
   at = at;
-  cone = record { kind = c .kind; dim1 = dim1Of c; dim2 = dim2Of c; exps = padded 32 (usedExps c) };
+  cone = record { kind = c .kind; dim1 = dim1Of c; dim2 = dim2Of c; rule = c .rule; exps = padded 32 (usedExps c) };
   settings = cond (eqb flag 0) settings (defaultOf edition (settings .start));
   dz = padded 64 dz;
   ds = padded 64 ds;

@@ -1,14 +1,23 @@
 -- Each part of the record at the front of a row of bytes stands at its place. Assumes nothing.
-use mathlib.Core.Path.{_≡_, sym, ap, _∙_}
+use mathlib.Core.Path.{_≡_, refl, sym, ap, _∙_}
+use mathlib.Core.Bool.{cond}
 use mathlib.Core.List.{List}
-use Prim.Native.Nat.{ℕ, _+_, _*_, _-_}
+use Prim.Native.Nat.{ℕ, zero, suc, _+_, _*_, _-_}
 use native.Mathlib.Omega.{arith}
+use lib.Dec.{eqb}
 use lib.ListN.{take, drop, getD}
+use borrow.Author.Tests.{ne-eqb}
 use Rattle.words.specs.Words.{wordAt, rowOf}
 use Rattle.words.specs.Runs.{Run, runsSize}
-use Rattle.words.proofs.Runs.{number-at, row-at}
-use Rattle.trace_layout.specs.Records.{Record, rulesIn, exponents, settingsIn, runsFor, flagPlace, kindAt, dim1At, dim2At, flagAt}
-use Rattle.trace_layout.specs.Records.{runsAt, sizeAt, ofRows, recordAt}
+use Rattle.words.proofs.Runs.{word-behind, number-at, row-at}
+use Rattle.trace_layout.specs.Records.{Record, rulesIn, exponents, settingsIn, runsFor, flagPlace, kindAt, dim1At, dim2At, ruleAt}
+use Rattle.trace_layout.specs.Records.{flagAt, runsAt, sizeAt, ofRows, recordAt}
+
+-- the first number of a row, or 1
+first-of : (n : ℕ) (bs : List ℕ) → getD (rowOf 4 n bs) 0 1 ≡ cond (eqb n 0) 1 (wordAt 4 bs 0)
+unfolding rowOf wordAt
+first-of zero bs = refl
+first-of (suc n) bs = rw (ne-eqb (suc n) 0 (λ e. omega (arith, e)))
 
 module _ (e : ℕ) (t : List ℕ) where
   abbrev R : List Run
@@ -35,6 +44,14 @@ module _ (e : ℕ) (t : List ℕ) where
   pub dim2-of : r .dim2 ≡ dim2At t
   unfolding recordAt ofRows runsFor runsSize
   dim2-of = sym (number-at R t 4 0 (omega arith))
+
+  pub rule-of : r .rule ≡ ruleAt e t
+  unfolding recordAt ofRows runsFor runsSize ruleAt
+  rule-of =
+      let place : runsSize (take 5 R) ≡ 20 = omega arith in
+      ap (λ (rules : List ℕ). getD rules 0 1) (row-at R t 5 (omega arith) ∙ ap (λ (k : ℕ). rowOf 4 (rulesIn e) (drop k t)) place)
+      ∙ first-of (rulesIn e) (drop 20 t)
+      ∙ ap (cond (eqb (rulesIn e) 0) 1) (sym (word-behind 4 t 20 0))
 
   pub exps-of : r .exps ≡ rowOf 8 (exponents (kindAt t) (dim1At t)) (drop (20 + 4 * rulesIn e) t)
   unfolding recordAt ofRows runsFor runsSize

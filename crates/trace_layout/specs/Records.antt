@@ -132,6 +132,10 @@ dim1At t = wordAt 4 t 12
 abbrev pub dim2At : List ℕ → ℕ
 dim2At t = wordAt 4 t 16
 
+-- 02, Order 9: "with the rule (u32) after dim2"; "cones from editions 1 and 2 are under rule 1"
+unfoldable pub ruleAt : ℕ → List ℕ → ℕ
+ruleAt edition t = cond (eqb (rulesIn edition) 0) 1 (wordAt 4 t 20)
+
 unfoldable pub flagPlace : ℕ → ℕ → ℕ → ℕ
 flagPlace edition kind dim1 = 28 + 4 * rulesIn edition + 8 * exponents kind dim1
 

@@ -18,11 +18,11 @@ backMark = 0x4b434142
 abbrev pub mostRecords : ℕ
 mostRecords = 4096
 
--- 02, Order 8: "new traces are edition 2"
+-- 02, Order 9: "New traces are edition 3"
 abbrev pub newestEdition : ℕ
-newestEdition = 2
+newestEdition = 3
 
--- 02, Order 8: "another edition gives 9"
+-- 02, Order 8: "another edition gives 9"; Order 9: "edition 3 no longer gives 9"
 unfoldable pub known : ℕ → Bool
 known edition = leb 1 edition && leb edition newestEdition
 

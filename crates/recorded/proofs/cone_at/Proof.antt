@@ -1,4 +1,4 @@
--- `cone_at` meets its contract: the exponents stand behind the dims. Assumes nothing.
+-- `cone_at` meets its contract: the rule, in an edition that has it, and the exponents stand behind the dims. Assumes nothing.
 use Rattle.recorded.proofs.Assembled.{few-exponents, cone-read}
 use Rattle.recorded.specs.Recorded.{rowIn}
 use Rattle.trace_layout.proofs.Records.{rules-most}
@@ -29,12 +29,15 @@ row32-requires c κs =
 
 returns : tie.Need-returns
 returns c =
-    let a = c .before .before .before .before .before .args in
+    let exps = c .before in
+    let start = exps .before .before .before .before .before in
+    let a = start .args in
     let t = a .t .now in
-    cone-read (a .edition) t (a .shape) (c .before .before .before .before .before .pre .1) _
-    (c .row32 .ensures ∙ ap (λ (k : ℕ). rowIn 32 k (c .before .behind .result .now)) (c .before .before .before .exponents .ensures)
+    cone-read (a .edition) t (a .shape) (start .pre .1) _ _ (c .rule-at .ensures)
+    (exps .row32 .ensures
+    ∙ ap (λ (k : ℕ). rowIn 32 k (exps .before .behind .result .now)) (exps .before .before .before .exponents .ensures)
     ∙ ap (rowIn 32 (exponents (a .shape .kind) (a .shape .dim1)))
-    (c .before .behind .ensures ∙ ap (λ (k : ℕ). drop (20 + 4 * k) t) (c .before .before .rules-in .ensures)))
+    (exps .before .behind .ensures ∙ ap (λ (k : ℕ). drop (20 + 4 * k) t) (exps .before .before .rules-in .ensures)))
 
 pub cone-at-spec : {M : Type 1} → statement M
 cone-at-spec =
@@ -45,4 +48,5 @@ cone-at-spec =
     add-place
     (λ c κs. search needs)
     row32-requires
+    (λ c κs. search needs)
     returns)

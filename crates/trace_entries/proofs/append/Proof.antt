@@ -55,7 +55,8 @@ passed k =
     let steps = behind-cone .1 .1 .1 .1 .1 .1 .0 .1 .1 in
     record {
       places = exponent-array (started k);
-      exps = elements-fit (a .t3 .exps) _ (cone .1 .1 .1 .0 .1 .1);
+      rule = cone .1 .1 .1 .0 .1;
+      exps = elements-fit (a .t3 .exps) _ (cone .1 .1 .1 .1 .0 .1 .1);
       start = fits-true _ (settings .0 .1);
       step = fits-true _ (settings .1 .0 .1);
       smallest = fits-true _ (settings .1 .1 .0 .1);

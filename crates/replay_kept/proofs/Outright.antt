@@ -59,4 +59,5 @@ pub outright : Outright
 outright = record {
   first = λ bs old is. replayed-by bs old 1 _ is (same-told 1 _ (defaults-right .first));
   second = λ bs old is. replayed-by bs old 2 _ is (same-told 2 _ (defaults-right .second));
+  third = λ bs old is. replayed-by bs old 3 _ is (same-told 3 _ (defaults-right .third));
 }

@@ -1,6 +1,6 @@
 -- A search that was recorded as it was made replays the same. Assumes nothing.
 use mathlib.Core.Path.{_≡_, sym, ap, _∙_}
-use mathlib.Core.Bool.{true, cond}
+use mathlib.Core.Bool.{true, false, cond}
 use mathlib.Core.List.{List, [], _∷_, _++_}
 use Prim.Native.Nat.{ℕ, _+_, _≤_}
 use native.Mathlib.Omega.{arith}
@@ -11,18 +11,22 @@ use Rattle.cone.specs.declared.Cone.{Cone}
 use Rattle.cone.specs.declared.Settings.{Settings}
 use Rattle.cone.specs.declared.Steps.{Steps}
 use Rattle.cone.specs.Judges.{numelOf}
+use Rattle.cone.proofs.Lengths.{numel-at-most}
 use Rattle.search_entries.specs.Entries.{stepLengthOf}
 use Rattle.trace_layout.specs.Records.{Record, sizeIn}
 use Rattle.trace_entries.specs.Given.{givenOf}
 use Rattle.trace_entries.specs.Values.{Passed}
 use Rattle.recorded.specs.Defaults.{defaultOf}
+use Rattle.recorded.specs.Recorded.{padded, valuesOf, coneOf, settingsOf, stepsOf, recordedOf}
 use Rattle.trace_kept.specs.Kept.{keptOf, keptSteps}
 use Rattle.trace_kept.proofs.Appended.{append-done}
 use Rattle.trace_kept.proofs.Kept.{values-kept}
+use Rattle.rules.specs.Entries.{stepLength, call, codeOf}
+use Rattle.rules.proofs.Answers.{answers}
 use Rattle.rerun.specs.Rerun.{sameAnswers, blankPoint, rerunOf, agreesOf}
 use Rattle.replayed.specs.Replay.{sameRecord, noted, differing}
-use Rattle.replay_kept.specs.Replays.{Searched, ReplaysSame}
-use Rattle.replay_kept.proofs.Cones.{keptCone, Alike, take-padded, kept-alike, numel-few}
+use Rattle.replay_kept.specs.Replays.{Searched, ReplaysSame, NoRuleDiffers}
+use Rattle.replay_kept.proofs.Cones.{keptCone, Alike, take-padded, kept-alike}
 use Rattle.replay_kept.proofs.Again.{Taken, taken, other-cone, same-kept, blank-length}
 
 same-vectors : (k : Cone) (point : List Float) (how : Settings) (x : Steps) (dz′ ds′ z′ s′ dz ds z s : List Float)
@@ -46,7 +50,7 @@ module _ (e : ℕ) (c : Cone) (flag : ℕ) (settings : Settings) (dz ds z s : Li
   alike = kept-alike c (passed .places) (was .cone)
 
   few : numelOf k ≤ 64
-  few = omega (arith, alike .numel, numel-few c (was .cone))
+  few = omega (arith, alike .numel, numel-at-most c (was .cone))
 
   again : rerunOf (keptOf e 0 c flag settings dz ds z s steps) ≡ steps
   unfolding rerunOf keptOf
@@ -82,3 +86,18 @@ replays-same = record {
       ap (differing _ 0) (append-done c flag settings dz ds z s steps passed bs used bytes done .records)
       ∙ one-more _ 0 _ _ (searched-same _ c flag settings dz ds z s steps passed made);
 }
+
+-- ---- a rule that is none
+
+refused-differs : (a x : Steps) → a .code ≡ 1 → sameAnswers a x ≡ false
+unfolding sameAnswers
+refused-differs a x h = rw h
+
+pub no-rule-differs : NoRuleDiffers
+unfolding sameRecord agreesOf rerunOf recordedOf coneOf call codeOf
+no-rule-differs e r h =
+    let n = numelOf (coneOf r) in
+    let vector : List ℕ → List Float = λ ws. take n (padded 64 (valuesOf ws)) in
+    let point = take n blankPoint in
+    let search = stepLength (vector (r .dz)) (vector (r .ds)) (vector (r .z)) (vector (r .s)) point point (settingsOf e r) in
+    refused-differs _ (stepsOf r) (answers .another search (coneOf r) h)

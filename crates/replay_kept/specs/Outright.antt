@@ -62,3 +62,4 @@ pub record Outright : Type 0 where
   -- 0.8 in edition 1, as before Order 8
   pub first : (bs old : List ℕ) → editionAt bs ≡ 1 → replayOf bs old ≡ replayBy (sameTold (dec 8 1)) bs old
   pub second : (bs old : List ℕ) → editionAt bs ≡ 2 → replayOf bs old ≡ replayBy (sameTold (dec 5 1)) bs old
+  pub third : (bs old : List ℕ) → editionAt bs ≡ 3 → replayOf bs old ≡ replayBy (sameTold (dec 5 1)) bs old

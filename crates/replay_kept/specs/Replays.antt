@@ -1,7 +1,7 @@
 -- A search that was recorded as it was made replays the same. Statements; proofs/Replays has the proofs.
 use Prim.Native.Nat.{ℕ}
 use mathlib.Core.Path.{_≡_}
-use mathlib.Core.Bool.{true, cond}
+use mathlib.Core.Bool.{true, false, cond}
 use mathlib.Core.List.{List}
 use lib.Dec.{eqb}
 use lib.Ieee.{Float}
@@ -9,8 +9,10 @@ use lib.ListN.{take}
 use Rattle.cone.specs.declared.Cone.{Cone}
 use Rattle.cone.specs.declared.Settings.{Settings}
 use Rattle.cone.specs.declared.Steps.{Steps}
+use Rattle.cone.specs.Judges.{ruleOk}
 use Rattle.words.specs.Words.{AllBelow}
 use Rattle.search_entries.specs.Entries.{stepLengthOf}
+use Rattle.trace_layout.specs.Records.{Record}
 use Rattle.trace_layout.specs.Traces.{editionAt, recordsOf}
 use Rattle.trace_entries.specs.Given.{givenOf}
 use Rattle.trace_entries.specs.Writing.{appendOf}
@@ -40,3 +42,7 @@ pub record ReplaysSame : Type 0 where
       → appendOf bs used c flag settings dz ds z s steps .answer .code ≡ 0
       → differing (editionAt (take used bs)) 0 (recordsOf (traceIn (appendOf bs used c flag settings dz ds z s steps)))
       ≡ differing (editionAt (take used bs)) 0 (recordsOf (take used bs))
+
+-- 02, Order 9: a rule that is none "in a trace .. is no layout fault", and its search is refused: the record differs, whatever answers it holds
+abbrev pub NoRuleDiffers : Type 0
+NoRuleDiffers = (e : ℕ) (r : Record) → ruleOk (r .rule) ≡ false → sameRecord e r ≡ false

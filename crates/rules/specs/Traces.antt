@@ -1,0 +1,53 @@
+-- 02, Order 9: "New traces are edition 3, with the rule (u32) after dim2 ..; cones from editions 1 and 2 are under rule 1"; "in a trace it is no
+-- layout fault". What that says of an append. Statements; proofs/Traces has the proofs.
+use Prim.Native.Nat.{ℕ}
+use mathlib.Core.Path.{_≡_}
+use mathlib.Core.List.{List}
+use lib.ListN.{take}
+use Rattle.words.specs.Words.{AllBelow}
+use Rattle.trace_layout.specs.Traces.{countAt, editionAt}
+use Rattle.trace_entries.specs.Values.{Passed}
+use Rattle.recorded.specs.Recorded.{recordedIn}
+use Rattle.trace_kept.specs.Appended.{traceIn}
+use Rattle.trace_kept.specs.Made.{Call, called}
+use Rattle.rules.specs.Entries.{under}
+
+-- the call of `append` with its cone under a rule
+abbrev pub callUnder : ℕ → Call → Call
+callUnder rule a = record {
+  cone = under rule (a .cone);
+  flag = a .flag;
+  settings = a .settings;
+  dz = a .dz;
+  ds = a .ds;
+  z = a .z;
+  s = a .s;
+  steps = a .steps;
+}
+
+-- every argument is a value of its type
+abbrev pub PassedIn : Call → Type 0
+PassedIn a = Passed (a .cone) (a .flag) (a .settings) (a .dz) (a .ds) (a .z) (a .s) (a .steps)
+
+pub record Appends : Type 0 where
+  -- the cone that is read back carries the rule that was appended, in every edition
+  pub carried
+      : (bs : List ℕ) (used : ℕ) (a : Call)
+      → AllBelow 256 bs
+      → PassedIn a
+      → called bs used a .answer .code ≡ 0
+      → recordedIn (traceIn (called bs used a)) (countAt (take used bs)) .cone .rule ≡ a .cone .rule
+  -- a cone of another rule than 1 would not be read back from editions 1 and 2: 9, whatever else is wrong
+  pub refused
+      : (bs : List ℕ) (used : ℕ) (a : Call)
+      → (editionAt (take used bs) ≡ 3 → ⊥)
+      → (a .cone .rule ≡ 1 → ⊥)
+      → called bs used a .answer .code ≡ 9
+  -- in edition 3 an append has one answer under all rules, those that no cone may have included
+  pub any-rule
+      : (bs : List ℕ) (used : ℕ) (a : Call) (rule : ℕ)
+      → AllBelow 256 bs
+      → PassedIn a
+      → PassedIn (callUnder rule a)
+      → editionAt (take used bs) ≡ 3
+      → called bs used (callUnder rule a) .answer ≡ called bs used a .answer

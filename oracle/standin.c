@@ -33,14 +33,17 @@ static double abs_(double x) { return __builtin_fabs(x); }
 static double dot(const double *x, const double *y, size_t n) { double t = 0; for (size_t i = 0; i < n; i++) t = t + x[i] * y[i]; return t; }
 
 /* judging */
+/* document 02, Order 9: "must have a computed sum within 2^-50 of 1. Release 1 cones keep 2^-40. The cone carries its rule number, 1 or 2."; "another rule
+   number gives 1" */
 static bool bad_cone(const Cone *c)
 {
+    if (c->rule != 1 && c->rule != 2) return true;
     if (c->kind == 1) return false;
     if (c->kind == 2) return !(c->exps[0] > 0 && c->exps[0] < 1);
     if (c->kind != 3 || c->dim1 < 1 || c->dim1 > 32 || c->dim2 < 1 || c->dim2 > 32) return true;
     double t = 0;
     for (uint32_t i = 0; i < c->dim1; i++) { if (!(c->exps[i] > 0 && c->exps[i] <= 1)) return true; t += c->exps[i]; }
-    return !(abs_(t - 1) <= 0x1p-40);
+    return !(abs_(t - 1) <= (c->rule == 1 ? 0x1p-40 : 0x1p-50));
 }
 static size_t len(const Cone *c) { return c->kind == 3 ? c->dim1 + c->dim2 : 3; }
 static bool bad_record(const Scaling *k)

@@ -1,4 +1,4 @@
-/* The calls on traces a second time, in C, from the words of document 02's Orders 1, 2, 7 and 8 alone: tests/traces holds the library to it, and the Rust crate can be
+/* The calls on traces a second time, in C, from the words of document 02's Orders 1, 2, 7, 8 and 9 alone: tests/traces holds the library to it, and the Rust crate can be
    tested over it and standin.c on any machine (tools/rust-tests --standin). It shares nothing with the library but spindle.h. It goes the slow way: it reads
    every number of every record, one behind the other, and lays a new record out beside the trace before it asks for its length. */
 #include "spindle.h"
@@ -6,8 +6,8 @@
 
 #define MOST 4096     /* "At most 4,096 records" */
 #define TRAILER 20    /* "a 20-byte trailer" */
-#define NEWEST 2      /* Order 8: "new traces are edition 2" */
-#define LONGEST 2376  /* a record of kind 3 with both dims 32 and flag 0 */
+#define NEWEST 3      /* Order 9: "New traces are edition 3" */
+#define LONGEST 2380  /* a record of kind 3 with both dims 32 and flag 0, of edition 3 */
 
 /* The logic has one NaN (docs/DECISIONS.md): every NaN is read and written as this one. */
 static uint64_t bits_of(double x)
@@ -63,8 +63,10 @@ static size_t exponents(const Cone *c) { return c->kind == 3 ? c->dim1 : c->kind
 /* "a step is +0 or positive and finite" */
 static bool stepped(double x) { return !__builtin_signbit(x) && x - x == 0; }
 
-/* Order 8: "another edition gives 9" */
+/* Order 8: "another edition gives 9"; Order 9: "edition 3 no longer gives 9" */
 static bool known(uint32_t edition) { return edition - 1 < NEWEST; }
+/* Order 9: "edition 3, with the rule (u32) after dim2"; "cones from editions 1 and 2 are under rule 1" */
+static bool has_rule(uint32_t edition) { return edition >= 3; }
 
 static bool record(In *in, uint32_t edition, Recorded *r)
 {
@@ -76,13 +78,15 @@ static bool record(In *in, uint32_t edition, Recorded *r)
     r->cone.kind = (uint32_t)whole(in, 4);
     r->cone.dim1 = (uint32_t)whole(in, 4);
     r->cone.dim2 = (uint32_t)whole(in, 4);
+    r->cone.rule = has_rule(edition) ? (uint32_t)whole(in, 4) : 1; /* "in a trace it is no layout fault" */
     if (!shaped(&r->cone)) return false;
     size_t n = r->cone.dim1 + r->cone.dim2;
     row(in, r->cone.exps, exponents(&r->cone));
     row(in, &r->settings.start, 1);
     r->flag = (uint32_t)whole(in, 4);
     if (r->flag > 1) return false;
-    /* "1 means default settings; at 0 step and smallest step follow"; Order 8: "A trace of edition 1 means 0.8 by its flag; new traces .. mean 0.5" */
+    /* "1 means default settings; at 0 step and smallest step follow"; Order 8: "A trace of edition 1 means 0.8 by its flag; new traces .. mean 0.5"; Order 9:
+       "New traces are edition 3, with .. the default 0.5" */
     r->settings.step = edition == 1 ? 0.8 : 0.5;
     r->settings.smallest = 0.0001;
     if (r->flag == 0) {
@@ -170,6 +174,7 @@ Written spindle_trace_append(uint8_t *trace, size_t room, size_t used, Cone cone
         cone.dim1 = 3;
         cone.dim2 = 0;
     }
+    if (!has_rule(edition) && cone.rule != 1) return refused_9; /* it would be read back under rule 1 */
     if (!shaped(&cone) || flag > 1 || !stepped(steps.dual_step) || !stepped(steps.primal_step)) return refused_9;
     size_t n = cone.dim1 + cone.dim2;
     if (ndz != n || nds != n || nz != n || ns != n) return refused_9;
@@ -181,6 +186,7 @@ Written spindle_trace_append(uint8_t *trace, size_t room, size_t used, Cone cone
     put(&out, 4, cone.kind);
     put(&out, 4, cone.dim1);
     put(&out, 4, cone.dim2);
+    if (has_rule(edition)) put(&out, 4, cone.rule);
     put_row(&out, cone.exps, exponents(&cone));
     put_row(&out, &settings.start, 1);
     put(&out, 4, flag);

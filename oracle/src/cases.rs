@@ -4,6 +4,7 @@ use crate::aimed;
 use crate::cones::Oracle;
 use crate::expected::{cone_is_bad, expected, length_of};
 use crate::random::*;
+use crate::sums::{self, NO_RULES, TOLERANCES};
 use crate::types::*;
 
 // How often each entry is called, in the order of ENTRIES.
@@ -131,8 +132,6 @@ pub fn exponent(random: &mut Random) -> f64 {
     }
 }
 
-const TOLERANCE: f64 = 1.0 / 1099511627776.0;
-
 fn sum_of(exps: &[f64]) -> f64 {
     exps.iter().fold(0.0, |sum, &a| sum + a)
 }
@@ -164,11 +163,16 @@ fn exponents(random: &mut Random, exps: &mut [f64]) {
     }
 }
 
-// a sum at 1 - 2^-40 or 1 + 2^-40, on either side of it, or at 1
+// a sum at 1 - 2^-40, 1 + 2^-40, 1 - 2^-50 or 1 + 2^-50, on either side of it, or at 1; now and then one that depends on its order
 fn aim_sum(random: &mut Random, exps: &mut [f64]) {
     let n = exps.len();
     let beside = random.whole(-2, 2);
-    let target = nudged(random.pick(&[1.0, 1.0 - TOLERANCE, 1.0 + TOLERANCE]), beside);
+    let tolerance = random.pick(&TOLERANCES);
+    let target = nudged(random.pick(&[1.0, 1.0 - tolerance, 1.0 + tolerance]), beside);
+    if n > 2 && random.chance(25) {
+        sums::crumbled(exps, target, random.chance(50));
+        return;
+    }
     let largest = (0..n).fold(0, |best, i| if exps[i] > exps[best] { i } else { best });
     for _ in 0..20 {
         let sum = sum_of(exps);
@@ -191,7 +195,7 @@ fn dimension(random: &mut Random) -> u32 {
 }
 
 pub fn good_cone(random: &mut Random, kind: u32) -> Cone {
-    let mut cone = Cone { kind, ..Cone::ZERO };
+    let mut cone = Cone { kind, rule: 1 + random.below(2) as u32, ..Cone::ZERO };
     if kind == 3 {
         cone.dim1 = dimension(random);
         cone.dim2 = dimension(random);
@@ -767,8 +771,9 @@ fn put_flaw(random: &mut Random, call: &mut Call, number: usize) -> bool {
     match number {
         1 => {
             let cone = &mut call.record.cone;
-            match random.below(6) {
+            match random.below(8) {
                 0 | 1 => cone.kind = [0, 4, 5, 7, 256, u32::MAX][random.below(6)],
+                2 | 3 => cone.rule = NO_RULES[random.below(NO_RULES.len())],
                 _ if cone.kind == 1 => cone.kind = [0, 4][random.below(2)],
                 _ if cone.kind == 2 => {
                     cone.exps[0] = match random.below(4) {

@@ -10,6 +10,7 @@ use crate::paper;
 use crate::random::Random;
 use crate::rules;
 use crate::say;
+use crate::sums;
 use crate::types::*;
 use crate::vectors;
 use alloc::vec::Vec;
@@ -45,6 +46,7 @@ pub fn words(call: &Call, answer: &Answer, f: &mut dyn FnMut(&str, &str, usize, 
         f("record.", "kind", 0, record.cone.kind as u64);
         f("record.", "dim1", 0, record.cone.dim1 as u64);
         f("record.", "dim2", 0, record.cone.dim2 as u64);
+        f("record.", "rule", 0, record.cone.rule as u64);
         each("record.", "exps", &record.cone.exps, f);
         f("record.", "scaled", 0, record.scaled as u64);
         f("record.", "serial", 0, record.serial as u64);
@@ -212,6 +214,8 @@ fn say_call(call: &Call) {
         say::whole(cone.dim1 as u64);
         say::text(" dim2 ");
         say::whole(cone.dim2 as u64);
+        say::text(" rule ");
+        say::whole(cone.rule as u64);
         say::line("");
         for (i, &x) in cone.exps.iter().enumerate() {
             say_number("exps", i, x);
@@ -445,6 +449,9 @@ type Pairs = [[u64; NUMBERS]; NUMBERS];
 // Above the last number that a call can give; 8 and 9 are for the trace calls, which are not here.
 const NUMBERS: usize = 12;
 
+// by sum at a limit of a rule, rule, entry, and whether it was refused with 1
+type Limits = [[[[u64; 2]; 24]; 2]; sums::SUMS];
+
 // by side (primal first), kind and answer
 type Answers = [[[u64; 3]; 4]; 2];
 
@@ -478,21 +485,24 @@ pub extern "C" fn oracle_main(count: i32, words: *const *const u8) -> i32 {
     let mut tests = 0;
     let mut answers: Answers = [[[0; 3]; 4]; 2];
     let mut undecided = 0;
+    let mut limits: Limits = [[[[0; 2]; 24]; 2]; sums::SUMS];
     let started = unsafe { seconds() };
+    let rows = sums::rows();
+    for (i, call) in rows.iter().enumerate().filter(|(_, call)| options.entry.map_or(true, |entry| entry == call.entry)) {
+        let wanted = expected(call);
+        if !same(call, &wanted, &ported(call)) {
+            return different("row", i as u64, *call);
+        }
+        limits_of(&mut limits, call, &wanted);
+    }
     for i in 0..options.calls {
         let Case { call, flaws, .. } = case(&mut source(&options, i), options.entry);
         let wanted = expected(&call);
         let given = ported(&call);
         if !same(&call, &wanted, &given) {
-            say::text("DIFFERENT at call ");
-            say::whole(i);
-            say::line("");
-            say_difference(&call);
-            say::line("made smaller:");
-            say_difference(&shrunk(call));
-            say::flush();
-            return 1;
+            return different("call", i, call);
         }
+        limits_of(&mut limits, &call, &wanted);
         let kind = if call.record.cone.kind < 4 { call.record.cone.kind as usize } else { 0 };
         tally[call.entry as usize][kind][wanted.reply.code as usize] += 1;
         for a in 1..NUMBERS {
@@ -524,15 +534,46 @@ pub extern "C" fn oracle_main(count: i32, words: *const *const u8) -> i32 {
     }
     say_tally(&tally, &pairs, &rounds, tests);
     say_answers(&answers, undecided);
+    say_limits(&limits, options.entry);
     say::line("the oracle gives the documents' answers at the border points");
     say::text("same: ");
     say::whole(options.calls);
-    say::text(" calls, seed ");
+    say::text(" calls and ");
+    say::whole(rows.len() as u64);
+    say::text(" rows of both rules, seed ");
     say::whole(options.seed);
     say::text(", ");
     say::whole(unsafe { seconds() } - started);
     say::line(" s");
     0
+}
+
+// What a difference is told by: the call as it was, and made smaller.
+fn different(what: &str, at: u64, call: Call) -> i32 {
+    say::text("DIFFERENT at ");
+    say::text(what);
+    say::text(" ");
+    say::whole(at);
+    say::line("");
+    say_difference(&call);
+    say::line("made smaller:");
+    say_difference(&shrunk(call));
+    say::flush();
+    1
+}
+
+// Counts a call of kind 3 whose sum is at a limit; nothing but the sum can be wrong with its cone.
+fn limits_of(limits: &mut Limits, call: &Call, wanted: &Answer) {
+    let cone = &call.record.cone;
+    let Some(sum) = sums::at(cone) else { return };
+    let exps = &cone.exps[..cone.dim1 as usize];
+    if takes_kind_3(call.entry) && (1..=2).contains(&cone.rule) && (1..=32).contains(&cone.dim2) && exps.iter().all(|&a| a > 0.0 && a <= 1.0) {
+        limits[sum][cone.rule as usize - 1][call.entry as usize][(wanted.reply.code == 1) as usize] += 1;
+    }
+}
+
+fn takes_kind_3(entry: u32) -> bool {
+    !is_plain(entry) && entry != HIGHER_CORRECTION && entry != COMBINED_DS_SHIFT
 }
 
 fn say_tally(tally: &Tally, pairs: &Pairs, rounds: &[[u64; 101]; 2], tests: u32) {
@@ -598,4 +639,30 @@ fn say_answers(answers: &Answers, undecided: u64) {
     say::text("undecided trials of searches: ");
     say::whole(undecided);
     say::line("");
+}
+
+fn say_limits(limits: &Limits, only: Option<u32>) {
+    say::line("exponent sums at a limit      rule 1: taken  refused    rule 2: taken  refused    least of an entry that takes kind 3");
+    for (name, rules) in sums::NAMES.iter().zip(limits) {
+        say::text(name);
+        for _ in name.len()..27 {
+            say::text(" ");
+        }
+        let mut least = u64::MAX;
+        for entries in rules {
+            let mut all = [0; 2];
+            for (entry, counts) in entries.iter().enumerate() {
+                let entry = entry as u32;
+                all[0] += counts[0];
+                all[1] += counts[1];
+                if takes_kind_3(entry) && only.map_or(true, |only| only == entry) {
+                    least = least.min(counts[0] + counts[1]);
+                }
+            }
+            say::column(all[0], 16);
+            say::column(all[1], 9);
+        }
+        say::column(if least == u64::MAX { 0 } else { least }, 12);
+        say::line("");
+    }
 }

@@ -40,6 +40,10 @@ fn needed(cone: &Cone, lent: Lent) -> usize {
 
 // Row 1 of the table.
 pub fn cone_is_bad(cone: &Cone, entry: u32) -> bool {
+    // 02, Order 9: "another rule number gives 1", of every kind
+    if cone.rule == 0 || cone.rule > 2 {
+        return true;
+    }
     match cone.kind {
         1 => false,
         2 => !(cone.exps[0] > 0.0 && cone.exps[0] < 1.0),
@@ -58,7 +62,8 @@ pub fn cone_is_bad(cone: &Cone, entry: u32) -> bool {
             // near 1 the difference is exact, so the computed distance is the distance of the computed sum
             let sum = exps.sum();
             let distance = if sum < 1.0 { 1.0 - sum } else { sum - 1.0 };
-            distance > 1.0 / 1099511627776.0
+            // "within 2^-50 of 1. Release 1 cones keep 2^-40"
+            distance > if cone.rule == 1 { 1.0 / 1099511627776.0 } else { 1.0 / 1125899906842624.0 }
         }
         _ => true,
     }

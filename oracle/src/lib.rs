@@ -21,6 +21,7 @@ mod random;
 mod rules;
 mod say;
 mod solver;
+mod sums;
 mod types;
 mod vectors;
 mod verdict;

@@ -3,13 +3,17 @@
 
 use crate::expected::expected;
 use crate::say;
+use crate::sums;
 use crate::types::*;
 use crate::verdict::{UNDECIDED, YES};
 
 const HALF: f64 = 0.5;
 
+// The papers' rows name no rule: they have that of release 1.
+const RULE: u32 = 1;
+
 fn cone(kind: u32) -> Scaling {
-    let mut record = Scaling { cone: Cone { kind, ..Cone::ZERO }, ..Scaling::ZERO };
+    let mut record = Scaling { cone: Cone { kind, rule: RULE, ..Cone::ZERO }, ..Scaling::ZERO };
     if kind == 2 {
         record.cone.exps[0] = HALF;
     }
@@ -94,6 +98,10 @@ pub fn holds() -> bool {
             say::line(name);
             all = false;
         }
+    }
+    if !sums::holds() {
+        say::line("the oracle does not judge rules and exponent sums as document 02's Order 9 says");
+        all = false;
     }
     // omega of 1, in the text itself
     if crate::cones::expcone::wright_omega(1.0) != 1.0 {

@@ -8,6 +8,7 @@ pub struct Cone {
     pub kind: u32,
     pub dim1: u32,
     pub dim2: u32,
+    pub rule: u32,
     pub exps: [f64; 32],
 }
 
@@ -44,7 +45,7 @@ pub struct Scaling {
 }
 
 impl Cone {
-    pub const ZERO: Cone = Cone { kind: 0, dim1: 0, dim2: 0, exps: [0.0; 32] };
+    pub const ZERO: Cone = Cone { kind: 0, dim1: 0, dim2: 0, rule: 0, exps: [0.0; 32] };
 }
 
 impl Three {

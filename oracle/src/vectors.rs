@@ -1,7 +1,7 @@
 // The fixed list: calls of every entry, kind and number with the oracle's answers, as little-endian words of 64 bits that a program reads from its input.
 //
 //   the file    the number of records, then the records
-//   a record    its length in words after this one; entry; option; kind; dim1; dim2;
+//   a record    its length in words after this one; entry; option; kind; dim1; dim2; rule;
 //               n, then n exponents (the other places +0);
 //               scaled; serial; n, then the n used numbers of the record passed, in order (0 for an entry that takes a cone);
 //               n, then n plain numbers; n, then n slices, each its length and its numbers as lent;
@@ -17,6 +17,7 @@ use crate::expected::expected;
 use crate::paper;
 use crate::random::Random;
 use crate::say;
+use crate::sums;
 use crate::types::*;
 use alloc::vec::Vec;
 
@@ -102,7 +103,7 @@ fn record_of(call: &Call, answer: &Answer) -> Vec<u64> {
     let entry = entry_of(call);
     let cone = &call.record.cone;
     let mut words = Vec::new();
-    words.extend([call.entry as u64, call.option as u64, cone.kind as u64, cone.dim1 as u64, cone.dim2 as u64]);
+    words.extend([call.entry as u64, call.option as u64, cone.kind as u64, cone.dim1 as u64, cone.dim2 as u64, cone.rule as u64]);
     list(&mut words, &cone.exps[..exponents(cone)]);
     record_list(&mut words, &call.record, entry.takes_record);
     list(&mut words, &call.numbers[..entry.numbers.len()]);
@@ -138,7 +139,7 @@ const ANSWERED: u32 = 6;
 // A record above this many words is rare, so that the list stays small.
 const LONG: usize = 90;
 
-// The list's calls with their answers, border points first: a choice of the first calls, or all of so many.
+// The list's calls with their answers, border points and the limits of both rules first: a choice of the first calls, or all of so many.
 pub fn chosen(seed: u64, all: Option<u64>) -> Vec<(Call, Answer)> {
     let mut held = [[[0u32; 12]; 4]; 24];
     let mut long = [[[0u32; 12]; 4]; 24];
@@ -148,6 +149,9 @@ pub fn chosen(seed: u64, all: Option<u64>) -> Vec<(Call, Answer)> {
     let mut list: Vec<(Call, Answer)> = Vec::new();
     for i in 0..paper::ROWS {
         let call = plain(paper::row(i).1);
+        list.push((call, expected(&call)));
+    }
+    for call in sums::rows().into_iter().filter(sums::listed).map(plain) {
         list.push((call, expected(&call)));
     }
     for i in 0..all.unwrap_or(400_000) {

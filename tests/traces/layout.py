@@ -1,5 +1,5 @@
 #!/usr/bin/env python3
-"""A second reading and writing of traces, made from the words of document 02's Orders 1, 7 and 8 alone, to hold libspindle.a to.
+"""A second reading and writing of traces, made from the words of document 02's Orders 1, 7, 8 and 9 alone, to hold libspindle.a to.
 
 usage: layout.py rows FILE      writes FILE, some hundred rows of calls for `traces play`, and prints what it must print
        layout.py strings FILE   writes FILE, byte strings for `traces judge`, and prints what it must print of each of them, and of small traces also
@@ -15,9 +15,13 @@ import sys
 MOST = 4096
 NAN = 0x7FF8000000000000
 INFINITE = 0x7FF0000000000000
-NEWEST = 2
+NEWEST = 3
 # step and smallest step by default, of each edition that is known
-DEFAULTS = {1: [0x3FE999999999999A, 0x3F1A36E2EB1C432D], 2: [0x3FE0000000000000, 0x3F1A36E2EB1C432D]}
+DEFAULTS = {
+    1: [0x3FE999999999999A, 0x3F1A36E2EB1C432D], 2: [0x3FE0000000000000, 0x3F1A36E2EB1C432D], 3: [0x3FE0000000000000, 0x3F1A36E2EB1C432D],
+}
+# the editions whose records have the rule after dim2; cones of the others are under rule 1
+RULED = {3}
 
 
 def value(pattern):
@@ -66,6 +70,7 @@ def read_record(data, place, end, edition):
     mark, size, kind, dim1, dim2 = take("4s4I")
     if mark != b"STEP" or not shape_ok(kind, dim1, dim2):
         raise Broken
+    rule = take("I")[0] if edition in RULED else 1
     *numbers, flag = take("%dQI" % (exponents(kind, dim1) + 1))
     if flag > 1:
         raise Broken
@@ -74,7 +79,7 @@ def read_record(data, place, end, edition):
     dual_step, dual_count, primal_step, primal_count = take("QIQI")
     if at - place != size or not step_ok(dual_step) or not step_ok(primal_step):
         raise Broken
-    return [kind, dim1, dim2, flag, *map(value, numbers), dual_step, dual_count, primal_step, primal_count], at
+    return [kind, dim1, dim2, rule, flag, *map(value, numbers), dual_step, dual_count, primal_step, primal_count], at
 
 
 def judge(data):
@@ -101,9 +106,9 @@ def judge(data):
 
 def rescued(data):
     """The words that `traces judge` must print behind that line: records kept, bytes dropped, whether the data is a trace, its edition, and the whole output;
-    or 9. The caller names an edition of 0 to 3."""
+    or 9. The caller names an edition of 0 to 4."""
     right, records, place = judge(data) != "9", [], 0
-    edition = sum(data) % 4
+    edition = sum(data) % 5
     if data[-4:] == b"BACK" and len(data) >= 8 and struct.unpack("<I", data[-8:-4])[0] in DEFAULTS:
         edition = data[-8]
     if edition not in DEFAULTS:
@@ -123,9 +128,11 @@ def rescued(data):
     return "%d %d %d %d %d %s" % (count, dropped, right, saved[-8], len(saved), told(saved + b"\xa5" * 8))
 
 
-def record_bytes(call):
-    """The record of a call, or none where it cannot be laid out."""
-    kind, dim1, dim2 = call["kind"], call["dim1"], call["dim2"]
+def record_bytes(call, edition):
+    """The record of a call in a trace of the edition, or none where it cannot be laid out."""
+    kind, dim1, dim2, rule = call["kind"], call["dim1"], call["dim2"], call["rule"]
+    if edition not in RULED and rule != 1:
+        return None
     if kind in (1, 2):
         dim1, dim2 = 3, 0
     n = dim1 + dim2
@@ -135,7 +142,7 @@ def record_bytes(call):
     if not step_ok(value(dual_step)) or not step_ok(value(primal_step)):
         return None
     start, *others = map(value, call["settings"])
-    body = struct.pack("<3I", kind, dim1, dim2)
+    body = struct.pack("<3I", kind, dim1, dim2) + (struct.pack("<I", rule) if edition in RULED else b"")
     for pattern in call["exps"][: exponents(kind, dim1)]:
         body += struct.pack("<Q", value(pattern))
     body += struct.pack("<QI", start, call["flag"])
@@ -173,9 +180,9 @@ def step(rng):
     return rng.choice(ODD) if rng.random() < 0.1 else rng.getrandbits(63) % INFINITE
 
 
-def made_call(rng, kind, dim1, dim2, flag, lengths, steps):
+def made_call(rng, kind, dim1, dim2, rule, flag, lengths, steps):
     return {
-        "kind": kind, "dim1": dim1, "dim2": dim2, "flag": flag, "exps": [pattern(rng) for _ in range(32)],
+        "kind": kind, "dim1": dim1, "dim2": dim2, "rule": rule, "flag": flag, "exps": [pattern(rng) for _ in range(32)],
         "settings": [pattern(rng) for _ in range(3)], "rows": [[pattern(rng) for _ in range(m)] for m in lengths], "steps": steps,
     }
 
@@ -187,25 +194,26 @@ def some_call(rng):
     n = dim1 + dim2 if kind == 3 and dim1 + dim2 <= 64 else 3
     lengths = [n + rng.choice([-1, 1]) if rng.random() < 0.02 else n for _ in range(4)]
     flag = rng.choice([2, 256, 2**32 - 1]) if rng.random() < 0.04 else rng.choice([0, 1])
-    return made_call(rng, kind, dim1, dim2, flag, lengths, [step(rng), rng.getrandbits(32), step(rng), rng.getrandbits(32)])
+    rule = rng.choice([0, 2, 3, 257, 2**31, 2**32 - 1]) if rng.random() < 0.2 else 1
+    return made_call(rng, kind, dim1, dim2, rule, flag, lengths, [step(rng), rng.getrandbits(32), step(rng), rng.getrandbits(32)])
 
 
-def played(room, row):
-    """The line that `traces play` must print of a row of calls."""
+def played(room, edition, row):
+    """The line that `traces play` must print of a row of calls on a trace that was created, and then made one of the edition."""
     buffer = bytearray(b"\xa5" * room)
     if room < 20:
         return "8 0" + " 9 0" * len(row) + " " + told(buffer)
-    records, line = [], ["0 20"]
-    buffer[:20] = trace_bytes([])
+    records, line = [], ["0 20 %d" % NEWEST]
+    buffer[:20] = trace_bytes([], edition)
     for used, call in row:
-        record = record_bytes(call)
+        record = record_bytes(call, edition)
         if used is not None and used != len(trace_bytes(records)) or record is None:
             line.append("9 0")
         elif len(records) == MOST or len(trace_bytes(records + [record])) > room:
             line.append("8 0")
         else:
             records.append(record)
-            grown = trace_bytes(records)
+            grown = trace_bytes(records, edition)
             buffer[: len(grown)] = grown
             line.append("0 %d" % len(grown))
     return " ".join(line) + " " + told(buffer)
@@ -214,34 +222,38 @@ def played(room, row):
 def rows(path):
     rng = random.Random(1)
     with open(path, "wb") as out:
-        for _ in range(600):
+        for _ in range(900):
             room = rng.choice([0, 19, 20, 187, 196, 400, 1000, 4000, 9000])
+            edition = rng.choice(sorted(DEFAULTS))
             row = [(rng.choice([0, 19, 21, 2**63, 2**64 - 2]) if rng.random() < 0.05 else None, some_call(rng)) for _ in range(rng.randrange(6))]
-            words = [room, len(row)]
+            words = [room, edition, len(row)]
             for used, call in row:
-                words += [2**64 - 1 if used is None else used, call["kind"], call["dim1"], call["dim2"], *call["exps"], call["flag"], *call["settings"]]
+                words += [2**64 - 1 if used is None else used, call["kind"], call["dim1"], call["dim2"], call["rule"], *call["exps"], call["flag"]]
+                words += call["settings"]
                 for numbers in call["rows"]:
                     words += [len(numbers), *numbers]
                 words += call["steps"]
             out.write(struct.pack("<%dQ" % len(words), *words))
-            print(played(room, row))
+            print(played(room, edition, row))
 
 
 # ---- byte strings
 
 
-def one_record(rng, kind, dim1, dim2, flag):
+def one_record(rng, edition, kind, dim1, dim2, rule, flag):
     n = dim1 + dim2 if kind == 3 else 3
-    return record_bytes(made_call(rng, kind, dim1, dim2, flag, [n] * 4, [rng.getrandbits(63) % INFINITE, rng.getrandbits(32), 0, 4]))
+    return record_bytes(made_call(rng, kind, dim1, dim2, rule, flag, [n] * 4, [rng.getrandbits(63) % INFINITE, rng.getrandbits(32), 0, 4]), edition)
 
 
 def small_traces(rng):
-    """Traces of the three kinds, both flags and both editions, to be changed in every byte, and trailers that no one-byte change of theirs is near."""
-    first, second, third, fourth = (one_record(rng, *shape) for shape in ((1, 0, 0, 1), (2, 9, 9, 0), (3, 1, 1, 1), (3, 2, 1, 0)))
-    yield trace_bytes([])
-    yield trace_bytes([first, third])
-    yield trace_bytes([first, third], 1)
-    yield trace_bytes([second, fourth])
+    """Traces of the three kinds, both flags and the three editions, to be changed in every byte, and trailers that no one-byte change of theirs is near."""
+    for edition in sorted(DEFAULTS):
+        rules = (1, 2, 2, 1) if edition in RULED else (1, 1, 1, 1)
+        shapes = ((1, 0, 0, rules[0], 1), (2, 9, 9, rules[1], 0), (3, 1, 1, rules[2], 1), (3, 2, 1, rules[3], 0))
+        first, second, third, fourth = (one_record(rng, edition, *shape) for shape in shapes)
+        yield trace_bytes([], edition)
+        yield trace_bytes([first, third], edition)
+        yield trace_bytes([second, fourth], edition)
     # trailers whose numbers make the length only where a sum wraps, or point nowhere
     yield struct.pack("<QII4s", 2**64 - 8, 1, 1, b"BACK")
     yield struct.pack("<QII4s", 2**64 - 8 * 4096, 4096, 1, b"BACK")
@@ -253,23 +265,40 @@ def small_traces(rng):
 
 def near_traces(rng):
     """What more than one byte keeps from a trace, and traces at a limit."""
-    one, two = one_record(rng, 1, 0, 0, 0), one_record(rng, 3, 32, 32, 1)
-    yield trace_bytes([two, one])
+    for edition in sorted(DEFAULTS):
+        yield from near_traces_of(rng, edition)
+    # a rule is no layout fault, whatever it is
+    for rule in (0, 1, 2, 3, 255, 256, 257, 2**16, 2**31, 2**32 - 1, 0x50455453):
+        yield trace_bytes([one_record(rng, 3, kind, 2, 1, rule, flag) for kind in (1, 2, 3) for flag in (0, 1)], 3)
+    # records of one layout in a trace of the other
+    for edition in sorted(DEFAULTS):
+        for other in sorted(DEFAULTS):
+            records = [one_record(rng, edition, kind, 1, 1, 1, flag) for kind in (1, 2, 3) for flag in (0, 1)]
+            yield trace_bytes(records, other)
+            yield trace_bytes(records, other)[:-1]
+            for r in records:
+                yield trace_bytes([r], other)
+
+
+def near_traces_of(rng, edition):
+    one, two = one_record(rng, edition, 1, 0, 0, 1, 0), one_record(rng, edition, 3, 32, 32, 1, 1)
+    yield trace_bytes([two, one], edition)
     for stray in (b"\0", b"\0" * 8, b"STEP", one[:-8], one):
-        yield closed(stray, [])
-        yield closed(stray + one, [len(stray)])
-        yield closed(one + stray, [0])
-        yield closed(one + stray + two, [0, len(one) + len(stray)])
+        yield closed(stray, [], edition)
+        yield closed(stray + one, [len(stray)], edition)
+        yield closed(one + stray, [0], edition)
+        yield closed(one + stray + two, [0, len(one) + len(stray)], edition)
     for offsets in ([len(one), 0], [0, 0], [0], [len(one)], [0, len(one), len(one) + len(two)], [0, len(one), 0]):
-        yield closed(one + two, offsets)
+        yield closed(one + two, offsets, edition)
     for pattern in ODD + [INFINITE - 1, 2**63 - 1, 2**64 - 1, 1 << 63 | 1]:
         for behind in (24, 12):
             at = len(one) - behind
-            yield closed(one[:at] + struct.pack("<Q", pattern) + one[at + 8 :], [0])
+            yield closed(one[:at] + struct.pack("<Q", pattern) + one[at + 8 :], [0], edition)
     for kind, dim1, dim2 in ((3, 3, 0), (3, 0, 3), (3, 33, 1), (3, 1, 33), (1, 1, 2), (2, 3, 1), (2, 2, 1), (0, 3, 0), (4, 3, 0)):
         n = dim1 + dim2
-        body = struct.pack("<3I", kind, dim1, dim2) + bytes(8 * exponents(max(kind, 1), dim1)) + bytes(8) + struct.pack("<I", 1) + bytes(32 * n + 24)
-        yield closed(b"STEP" + struct.pack("<I", len(body) + 8) + body, [0])
+        head = struct.pack("<3I", kind, dim1, dim2) + (struct.pack("<I", 1) if edition in RULED else b"")
+        body = head + bytes(8 * exponents(max(kind, 1), dim1)) + bytes(8) + struct.pack("<I", 1) + bytes(32 * n + 24)
+        yield closed(b"STEP" + struct.pack("<I", len(body) + 8) + body, [0], edition)
 
 
 def print_both(data):

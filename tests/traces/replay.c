@@ -1,7 +1,8 @@
 /* Replay through include/spindle.h, over libspindle.a or over oracle/traces.c and oracle/standin.c. See run.
    replay calls          searches of the three kinds recorded and replayed, in a trace of each edition: all the same; each changed step or count differs, at its
-                         offset alone; what a search refuses differs; what a library before 0.6.0 answered to a trial that is undecided
-                         now; the other edition's default step; no room, bytes that are no trace, and places that must not move
+                         offset alone; what a search refuses differs, a rule that is none too; what a library before 0.6.0 answered to a trial that
+                         is undecided now; the other edition's default step, and its layout; no room, bytes that are no trace, and places that must
+                         not move
    replay files FOLDER   writes traces there for the program replay, each beside the text that it must print
    Exit status 1: something did not hold; 2: bad usage, or a file cannot be written. */
 #include <inttypes.h>
@@ -60,21 +61,76 @@ static int same_with(uint32_t i, double step)
     return s.code == 0 && s.dual_step == k.steps.dual_step && s.dual_count == k.steps.dual_count && s.primal_step == k.steps.primal_step
            && s.primal_count == k.steps.primal_count;
 }
-/* the same records in a trace of the other edition: those differ whose search by default had the other step */
+/* the same records in a trace of another edition: of 1 and 2 those differ whose search by default had the other step; edition 3 has another layout */
 static void other_edition(uint32_t edition)
 {
     uint64_t those[RECORDS];
     uint32_t differ = 0;
     memcpy(changed, bytes, used);
-    changed[used - 8] = (uint8_t)(3 - edition);
     for (uint32_t i = 0; i < RECORDS; i++) {
         expect(same_with(i, edition == 1 ? 0.8 : 0.5), "the edition's own step, passed outright");
         if (!same_with(i, edition == 1 ? 0.5 : 0.8)) those[differ++] = begins[i];
     }
-    expect(differ > 0 && finds(those, differ), "another edition has another default step");
-    for (uint32_t unknown = 0; unknown < 256; unknown++) {
-        changed[used - 8] = (uint8_t)unknown;
-        if (unknown < 1 || unknown > NEWEST) expect(refused(used, PLACES, 9), "another edition");
+    for (uint32_t other = 0; other < 256; other++) {
+        changed[used - 8] = (uint8_t)other;
+        if (other == edition) expect(finds(0, 0), "its own edition");
+        else if (other >= 1 && other < 3 && edition < 3) expect(differ > 0 && finds(those, differ), "another edition has another default step");
+        else expect(refused(used, PLACES, 9), "another edition, or one of another layout");
+    }
+}
+/* the rule of a record of edition 3, 20 bytes behind its begin: 1 and 2 replay the same, every other differs, whatever answers it holds */
+static void other_rule(void)
+{
+    static const uint32_t rules[] = {0, 1, 2, 3, 255, 256, 257, 258, 65536, 65537, 1u << 31, UINT32_MAX};
+    for (size_t i = 0; i < RECORDS; i++)
+        for (size_t k = 0; k < sizeof rules / sizeof *rules; k++) {
+            memcpy(changed, bytes, used);
+            memcpy(changed + begins[i] + 20, &rules[k], 4); /* little-endian as the machine */
+            uint64_t here = begins[i];
+            if (rules[k] == 1 || rules[k] == 2) expect(finds(0, 0), "either rule: the same");
+            else {
+                expect(finds(&here, 1), "no rule: the record differs");
+                memset(changed + begins[i + 1] - 24, 0, 24);
+                expect(finds(&here, 1), "no rule: zeros do not agree with a refusal's");
+            }
+        }
+}
+/* a search of a generalized cone of this sum, recorded under rule 1 and then under rule 2: whether it was done, and replays the same */
+static void sum_at(double sum, bool first, bool second)
+{
+    Cone cone = {3, 2, 1, SPINDLE_RULE_1, {0.5, sum - 0.5}};
+    double z[3] = {1, 1, 0.25}, s[3] = {1, 1, 0.25}, dz[3] = {-1, 0, 1}, ds[3] = {0, -1, 2}, dual[3], primal[3];
+    Steps steps = {0, 1, 1, 1, 1};
+    size_t begin = 0;
+    used = spindle_trace_create(changed, sizeof changed).length;
+    for (uint32_t rule = 1; rule <= 2; rule++) {
+        cone.rule = rule;
+        Steps now = spindle_step_length(cone, dz, 3, ds, 3, z, 3, s, 3, dual, 3, primal, 3, spindle_house_settings(1.0));
+        expect(now.code == ((rule == 1 ? first : second) ? 0 : 1), "a sum at a limit");
+        if (now.code == 0) steps = now;
+        Written w = spindle_trace_append(changed, sizeof changed, used, cone, 1, spindle_house_settings(1.0), dz, 3, ds, 3, z, 3, s, 3, steps);
+        expect(w.code == 0, "an append of it");
+        if (rule == 1) begin = w.length - 28;
+        used = w.length;
+    }
+    uint64_t those[2];
+    uint32_t differ = 0;
+    if (!first) those[differ++] = 0;
+    if (!second) those[differ++] = begin;
+    fill();
+    Replayed r = spindle_replay(changed, used, at, PLACES);
+    expect(r.code == 0 && r.records == 2 && r.differ == differ && r.same == 2 - differ && !memcmp(at, those, 8 * differ) && untouched(differ),
+           "a sum at a limit, replayed under both rules");
+}
+static void sums(void)
+{
+    static const double far = 0x1p-40, near = 0x1p-50;
+    sum_at(1, true, true);
+    for (int side = -1; side <= 1; side += 2) {
+        sum_at(1 + side * near, true, true);
+        sum_at(nextafter(1 + side * near, 1 + side), true, false);
+        sum_at(1 + side * far, true, false);
+        sum_at(nextafter(1 + side * far, 1 + side), false, false);
     }
 }
 
@@ -100,17 +156,20 @@ static void calls(uint32_t edition)
     /* kind 2 out of range, a start that is NaN, a vector that is not finite, a smallest step of 0: each is refused by its search */
     memcpy(changed, bytes, used);
     double wrong[4] = {1.5, NAN, INFINITY, 0};
-    memcpy(changed + begins[1] + 20, &wrong[0], 8);
-    memcpy(changed + begins[3] + 20, &wrong[1], 8);
-    memcpy(changed + begins[5] + 48, &wrong[2], 8);
-    memcpy(changed + begins[6] + 40, &wrong[3], 8);
+    size_t behind = rule_bytes(edition);
+    memcpy(changed + begins[1] + behind + 20, &wrong[0], 8);
+    memcpy(changed + begins[3] + behind + 20, &wrong[1], 8);
+    memcpy(changed + begins[5] + behind + 48, &wrong[2], 8);
+    memcpy(changed + begins[6] + behind + 40, &wrong[3], 8);
     uint64_t those[4] = {begins[1], begins[3], begins[5], begins[6]};
     expect(finds(those, 4), "what a search refuses differs");
     for (size_t places = 0; places < 4; places++) expect(refused(used, places, 8), "no room for the offsets");
     fill();
     expect(spindle_replay(changed, used, at, 4).differ == 4 && !memcmp(at, those, sizeof those) && untouched(4), "just room for the offsets");
 
+    if (edition >= 3) other_rule();
     size_t all = used;
+    sums();
     record_old_and_new();
     fill();
     Replayed old = spindle_replay(changed, used, at, PLACES);
@@ -140,6 +199,10 @@ static void files(const char *folder)
     snprintf(text, sizeof text, "records %d\nsame %d\ndiffer 0\n", RECORDS, RECORDS);
     record_all(1);
     pair(folder, "edition-1", bytes, used, text);
+    record_all(2);
+    pair(folder, "edition-2", bytes, used, text);
+    bytes[used - 8] = 3; /* their layout is another */
+    pair(folder, "edition-2-as-3", bytes, used, "refused 9\n");
     record_all(NEWEST);
     pair(folder, "same", bytes, used, text);
     memcpy(changed, bytes, used);
@@ -147,6 +210,12 @@ static void files(const char *folder)
     changed[begins[RECORDS] - 24] ^= 1;
     snprintf(text, sizeof text, "records %d\nsame %d\ndiffer 2\nat %zu\nat %zu\n", RECORDS, RECORDS - 2, begins[2], begins[RECORDS - 1]);
     pair(folder, "two-differ", changed, used, text);
+    /* rule 2 turned into rule 1 replays the same, into rule 3 it differs */
+    memcpy(changed, bytes, used);
+    changed[begins[8] + 20] = 1;
+    changed[begins[9] + 20] = 3;
+    snprintf(text, sizeof text, "records %d\nsame %d\ndiffer 1\nat %zu\n", RECORDS, RECORDS - 1, begins[9]);
+    pair(folder, "other-rules", changed, used, text);
     pair(folder, "cut", bytes, used - 1, "refused 9\n");
     pair(folder, "none", bytes, 0, "refused 9\n");
     memset(changed, 0, sizeof changed);
@@ -159,7 +228,7 @@ static void files(const char *folder)
     /* as many records as 65,536 bytes have room for, the largest trace that the program takes */
     uint32_t count = 0;
     for (begins[0] = 0, used = spindle_trace_create(bytes, 65536).length;; count++) {
-        Cone cone = {3, 1, 1, {1.0}};
+        Cone cone = {3, 1, 1, SPINDLE_RULE_2, {1.0}};
         double x[2] = {0, 0};
         Written w = spindle_trace_append(bytes, 65536, used, cone, 1, spindle_house_settings(1.0), x, 2, x, 2, x, 2, x, 2, (Steps){0, 0, 0, 0, 0});
         if (w.code) break;

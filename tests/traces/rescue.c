@@ -5,7 +5,7 @@
    Exit status 1: something did not hold; 2: bad usage, or a file cannot be written. */
 #include "searches.h"
 
-enum { CANARY = 0xA5, MOST = 4096, SMALL = 128 /* a record of kind 3 with both dims 1 and flag 1 */ };
+enum { CANARY = 0xA5, MOST = 4096, SMALL = 132 /* a record of kind 3 with both dims 1 and flag 1, in edition 3; 4 less in the others */ };
 static uint8_t output[MOST * (SMALL + 8) + 40], again[sizeof output], many[(MOST + 1) * SMALL];
 
 static int untouched(const uint8_t *from, size_t n)
@@ -46,6 +46,7 @@ static uint32_t whole(size_t n)
 }
 
 static uint32_t edition_of(const uint8_t *trace, size_t n) { return spindle_trace_open(trace, n).edition; }
+static bool alike(uint32_t a, uint32_t b) { return rule_bytes(a) == rule_bytes(b); } /* the layouts of two editions */
 
 static void calls(uint32_t edition)
 {
@@ -64,19 +65,22 @@ static void calls(uint32_t edition)
             bool unknown = given < 1 || given > NEWEST;
             if (n == used) expect(rescues(bytes, n, given, kept, begins[kept], true) && !memcmp(output, bytes, used), "a good trace keeps its edition");
             else if (unknown) expect(refused(bytes, n, length, given, 9) && refused(bytes, n, 0, given, 9), "another edition");
-            else expect(rescues(bytes, n, given, kept, begins[kept], false) && edition_of(output, length) == given, "the caller's edition");
+            else if (alike(given, edition)) expect(rescues(bytes, n, given, kept, begins[kept], false) && edition_of(output, length) == given, "the caller's edition");
+            else expect(rescues(bytes, n, given, 0, 0, false) && edition_of(output, 20) == given, "the caller's edition has another layout: nothing is kept");
         }
         expect(n == used || refused(bytes, n, length, UINT32_MAX, 9), "the largest number for an edition");
     }
     /* list and trailer broken: all records are kept, and the very same trace comes out. Before the last eight bytes its edition is still there, whatever the
-       caller names; in them it is the caller's, but where the edition turns into the other one, which is a good trace */
+       caller names; in them it is the caller's, but where the edition turns into another one: that is a good trace, or its records have another layout */
     memcpy(changed, bytes, used);
     for (size_t i = begins[RECORDS]; i < used; i++)
         for (int by = 1; by < 256; by++) {
             changed[i] ^= (uint8_t)by;
-            if (i == used - 8 && changed[i] == 3 - edition)
-                expect(rescues(changed, used, edition, RECORDS, begins[RECORDS], true) && !memcmp(output, changed, used), "the other edition");
-            else
+            if (i == used - 8 && changed[i] >= 1 && changed[i] <= NEWEST) {
+                if (alike(changed[i], edition))
+                    expect(rescues(changed, used, edition, RECORDS, begins[RECORDS], true) && !memcmp(output, changed, used), "the other edition");
+                else expect(rescues(changed, used, edition, 0, 0, false) && edition_of(output, 20) == changed[i], "an edition of another layout");
+            } else
                 expect(rescues(changed, used, i < used - 8 ? 0 : edition, RECORDS, begins[RECORDS], false) && !memcmp(output, bytes, used),
                        "a changed byte of list or trailer");
             changed[i] ^= (uint8_t)by;
@@ -86,7 +90,8 @@ static void calls(uint32_t edition)
     memcpy(again + 30, bytes + used - 8, 8);
     for (size_t from = 0; from <= 30; from++) {
         memcpy(changed + used, again + from, 38 - from);
-        expect(rescues(changed + used, 38 - from, 3 - edition, 0, 0, false) && edition_of(output, 20) == edition, "an edition and BACK alone");
+        for (uint32_t given = 0; given <= NEWEST; given++)
+            expect(rescues(changed + used, 38 - from, given, 0, 0, false) && edition_of(output, 20) == edition, "an edition and BACK alone");
     }
     expect(refused(again + 31, 7, 20, 0, 9), "seven bytes");
     /* the last records were lost, and power came back: what follows the first bad record is not searched, whole records neither */
@@ -97,22 +102,31 @@ static void calls(uint32_t edition)
     }
     memcpy(changed + used, bytes, used);
     expect(rescues(changed, 2 * used, 0, RECORDS, begins[RECORDS], false), "a trace and bytes behind it");
+    /* any rule is kept as it is */
+    if (edition >= 3) {
+        uint32_t rule = 0x42415053;
+        memcpy(changed + begins[4] + 20, &rule, 4);
+        expect(rescues(changed, used, 0, RECORDS, begins[RECORDS], true) && !memcmp(output, changed, used), "a rule that is none, in a good trace");
+        expect(rescues(changed, used - 1, edition, RECORDS, begins[RECORDS], false) && !memcmp(output, changed, used), "a rule that is none, in a cut one");
+    }
     /* bits of a NaN are bytes as others are */
     for (size_t i = 0; i < 8; i++) changed[begins[2] - 100 + i] = (uint8_t)(0xF0 + i);
     expect(rescues(changed, used, 0, RECORDS, begins[RECORDS], true) && !memcmp(output, changed, used), "a NaN of any bits, in a good trace");
     expect(rescues(changed, used - 1, edition, RECORDS, begins[RECORDS], false) && !memcmp(output, changed, used), "a NaN of any bits, in a cut one");
 
     /* the limit */
-    Cone cone = {3, 1, 1, {1.0}};
+    Cone cone = {3, 1, 1, SPINDLE_RULE_1, {1.0}};
     double x[2] = {0, 0};
+    size_t small = SMALL - 4 + rule_bytes(edition);
     used = spindle_trace_create(bytes, sizeof bytes).length;
+    bytes[used - 8] = (uint8_t)edition;
     used = spindle_trace_append(bytes, sizeof bytes, used, cone, 1, spindle_house_settings(1.0), x, 2, x, 2, x, 2, x, 2, (Steps){0, 0, 0, 0, 0}).length;
-    expect(used == SMALL + 28, "the length of a small record");
-    for (size_t i = 0; i <= MOST; i++) memcpy(many + i * SMALL, bytes, SMALL);
+    expect(used == small + 28, "the length of a small record");
+    for (size_t i = 0; i <= MOST; i++) memcpy(many + i * small, bytes, small);
     for (size_t n = MOST - 1; n <= MOST + 1; n++) {
         uint32_t kept = n < MOST ? (uint32_t)n : MOST;
-        expect(rescues(many, n * SMALL, edition, kept, kept * SMALL, false), "4,095 to 4,097 records");
-        expect(settled(kept * (SMALL + 8) + 20, kept), "4,095 to 4,097 records, rescued again");
+        expect(rescues(many, n * small, edition, kept, kept * small, false), "4,095 to 4,097 records");
+        expect(settled(kept * (small + 8) + 20, kept), "4,095 to 4,097 records, rescued again");
     }
 }
 
@@ -129,6 +143,14 @@ static void all_of(const char *folder, const char *name, const uint8_t *input, s
 static void files(const char *folder)
 {
     char name[40], text[80];
+    /* traces of the older editions, cut: the program has to be told theirs, and keeps nothing by the newest one's layout */
+    for (uint32_t edition = 1; edition < NEWEST; edition++) {
+        record_all(edition);
+        snprintf(name, sizeof name, "edition-%u", (unsigned)edition);
+        all_of(folder, name, bytes, 400, "kept 0\ndropped 400\nrebuilt\n");
+        Rescued r = spindle_rescue(bytes, 400, output, sizeof output, edition);
+        keep(folder, name, "kept", output, r.length);
+    }
     record_all(NEWEST);
     /* one record of each kind */
     memset(changed, 0, sizeof changed);

@@ -19,14 +19,19 @@ static void expect(int ok, const char *what)
 
 /* ---- a trace of searches that were made */
 
-/* what flag 1 means in a trace of the edition: in the newest what callers get who pass no settings, in edition 1 what they got before Order 8 */
-static Settings by_default(uint32_t edition) { return edition == NEWEST ? spindle_house_settings(1.0) : (Settings){1.0, 0.8, 0.0001}; }
+/* what flag 1 means in a trace of the edition: in edition 1 what callers got who passed no settings before Order 8, later what they get now */
+static Settings by_default(uint32_t edition) { return edition == 1 ? (Settings){1.0, 0.8, 0.0001} : spindle_house_settings(1.0); }
 
-static const Cone cones[3] = {{1, 0, 0, {0}}, {2, 0, 0, {0.3}}, {3, 2, 3, {0.25, 0.75}}};
+/* how many bytes stand between a record's dim2 and its exponents: edition 3 has the rule there */
+static size_t rule_bytes(uint32_t edition) { return edition < 3 ? 0 : 4; }
 
+static const Cone cones[3] = {{1, 0, 0, SPINDLE_RULE_1, {0}}, {2, 0, 0, SPINDLE_RULE_1, {0.3}}, {3, 2, 3, SPINDLE_RULE_1, {0.25, 0.75}}};
+
+/* of the three kinds in turn, three told their settings and three by default; where the edition keeps it, the second six are under rule 2 */
 static void record(uint32_t edition, size_t i)
 {
     Cone cone = cones[i % 3];
+    if (edition >= 3 && i >= 6) cone.rule = SPINDLE_RULE_2;
     size_t n = cone.kind == 3 ? 5 : 3;
     double z[5], s[5], dz[5], ds[5], dual[5], primal[5];
     expect(spindle_unit_initialization(cone, z, n, s, n) == 0, "a starting point");

@@ -60,16 +60,19 @@ static int untouched(size_t from)
     return 1;
 }
 
-static double default_step = 0.5; /* of the edition at hand */
+static uint32_t edition_now = SPINDLE_NEWEST_EDITION; /* of the trace at hand */
+static double default_step(void) { return edition_now == 1 ? 0.8 : 0.5; }
+static uint32_t rule_of(const Cone *cone) { return edition_now < 3 ? 1 : cone->rule; }
 
 static void read_back(uint32_t i, size_t at, const Cone *cone, uint32_t flag, const Settings *settings, size_t n, const Steps *steps)
 {
     Recorded r = spindle_trace_record(trace, used, i);
     expect(r.code == 0 && r.flag == flag && r.at == at && r.cone.kind == cone->kind, "a record's head");
     expect(r.cone.dim1 == (cone->kind == 3 ? cone->dim1 : 3) && r.cone.dim2 == (cone->kind == 3 ? cone->dim2 : 0), "a record's dims");
+    expect(r.cone.rule == rule_of(cone), "a record's rule");
     expect(same(r.cone.exps, cone->exps, exponents(cone)), "a record's exponents");
     expect(bits(r.settings.start) == bits(settings->start), "a record's start");
-    expect(bits(r.settings.step) == bits(flag ? default_step : settings->step), "a record's step setting");
+    expect(bits(r.settings.step) == bits(flag ? default_step() : settings->step), "a record's step setting");
     expect(bits(r.settings.smallest) == bits(flag ? 0.0001 : settings->smallest), "a record's smallest step");
     expect(same(r.dz, dz, n) && same(r.ds, ds, n) && same(r.z, z, n) && same(r.s, s, n), "a record's vectors");
     expect(padded(&r), "places that the kind does not use");
@@ -77,7 +80,7 @@ static void read_back(uint32_t i, size_t at, const Cone *cone, uint32_t flag, co
     expect(bits(r.steps.dual_step) == bits(steps->dual_step) && bits(r.steps.primal_step) == bits(steps->primal_step), "a record's steps");
 }
 
-static const Cone cones[3] = {{1, 7, 9, {0}}, {2, 0, 0, {0.3, 4.0}}, {3, 2, 3, {0.25, 0.75, 9.0}}};
+static const Cone cones[3] = {{1, 7, 9, 1, {0}}, {2, 0, 0, 1, {0.3, 4.0}}, {3, 2, 3, 1, {0.25, 0.75, 9.0}}};
 static const Settings settings = {1.0, 0.7, 1e-5};
 static const Steps steps[3] = {{99, 1, 2, 0.8, 0.0}, {0, 3, 4, 5e-324, 1.5}, {0, UINT32_MAX, 0, 1.7976931348623157e308, 0.64}};
 
@@ -101,7 +104,7 @@ static void written_and_read(void)
         s[i] = i == 2 ? -0.0 : 3.25 - i;
     }
     const uint32_t flags[6] = {0, 1, 0, 1, 0, 1};
-    const size_t numbers[3] = {3, 3, 5}, sizes[6] = {168, 160, 248, 152, 176, 232};
+    const size_t numbers[3] = {3, 3, 5}, sizes[6] = {172, 164, 252, 156, 180, 236};
     size_t at[6], where = 0;
     for (int k = 0; k < 6; k++) {
         w = append(cones[k % 3], flags[k], settings, numbers[k % 3], steps[k % 3]);
@@ -112,9 +115,10 @@ static void written_and_read(void)
         for (int j = 0; j <= k; j++) read_back(j, at[j], &cones[j % 3], flags[j], &settings, numbers[j % 3], &steps[j % 3]);
     }
     Opened o = spindle_trace_open(trace, used);
-    expect(o.code == 0 && o.edition == 2 && o.records == 6, "open");
+    expect(o.code == 0 && o.edition == 3 && o.records == 6, "open");
     Recorded none = spindle_trace_record(trace, used, 6);
     expect(none.code == 9 && none.at == 0 && none.flag == 0 && none.cone.kind == 0 && none.cone.dim1 == 0 && none.cone.dim2 == 0, "no record 6");
+    expect(none.cone.rule == 0, "no record 6: no rule");
     expect(padded(&none) && zeros(&none.settings.start, 3), "no record 6: zeros");
     expect(none.steps.dual_count == 0 && none.steps.primal_count == 0 && zeros(&none.steps.dual_step, 2), "no record 6: no steps");
     expect(spindle_trace_record(trace, used, UINT32_MAX).code == 9, "no record of the largest number");
@@ -123,32 +127,71 @@ static void written_and_read(void)
     expect(!memcmp(lent, old, sizeof lent), "reading changes nothing");
 }
 
-/* a trace of edition 1 stays one: flag 1 means its 0.8 there, whatever is handed in beside it; another edition is 9 */
-static void old_edition(void)
+/* a trace keeps its edition: in edition 1 flag 1 means its 0.8, whatever is handed in beside it; another edition is 9 */
+static void every_edition(void)
 {
-    used = spindle_trace_create(trace, ROOM).length;
-    expect(trace[12] == 2 && !trace[13] && !trace[14] && !trace[15], "a new trace is of edition 2");
-    for (uint32_t edition = 0; edition < 256; edition++) {
-        trace[12] = (uint8_t)edition;
-        Opened o = spindle_trace_open(trace, used);
-        if (edition == 1 || edition == 2) expect(o.code == 0 && o.edition == edition, "an edition that is known");
-        else {
-            memcpy(old, lent, sizeof lent);
-            expect(o.code == 9 && o.edition == 0, "another edition");
-            refused(append(cones[0], 1, settings, 3, steps[0]), 9, "append to another edition");
+    for (edition_now = 1; edition_now <= SPINDLE_NEWEST_EDITION; edition_now++) {
+        used = spindle_trace_create(trace, ROOM).length;
+        expect(trace[12] == 3 && !trace[13] && !trace[14] && !trace[15], "a new trace is of edition 3");
+        for (uint32_t edition = 0; edition < 256; edition++) {
+            trace[12] = (uint8_t)edition;
+            Opened o = spindle_trace_open(trace, used);
+            if (edition >= 1 && edition <= 3) expect(o.code == 0 && o.edition == edition, "an edition that is known");
+            else {
+                memcpy(old, lent, sizeof lent);
+                expect(o.code == 9 && o.edition == 0, "another edition");
+                refused(append(cones[0], 1, settings, 3, steps[0]), 9, "append to another edition");
+            }
+        }
+        trace[12] = (uint8_t)edition_now;
+        for (uint32_t k = 0; k < 6; k++) {
+            size_t at = used - 20 - 8 * k, n = k % 3 == 2 ? 5 : 3;
+            Written w = append(cones[k % 3], k % 2, settings, n, steps[k % 3]);
+            used = w.length;
+            Opened o = spindle_trace_open(trace, used);
+            expect(w.code == 0 && o.code == 0 && o.edition == edition_now && o.records == k + 1, "append keeps the edition");
+            read_back(k, at, &cones[k % 3], k % 2, &settings, n, &steps[k % 3]);
         }
     }
-    trace[12] = 1;
-    default_step = 0.8;
-    for (uint32_t k = 0; k < 6; k++) {
-        size_t at = used - 20 - 8 * k, n = k % 3 == 2 ? 5 : 3;
-        Written w = append(cones[k % 3], k % 2, settings, n, steps[k % 3]);
-        used = w.length;
-        Opened o = spindle_trace_open(trace, used);
-        expect(w.code == 0 && o.code == 0 && o.edition == 1 && o.records == k + 1, "append keeps edition 1");
-        read_back(k, at, &cones[k % 3], k % 2, &settings, n, &steps[k % 3]);
-    }
-    default_step = 0.5;
+    edition_now = SPINDLE_NEWEST_EDITION;
+}
+
+/* any rule can be kept in a trace of edition 3, and comes back; in one of edition 1 or 2 rule 1 alone, all others are 9, and no byte moves */
+static void every_rule(void)
+{
+    static const uint32_t rules[] = {1, 2, 0, 3, 255, 256, 257, 65536, 65537, 1u << 31, UINT32_MAX - 1, UINT32_MAX};
+    enum { RULES = sizeof rules / sizeof *rules };
+    for (edition_now = 1; edition_now <= SPINDLE_NEWEST_EDITION; edition_now++)
+        for (int kind = 0; kind < 3; kind++)
+            for (uint32_t flag = 0; flag < 2; flag++) {
+                size_t n = kind == 2 ? 5 : 3, at[RULES];
+                memset(lent, CANARY, sizeof lent);
+                used = spindle_trace_create(trace, ROOM).length;
+                trace[12] = (uint8_t)edition_now;
+                uint32_t kept = 0;
+                for (int i = 0; i < RULES; i++) {
+                    Cone c = cones[kind];
+                    c.rule = rules[i];
+                    memcpy(old, lent, sizeof lent);
+                    Written w = append(c, flag, settings, n, steps[kind]);
+                    if (edition_now < 3 && rules[i] != 1) {
+                        refused(w, 9, "a rule that the edition has no place for");
+                        refused(spindle_trace_append(trace, used, used, c, flag, settings, dz, n, ds, n, z, n, s, n, steps[kind]), 9, "such a rule before no room");
+                        continue;
+                    }
+                    expect(w.code == 0 && untouched(w.length), "a rule that the edition has a place for");
+                    at[kept] = used - 20 - 8 * kept;
+                    used = w.length;
+                    kept++;
+                }
+                expect(kept == (edition_now < 3 ? 1 : RULES), "all rules in edition 3, one in the others");
+                for (uint32_t i = 0; i < kept; i++) {
+                    Cone c = cones[kind];
+                    c.rule = rules[i];
+                    read_back(i, at[i], &c, flag, &settings, n, &steps[kind]);
+                }
+            }
+    edition_now = SPINDLE_NEWEST_EDITION;
 }
 
 static void refusals(void)
@@ -193,7 +236,7 @@ static void refusals(void)
     for (int i = 0; i < 8; i++) {
         refused(spindle_trace_append(trace, ROOM, lengths[i], cones[0], 0, settings, dz, 3, ds, 3, z, 3, s, 3, steps[0]), 9, "another length than the trace's");
     }
-    size_t need = used + 168 + 8;
+    size_t need = used + 172 + 8;
     refused(spindle_trace_append(trace, used - 1, used, cones[0], 0, settings, dz, 3, ds, 3, z, 3, s, 3, steps[0]), 9, "used above the slice");
     refused(spindle_trace_append(trace, used, used, cones[0], 2, settings, dz, 3, ds, 3, z, 3, s, 3, steps[0]), 9, "9 before 8");
     for (size_t room = used; room < need; room++) {
@@ -223,7 +266,7 @@ static size_t many(uint8_t *to, const uint8_t *record, size_t size, uint32_t cou
         memcpy(to + count * size + 8 * i, &at, 8); /* little-endian as the machine */
     }
     uint64_t list = count * size;
-    uint32_t edition = 2;
+    uint32_t edition = SPINDLE_NEWEST_EDITION;
     uint8_t *trailer = to + (size + 8) * count;
     memcpy(trailer, &list, 8);
     memcpy(trailer + 8, &count, 4);
@@ -236,7 +279,7 @@ static void the_limit(void)
 {
     used = spindle_trace_create(trace, ROOM).length;
     Written w = append(cones[1], 1, settings, 3, steps[1]);
-    const size_t size = 160, room = 4100 * (size + 8);
+    const size_t size = 164, room = 4100 * (size + 8);
     uint8_t *big = malloc(room), *before = malloc(room);
     expect(w.code == 0 && w.length == size + 28, "one record");
     memset(big, CANARY, room);
@@ -284,7 +327,8 @@ static uint64_t more_row(uint64_t told, const double *row, size_t n)
     return told;
 }
 
-/* A row is the room and its calls; of each: used (all ones for the trace's own length), cone, flag, settings, four lengths and vectors, steps. */
+/* A row is the room, the edition that the trace gets once it is created, and the calls; of each: used (all ones for the trace's own length), cone, flag,
+   settings, four lengths and vectors, steps. */
 static void play(void)
 {
     uint64_t room;
@@ -294,12 +338,18 @@ static void play(void)
         Written w = spindle_trace_create(b, room);
         uint64_t length = w.length;
         printf("%" PRIu32 " %" PRIu64, w.code, w.length);
+        uint32_t edition = (uint32_t)next();
+        if (w.code == 0) {
+            printf(" %" PRIu32, spindle_trace_open(b, w.length).edition);
+            memcpy(b + 12, &edition, 4); /* the empty trace is its trailer: list, count, edition, BACK */
+        }
         for (uint64_t left = next(); left; left--) {
             uint64_t front = next();
             Cone c;
             c.kind = (uint32_t)next();
             c.dim1 = (uint32_t)next();
             c.dim2 = (uint32_t)next();
+            c.rule = (uint32_t)next();
             for (int i = 0; i < 32; i++) c.exps[i] = number();
             uint32_t flag = (uint32_t)next();
             Settings t;
@@ -341,7 +391,7 @@ static void judge(const uint8_t *bytes, size_t n)
     for (uint32_t i = 0; i < o.records; i++) {
         Recorded r = spindle_trace_record(bytes, n, i);
         size_t m = r.cone.dim1 + r.cone.dim2;
-        uint64_t told = more(more(more(more(0, r.cone.kind), r.cone.dim1), r.cone.dim2), r.flag);
+        uint64_t told = more(more(more(more(more(0, r.cone.kind), r.cone.dim1), r.cone.dim2), r.cone.rule), r.flag);
         told = more_row(more_row(told, r.cone.exps, exponents(&r.cone)), &r.settings.start, 3);
         told = more_row(more_row(more_row(more_row(told, r.dz, m), r.ds, m), r.z, m), r.s, m);
         told = more(more(told, bits(r.steps.dual_step)), r.steps.dual_count);
@@ -350,14 +400,14 @@ static void judge(const uint8_t *bytes, size_t n)
     }
     printf("%s", spindle_trace_record(bytes, n, o.records).code == 9 ? "" : " (one record more than there are)");
 }
-/* what a rescue of the bytes reports and leaves, its caller naming the edition that their sum modulo 4 is, and that a byte less of room is refused */
+/* what a rescue of the bytes reports and leaves, its caller naming the edition that their sum modulo 5 is, and that a byte less of room is refused */
 static void save(const uint8_t *bytes, size_t n)
 {
     static uint8_t output[8192];
     memset(output, CANARY, sizeof output);
     uint32_t given = 0;
     for (size_t i = 0; i < n; i++) given += bytes[i];
-    given %= 4;
+    given %= 5;
     Rescued r = spindle_rescue(bytes, n, output, sizeof output, given);
     if (r.code == 9) {
         int left = r.kept == 0 && r.dropped == 0 && r.length == 0 && !r.right;
@@ -408,9 +458,9 @@ static double seconds(clock_t from) { return (double)(clock() - from) / CLOCKS_P
 
 static void fill(void)
 {
-    Cone c = {3, 32, 32, {0}};
+    Cone c = {3, 32, 32, SPINDLE_RULE_2, {0}};
     for (int i = 0; i < 32; i++) c.exps[i] = 1.0 / 32;
-    const size_t room = MOST * (size_t)2384 + 20;
+    const size_t room = MOST * (size_t)2388 + 20;
     uint8_t *b = malloc(room);
     size_t n = spindle_trace_create(b, room).length;
     clock_t from = clock();
@@ -425,7 +475,7 @@ static void fill(void)
     double opened = seconds(from);
     from = clock();
     long wrong = 0;
-    for (uint32_t i = 0; i < records; i++) wrong += spindle_trace_record(b, n, i).at != i * (uint64_t)2376;
+    for (uint32_t i = 0; i < records; i++) wrong += spindle_trace_record(b, n, i).at != i * (uint64_t)2380;
     double read = seconds(from);
     expect(records == MOST && n == room && wrong == 0, "a full trace");
     printf("full: %" PRIu32 " records of 64 numbers, %zu bytes: appended one by one in %.3f s, ", records, n, filled);
@@ -445,7 +495,7 @@ enum { STACK = 1 << 17, CALLS = 5 };
 static uint8_t painted[STACK] __attribute__((aligned(64)));
 static ucontext_t outside, inside;
 static int chosen;
-static const Cone widest = {3, 32, 32, {0}};
+static const Cone widest = {3, 32, 32, SPINDLE_RULE_2, {0}};
 static Written written;
 static Opened opened;
 
@@ -493,7 +543,8 @@ int main(int argc, char **argv)
         written_and_read();
         refusals();
         the_limit();
-        old_edition();
+        every_edition();
+        every_rule();
         printf("%ld\n", checks);
         return failures != 0;
     }

@@ -86,10 +86,11 @@ static size_t whole(size_t low, size_t high) { return low + next() % (high - low
 
 /* ---- cones and points */
 
-/* Exponents are 1024ths that sum to exactly 1, so that both rules on the sum hold, document 01's and the text's own. */
+/* Exponents are 1024ths that sum to exactly 1, so that every rule on the sum holds: document 02's two, and the text's own. All cones of the plan are under
+   rule 1, as they were before there were two; the rule costs a comparison. */
 static Cone generalized(size_t dim1, size_t dim2)
 {
-    Cone cone = { .kind = 3, .dim1 = (uint32_t)dim1, .dim2 = (uint32_t)dim2 };
+    Cone cone = { .kind = 3, .dim1 = (uint32_t)dim1, .dim2 = (uint32_t)dim2, .rule = SPINDLE_RULE_1 };
     unsigned parts[32];
     for (size_t i = 0; i < dim1; i++) parts[i] = 1024 / dim1;
     parts[0] += 1024 % dim1;
@@ -102,6 +103,9 @@ static Cone generalized(size_t dim1, size_t dim2)
     for (size_t i = 0; i < dim1; i++) cone.exps[i] = parts[i] / 1024.0;
     return cone;
 }
+
+static const Cone exponential = { .kind = 1, .rule = SPINDLE_RULE_1 };
+static Cone power(double exponent) { return (Cone) { .kind = 2, .rule = SPINDLE_RULE_1, .exps = { exponent } }; }
 
 static size_t numel(const Cone *cone) { return cone->kind == 3 ? cone->dim1 + cone->dim2 : 3; }
 static size_t head(const Cone *cone) { return cone->kind == 3 ? cone->dim1 : cone->kind == 2 ? 2 : 0; }
@@ -469,8 +473,8 @@ static void sizes(int rounds, int runs)
         char name[40];
         size_t n = row < 2 ? 3 : numels[row - 2];
         for (size_t i = 0; i < 50; i++) {
-            if (row == 0) cones[i] = (Cone) { .kind = 1 };
-            else if (row == 1) cones[i] = (Cone) { .kind = 2, .exps = { between(0.1, 0.9) } };
+            if (row == 0) cones[i] = exponential;
+            else if (row == 1) cones[i] = power(between(0.1, 0.9));
             else cones[i] = generalized(n / 2, n / 2);
         }
         snprintf(name, sizeof name, row == 0 ? "exponential" : row == 1 ? "power" : "generalized, %zu numbers", n);
@@ -502,7 +506,7 @@ static void direction(const Cone *cone, const double *q, unsigned tests, double 
 static void searches(void)
 {
     static const unsigned tests[] = { 1, 2, 5, 10, 20, 40, 42 };
-    Cone cones[4] = { { .kind = 1 }, { .kind = 2, .exps = { 0.5 } }, generalized(8, 8), generalized(32, 32) };
+    Cone cones[4] = { exponential, power(0.5), generalized(8, 8), generalized(32, 32) };
     static const char *const names[] = { "exponential", "power", "generalized, 16 numbers", "generalized, 64 numbers" };
     Plan p = planned(cones, 4);
     void *rust[2] = { rust_made(0, &p.in), rust_made(1, &p.in) };
@@ -576,7 +580,7 @@ static void stacks(void)
     printf("\nBytes of structs by value: Cone %zu, Settings %zu, Scaling %zu, Updated %zu, DualGrad %zu, Steps %zu, Found %zu\n", sizeof(Cone), sizeof(Settings),
            sizeof(Scaling), sizeof(Updated), sizeof(DualGrad), sizeof(Steps), sizeof(Found));
     printf("\nStack bytes of a call, with its arguments and its answer    3 numbers   64 numbers\n");
-    Cone cones[2] = { { .kind = 2, .exps = { 0.5 } }, generalized(32, 32) };
+    Cone cones[2] = { power(0.5), generalized(32, 32) };
     size_t bytes[2][ENTRIES];
     for (int c = 0; c < 2; c++) {
         Plan p = planned(&cones[c], 1);
@@ -628,8 +632,8 @@ int main(int count, char **words)
     Cone cones[900];
     size_t numbers = 0;
     for (size_t i = 0; i < 900; i++) {
-        if (i % 3 == 0) cones[i] = (Cone) { .kind = 1 };
-        else if (i % 3 == 1) cones[i] = (Cone) { .kind = 2, .exps = { between(0.1, 0.9) } };
+        if (i % 3 == 0) cones[i] = exponential;
+        else if (i % 3 == 1) cones[i] = power(between(0.1, 0.9));
         else {
             size_t dim1 = whole(2, 32), dim2 = whole(2, 32);
             cones[i] = generalized(dim1, dim2);

@@ -16,7 +16,7 @@ static void say(const char *who, Steps steps) {
 }
 
 int main(void) {
-    Cone cone = {.kind = SPINDLE_EXPONENTIAL};
+    Cone cone = {.kind = SPINDLE_EXPONENTIAL, .rule = SPINDLE_RULE_1}; /* the drain is of release 1 */
     double inside[3], z[3], outside[3] = {0, -1, 1}, still[3] = {0, 0, 0};
     double dz[3] = {0.5, -2.0, 0.25}, ds[3] = {0.25, -4.0, 0.5}, dual_point[3], primal_point[3];
     uint32_t code = spindle_unit_initialization(cone, z, 3, inside, 3);

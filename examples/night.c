@@ -29,9 +29,9 @@ static int write_file(const char *name, size_t used) {
 
 static int plan(const char *name) {
     Cone cones[CONES] = {
-        {.kind = SPINDLE_EXPONENTIAL},
-        {.kind = SPINDLE_POWER, .exps = {0.5}},
-        {.kind = SPINDLE_GENERALIZED, .dim1 = 2, .dim2 = 2, .exps = {0.25, 0.75}},
+        {.kind = SPINDLE_EXPONENTIAL, .rule = SPINDLE_RULE_2},
+        {.kind = SPINDLE_POWER, .rule = SPINDLE_RULE_2, .exps = {0.5}},
+        {.kind = SPINDLE_GENERALIZED, .dim1 = 2, .dim2 = 2, .rule = SPINDLE_RULE_2, .exps = {0.25, 0.75}},
     };
     size_t n[CONES] = {3, 3, 4};
     double z[CONES][4], s[CONES][4];

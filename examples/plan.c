@@ -1,5 +1,5 @@
 /* One cone's work in a round of a plan, from C: make a record, scale it, take the Hessian block of this very scaling, search a step, test a point, keep the
-   search in a trace, and see a refusal.
+   search in a trace, and see refusals.
    Built and run by `sh build.sh`; on x86-64 also by
 
        cc -Iinclude examples/plan.c target/staticlib/libspindle.a && ./a.out */
@@ -15,7 +15,7 @@ static void row(const char *what, const double *x, size_t n) {
 }
 
 int main(void) {
-    Cone cone = {.kind = SPINDLE_EXPONENTIAL}; /* places that a kind does not use may hold anything */
+    Cone cone = {.kind = SPINDLE_EXPONENTIAL, .rule = SPINDLE_RULE_2}; /* places that a kind does not use may hold anything; every kind names its rule */
     Updated fresh = spindle_fresh(cone);
     say("fresh", fresh.code);
 
@@ -63,6 +63,13 @@ int main(void) {
     say("get_hs, never scaled", spindle_get_hs(fresh.record, serial, kept, 6));
     row("  block =", kept, 6);
     say("get_hs, five places", spindle_get_hs(scaled.record, serial, kept, 5));
+
+    /* exponents that sum to 1 + 2^-45: rule 1 takes them, rule 2 does not, and a cone that names no rule is refused whatever it holds */
+    Cone wide = {.kind = SPINDLE_GENERALIZED, .dim1 = 2, .dim2 = 1, .rule = SPINDLE_RULE_1, .exps = {0.25, 0.75 + 0x1p-45}};
+    say("fresh under rule 1", spindle_fresh(wide).code);
+    wide.rule = SPINDLE_RULE_2;
+    say("fresh under rule 2", spindle_fresh(wide).code);
+    say("fresh, no rule named", spindle_fresh((Cone){.kind = SPINDLE_EXPONENTIAL}).code);
 
     /* the next round has the next serial: the record of the round before is told apart */
     Updated next = spindle_update_scaling(scaled.record, s, 3, z, 3, 1.0, SPINDLE_PRIMAL_DUAL);

@@ -2,6 +2,7 @@
 use spindle::{Cone, Recorder, Refusal, Strategy, Trace};
 
 fn main() -> Result<(), Refusal> {
+    // under the newer rule, rule 2; a cone of release 1 is made by generalized_under(Rule::One, ..)
     let cone = Cone::generalized(&[0.25, 0.75], 2)?;
     let n = cone.numel();
     let (mut z, mut s) = (vec![0.0; n], vec![0.0; n]);

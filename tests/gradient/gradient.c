@@ -20,7 +20,8 @@ static double between(double low, double high) { return low + (high - low) * ((d
 
 static Cone some_cone(void)
 {
-    Cone c = { 3, 1 + (uint32_t)(any() % 32), 1 + (uint32_t)(any() % 32), { 0 } };
+    /* rule 1: the sum of so many quotients is not always within 2^-50 of 1 */
+    Cone c = { 3, 1 + (uint32_t)(any() % 32), 1 + (uint32_t)(any() % 32), SPINDLE_RULE_1, { 0 } };
     double sum = 0;
     for (uint32_t i = 0; i < c.dim1; i++) sum += c.exps[i] = between(0.05, 1);
     for (uint32_t i = 0; i < c.dim1; i++) c.exps[i] /= sum;
@@ -70,7 +71,7 @@ static int compare(const void *a, const void *b) { double x = *(const double *)a
 
 static void one(void)
 {
-    Cone c = { 3, 2, 2, { 0.5, 0.5 } };
+    Cone c = { 3, 2, 2, SPINDLE_RULE_1, { 0.5, 0.5 } };
     double s[4] = { 1, 1, 0.5, 0 }, z[4] = { 1, 1, 0, 0.5 }, g[4];
     Updated u = spindle_update_scaling(spindle_fresh(c).record, s, 4, z, 4, 1, SPINDLE_DUAL);
     if (u.code) stop("update_scaling", u.code);

@@ -104,10 +104,10 @@ def judge(data):
         return "9"
 
 
-def rescued(data):
+def rescued(data, line):
     """The words that `traces judge` must print behind that line: records kept, bytes dropped, whether the data is a trace, its edition, and the whole output;
     or 9. The caller names an edition of 0 to 4."""
-    right, records, place = judge(data) != "9", [], 0
+    right, records, place = line != "9", [], 0
     edition = sum(data) % 5
     if data[-4:] == b"BACK" and len(data) >= 8 and struct.unpack("<I", data[-8:-4])[0] in DEFAULTS:
         edition = data[-8]
@@ -252,8 +252,11 @@ def small_traces(rng):
         shapes = ((1, 0, 0, rules[0], 1), (2, 9, 9, rules[1], 0), (3, 1, 1, rules[2], 1), (3, 2, 1, rules[3], 0))
         first, second, third, fourth = (one_record(rng, edition, *shape) for shape in shapes)
         yield trace_bytes([], edition)
-        yield trace_bytes([first, third], edition)
-        yield trace_bytes([second, fourth], edition)
+        # of the older editions one each, which share their layout; all four of the newest
+        if edition != 1:
+            yield trace_bytes([first, third], edition)
+        if edition != 2:
+            yield trace_bytes([second, fourth], edition)
     # trailers whose numbers make the length only where a sum wraps, or point nowhere
     yield struct.pack("<QII4s", 2**64 - 8, 1, 1, b"BACK")
     yield struct.pack("<QII4s", 2**64 - 8 * 4096, 4096, 1, b"BACK")
@@ -302,7 +305,8 @@ def near_traces_of(rng, edition):
 
 
 def print_both(data):
-    print(judge(data), "rescued", rescued(data))
+    line = judge(data)
+    print(line, "rescued", rescued(data, line))
 
 
 def strings(path):

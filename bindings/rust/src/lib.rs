@@ -41,7 +41,7 @@ pub const VERSION: &str = env!("CARGO_PKG_VERSION");
 #[derive(Clone, Copy, Debug, PartialEq, Eq, Hash)]
 #[non_exhaustive]
 pub enum Refusal {
-    /// 1: the cone's kind, exponents, dims or exponent sum, or a generalized cone in a correction or combined shift.
+    /// 1: the cone's kind, rule, exponents, dims or exponent sum, or a generalized cone in a correction or combined shift.
     BadCone,
     /// 2: a lent slice has another length than needed.
     BadLength,
@@ -57,7 +57,7 @@ pub enum Refusal {
     AnswerNotFinite,
     /// 8: a trace has no room for what would be written, or 4,096 records already; a replay has no room for its offsets, a rescue for its trace.
     NoRoom,
-    /// 9: the bytes are no trace, a record breaks a trace's layout, or an edition is not known. It comes before 8.
+    /// 9: the bytes are no trace, a record breaks a trace's layout, or an edition is not known, or has no place for a cone's rule. It comes before 8.
     BadTrace,
     /// 10: the record has another serial than the call expects: it is of another round. It comes after 5.
     OtherSerial,
@@ -89,7 +89,7 @@ impl Refusal {
     /// One sentence on what was wrong.
     pub fn sentence(self) -> &'static str {
         match self {
-            Refusal::BadCone => "bad cone: its kind, an exponent, a dim or the exponent sum is not allowed",
+            Refusal::BadCone => "bad cone: its kind, its rule, an exponent, a dim or the exponent sum is not allowed",
             Refusal::BadLength => "a lent slice has another length than needed",
             Refusal::NotFinite => "an input number is NaN or infinite",
             Refusal::BadSettings => "the search start, step, smallest step or the strategy is not allowed",
@@ -209,37 +209,105 @@ pub struct Found {
     pub tests: u32,
 }
 
-/// A cone. The constructors refuse what the library would refuse.
+/// How far from 1 the computed sum of a generalized cone's exponents may be: document 02's Order 9. Exactly that far is taken.
+///
+/// Every cone is under a rule, and carries it into its records and into traces; to the exponential and the power cone it makes no difference. What
+/// rule 2 takes rule 1 takes as well, with equal answers. The constructors take the newer one, [`Rule::NEWEST`], unless they are told another.
+///
+/// ```
+/// use spindle::{Cone, Refusal, Rule};
+///
+/// // a sum of 1 + 2^-45
+/// let exponents = [0.25, 0.75 + 2f64.powi(-45)];
+/// assert_eq!(Cone::generalized(&exponents, 2), Err(Refusal::BadCone));
+/// let old = Cone::generalized_under(Rule::One, &exponents, 2)?;
+/// assert_eq!((old.rule(), old.under(Rule::Two)), (Rule::One, Err(Refusal::BadCone)));
+/// # Ok::<(), Refusal>(())
+/// ```
+#[derive(Clone, Copy, Debug, PartialEq, Eq, Hash)]
+#[repr(u32)]
+pub enum Rule {
+    /// Of cones from the planner's release 1: the sum is within 2^-40 of 1.
+    One = 1,
+    /// From the planner's release 2 on: the sum is within 2^-50 of 1.
+    Two = 2,
+}
+
+impl Rule {
+    /// The newer one, which a cone has whose constructor was not told another: rule 2.
+    pub const NEWEST: Rule = Rule::Two;
+
+    /// The number that the C face and a trace have: 1 or 2.
+    pub fn number(self) -> u32 {
+        self as u32
+    }
+}
+
+impl Default for Rule {
+    /// [`Rule::NEWEST`].
+    fn default() -> Rule {
+        Rule::NEWEST
+    }
+}
+
+/// A cone. The constructors refuse what the library would refuse. They take the newer rule, [`Rule::NEWEST`]; [`Cone::under`] and
+/// [`Cone::generalized_under`] name another.
 #[derive(Clone, Copy, Debug, PartialEq)]
 #[repr(C)]
 pub struct Cone {
     kind: u32,
     dim1: u32,
     dim2: u32,
+    rule: u32,
     exps: [f64; 32],
 }
 
+// the C struct's size and its last padding's place
+const _: () = assert!(core::mem::size_of::<Cone>() == 272 && core::mem::offset_of!(Cone, rule) == 12);
+
 impl Cone {
-    /// The exponential cone.
+    /// The exponential cone, under the newer rule.
     pub fn exponential() -> Cone {
-        Cone { kind: 1, dim1: 0, dim2: 0, exps: [0.0; 32] }
+        Cone { kind: 1, dim1: 0, dim2: 0, rule: Rule::NEWEST as u32, exps: [0.0; 32] }
     }
 
-    /// The power cone with an exponent above 0 and below 1.
+    /// The power cone with an exponent above 0 and below 1, under the newer rule.
     pub fn power(exponent: f64) -> Result<Cone, Refusal> {
         let mut exps = [0.0; 32];
         exps[0] = exponent;
-        Cone { kind: 2, dim1: 0, dim2: 0, exps }.judged()
+        Cone { kind: 2, dim1: 0, dim2: 0, rule: Rule::NEWEST as u32, exps }.judged()
     }
 
-    /// The generalized power cone: 1 to 32 exponents that sum to 1, and a tail of 1 to 32 numbers.
+    /// The generalized power cone: 1 to 32 exponents that sum to 1, and a tail of 1 to 32 numbers. It is under the newer rule, [`Rule::Two`]: the
+    /// exponents, added from the first on, may be off by 2^-50. A cone of release 1, whose sum may be off by 2^-40, is made by
+    /// [`Cone::generalized_under`].
     pub fn generalized(exponents: &[f64], dim2: usize) -> Result<Cone, Refusal> {
+        Cone::generalized_under(Rule::NEWEST, exponents, dim2)
+    }
+
+    /// The generalized power cone under the rule that is named.
+    pub fn generalized_under(rule: Rule, exponents: &[f64], dim2: usize) -> Result<Cone, Refusal> {
         if exponents.len() > 32 || dim2 > 32 {
             return Err(Refusal::BadCone);
         }
         let mut exps = [0.0; 32];
         exps[..exponents.len()].copy_from_slice(exponents);
-        Cone { kind: 3, dim1: exponents.len() as u32, dim2: dim2 as u32, exps }.judged()
+        Cone { kind: 3, dim1: exponents.len() as u32, dim2: dim2 as u32, rule: rule as u32, exps }.judged()
+    }
+
+    /// The same cone under the rule that is named: [`Refusal::BadCone`] where that does not take it, as rule 2 does not take every generalized cone of
+    /// rule 1. Rule 1 takes every cone.
+    pub fn under(self, rule: Rule) -> Result<Cone, Refusal> {
+        Cone { rule: rule as u32, ..self }.judged()
+    }
+
+    /// The rule that the cone is under.
+    pub fn rule(&self) -> Rule {
+        if self.rule == 1 {
+            Rule::One
+        } else {
+            Rule::Two
+        }
     }
 
     fn judged(self) -> Result<Cone, Refusal> {

@@ -1,11 +1,11 @@
-//! Traces of step searches: document 02's Order 1. A [`Trace`] reads bytes, a [`TraceBuffer`] writes into them, a [`Recorder`] searches and writes.
-use crate::{face, Cone, Found, Refusal, Settings};
+//! Traces of step searches: document 02's Orders 1, 2, 7, 8 and 9. A [`Trace`] reads bytes, a [`TraceBuffer`] writes into them, a [`Recorder`] searches and writes.
+use crate::{face, Cone, Found, Refusal, Rule, Settings};
 
 /// The most records that a trace can hold.
 pub const MOST_RECORDS: usize = 4096;
 
 /// The edition of a new trace. Every trace of it or of an earlier one, from 1 on, is known.
-pub const NEWEST_EDITION: u32 = 2;
+pub const NEWEST_EDITION: u32 = 3;
 
 /// Bytes that are a trace: step searches, in the order in which they were recorded.
 ///
@@ -42,7 +42,8 @@ impl<'a> Trace<'a> {
         Ok(Trace { bytes, edition: out.edition, records: out.records })
     }
 
-    /// Which default settings the trace has: step 0.8 in edition 1, 0.5 in edition 2. A new trace is of edition [`NEWEST_EDITION`].
+    /// Which default settings the trace has, and whether its records have their cone's rule: step 0.8 in edition 1, 0.5 in editions 2 and 3; edition 3 has the
+    /// rule, and cones of the other two are under rule 1. A new trace is of edition [`NEWEST_EDITION`].
     pub fn edition(&self) -> u32 {
         self.edition
     }
@@ -241,13 +242,17 @@ impl Recorded {
         self.at
     }
 
-    /// The cone of the search, judged: [`Refusal::BadCone`] where its exponents are none of a cone.
+    /// The cone of the search, judged, under the rule that the record has: [`Refusal::BadCone`] where that is none, or its exponents are none of a cone.
     pub fn cone(&self) -> Result<Cone, Refusal> {
-        match self.cone.kind {
-            1 => Ok(Cone::exponential()),
-            2 => Cone::power(self.cone.exps[0]),
-            _ => Cone::generalized(self.exponents(), self.cone.dim2 as usize),
-        }
+        // kinds 1 and 2 are recorded with the dims 3 and 0, which they do not use
+        let (dim1, dim2) = if self.cone.kind == 3 { (self.cone.dim1, self.cone.dim2) } else { (0, 0) };
+        Cone { dim1, dim2, ..self.cone }.judged()
+    }
+
+    /// The number of the rule that the record's cone is under: 1 in a trace of edition 1 or 2; in one of edition 3 whatever the record has, which
+    /// may be no rule's.
+    pub fn rule(&self) -> u32 {
+        self.cone.rule
     }
 
     /// The cone's kind: 1 exponential, 2 power, 3 generalized.
@@ -311,6 +316,7 @@ impl core::fmt::Debug for Recorded {
         f.debug_struct("Recorded")
             .field("offset", &self.offset())
             .field("kind", &self.kind())
+            .field("rule", &self.rule())
             .field("exponents", &self.exponents())
             .field("by_default", &self.by_default())
             .field("settings", &self.settings())
@@ -336,14 +342,16 @@ pub struct TraceBuffer<'a> {
 
 /// What a record by default means in a trace of the edition, as the library itself reads one: the table of editions stands there alone.
 fn defaults(edition: u32) -> Settings {
-    let (mut bytes, zeros) = ([0; 180], [0.0; 3]);
+    let (mut bytes, zeros) = ([0; 184], [0.0; 3]);
     let (x, n) = (zeros.as_ptr(), zeros.len());
+    // every edition keeps a cone of rule 1
+    let cone = Cone { rule: Rule::One as u32, ..Cone::exponential() };
     unsafe {
         let empty = face::spindle_trace_create(bytes.as_mut_ptr(), bytes.len());
         // the empty trace is its trailer: list, count, edition, `BACK`
         bytes[12..16].copy_from_slice(&edition.to_le_bytes());
         let one = face::spindle_trace_append(
-            bytes.as_mut_ptr(), bytes.len(), empty.length as usize, Cone::exponential(), 1, Settings::house(1.0), x, n, x, n, x, n, x, n,
+            bytes.as_mut_ptr(), bytes.len(), empty.length as usize, cone, 1, Settings::house(1.0), x, n, x, n, x, n, x, n,
             face::Steps::default(),
         );
         face::spindle_trace_record(bytes.as_ptr(), one.length as usize, 0).settings
@@ -365,7 +373,8 @@ impl<'a> TraceBuffer<'a> {
     }
 
     /// Appends a record of another trace; every NaN of it is written as 7FF8000000000000. A search by default keeps its settings: where this trace's edition
-    /// means others, they are written outright. [`Refusal::NoRoom`] where the buffer has no room for it, or [`MOST_RECORDS`] are there.
+    /// means others, they are written outright. Its cone keeps its rule: [`Refusal::BadTrace`] where that is not rule 1 and this trace is of edition 1 or 2,
+    /// which have no place for it. [`Refusal::NoRoom`] where the buffer has no room for it, or [`MOST_RECORDS`] are there.
     pub fn append(&mut self, record: &Recorded) -> Result<(), Refusal> {
         self.put(&record.cone, record.flag, record.settings, [record.dz(), record.ds(), record.z(), record.s()], record.steps)
     }
@@ -419,7 +428,9 @@ impl<'a> Recorder<'a> {
     /// means other settings by that, they are recorded outright.
     ///
     /// [`Refusal::NoRoom`] where the search could be made and not recorded: then as at every refusal nothing that was lent has changed, and
-    /// [`Cone::step_length`] makes the search without a record.
+    /// [`Cone::step_length`] makes the search without a record. So it is with [`Refusal::BadTrace`], where the recorder goes on with a trace of edition 1 or 2
+    /// and the cone is under rule 2: such a trace keeps cones of rule 1 alone, and every cone that rule 2 takes can be put under it ([`Cone::under`]) with the
+    /// same answers.
     #[allow(clippy::too_many_arguments)]
     pub fn step_length(
         &mut self,

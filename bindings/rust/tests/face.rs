@@ -1,5 +1,5 @@
 //! Every call once where it is done and once for each number that it can give, with untouched slices and records at a refusal.
-use spindle::{kernels, Answer, Cone, Refusal, Scaling, Serial, Settings, Strategy};
+use spindle::{kernels, Answer, Cone, Refusal, Rule, Scaling, Serial, Settings, Strategy};
 
 const UNTOUCHED: [f64; 6] = [11.0, 12.0, 13.0, 14.0, 15.0, 16.0];
 
@@ -43,8 +43,64 @@ fn cones_are_judged_when_they_are_made() {
     assert_eq!(Cone::generalized(&[1.0 / 33.0; 33], 1), Err(Refusal::BadCone));
     assert_eq!(Cone::generalized(&[1.0], 0), Err(Refusal::BadCone));
     assert_eq!(Cone::generalized(&[1.0], 33), Err(Refusal::BadCone));
-    assert_eq!(Cone::generalized(&[0.5, 0.5 + 2f64.powi(-39)], 1), Err(Refusal::BadCone));
-    assert!(Cone::generalized(&[0.5, 0.5 + 2f64.powi(-40)], 1).is_ok());
+}
+
+/// Sums at the limit of each rule and at the next double beyond it, on both sides of 1; and sums that depend on their order.
+#[test]
+fn each_rule_has_its_tolerance() {
+    use Rule::{One, Two};
+    let taken = |rule, exponents: &[f64]| Cone::generalized_under(rule, exponents, 1).map(|cone| cone.rule());
+    let refused = Err(Refusal::BadCone);
+    let (far, near) = (2f64.powi(-40), 2f64.powi(-50));
+    let next = |sum: f64| f64::from_bits(if sum < 1.0 { sum.to_bits() - 1 } else { sum.to_bits() + 1 });
+    for side in [-1.0, 1.0] {
+        for (sum, one, two) in [
+            (1.0, Ok(One), Ok(Two)),
+            (1.0 + side * near, Ok(One), Ok(Two)),
+            (next(1.0 + side * near), Ok(One), refused),
+            (1.0 + side * far, Ok(One), refused),
+            (next(1.0 + side * far), refused, refused),
+        ] {
+            assert_eq!((taken(One, &[0.5, sum - 0.5]), taken(Two, &[0.5, sum - 0.5])), (one, two), "sum {sum:e}");
+            assert_eq!(Cone::generalized(&[0.5, sum - 0.5], 1).map(|cone| cone.rule()), two, "the newer rule by default");
+        }
+    }
+    // crumbs of a quarter of a unit in the last place: behind 1 they are lost one by one, before it they are not
+    let mut exponents = [2f64.powi(-54); 32];
+    (exponents[0], exponents[1]) = (0.5, 0.5 + near);
+    assert_eq!(taken(Two, &exponents), Ok(Two));
+    exponents.reverse();
+    assert_eq!((taken(One, &exponents), taken(Two, &exponents)), (Ok(One), refused));
+    (exponents[30], exponents[31]) = (0.5, 0.5 + far);
+    assert_eq!(taken(One, &exponents), refused);
+    exponents.reverse();
+    assert_eq!(taken(One, &exponents), Ok(One));
+}
+
+#[test]
+fn a_cone_carries_its_rule() {
+    assert_eq!((Rule::default(), Rule::NEWEST, Rule::One.number(), Rule::Two.number()), (Rule::Two, Rule::Two, 1, 2));
+    for cone in [exponential(), power(), generalized()] {
+        assert_eq!(cone.rule(), Rule::NEWEST);
+        let old = cone.under(Rule::One).unwrap();
+        assert_eq!((old.rule(), old == cone, old.under(Rule::Two)), (Rule::One, false, Ok(cone)));
+        for cone in [cone, old] {
+            let (record, _) = scaled(cone);
+            assert_eq!((cone.scaling().cone().rule(), record.cone().rule()), (cone.rule(), cone.rule()));
+        }
+        // equal answers but for the rule that is carried
+        let (mut first, serial) = scaled(old);
+        let (second, other) = scaled(cone);
+        assert_eq!((serial, first.three(), first.wide()), (other, second.three(), second.wide()));
+        let n = cone.numel();
+        let point = vec![0.25; n];
+        assert_eq!(old.is_primal_feasible(&point), cone.is_primal_feasible(&point));
+        assert_eq!(first.update(&vec![f64::NAN; n], &point, 1.0, Strategy::Dual), Err(Refusal::NotFinite));
+        assert_eq!(first.cone(), &old);
+    }
+    let wide = Cone::generalized_under(Rule::One, &[0.25, 0.75 + 2f64.powi(-41)], 2).unwrap();
+    assert_eq!(wide.under(Rule::Two), Err(Refusal::BadCone));
+    assert_eq!(wide.under(Rule::One), Ok(wide));
 }
 
 #[test]

@@ -1,5 +1,5 @@
 //! Traces: what a recorder searched is what a trace reads, for every kind and both ways to give settings; every refusal, and bytes that stay.
-use spindle::{rescue, Cone, Found, Recorded, Recorder, Refusal, Settings, Trace, TraceBuffer, MOST_RECORDS, NEWEST_EDITION};
+use spindle::{rescue, Cone, Found, Recorded, Recorder, Refusal, Rule, Settings, Trace, TraceBuffer, MOST_RECORDS, NEWEST_EDITION};
 
 /// A cone with directions and points for a search.
 struct Search {
@@ -11,9 +11,14 @@ struct Search {
 }
 
 fn searches() -> Vec<Search> {
+    searches_under(Rule::NEWEST)
+}
+
+fn searches_under(rule: Rule) -> Vec<Search> {
     [Cone::exponential(), Cone::power(0.3).unwrap(), Cone::generalized(&[0.25, 0.75], 2).unwrap()]
         .into_iter()
         .map(|cone| {
+            let cone = cone.under(rule).unwrap();
             let n = cone.numel();
             let (mut z, mut s) = (vec![0.0; n], vec![0.0; n]);
             cone.unit_initialization(&mut z, &mut s).unwrap();
@@ -59,9 +64,21 @@ impl Search {
 
 /// A trace of each search, twice: by default and outright.
 fn bytes_of_all() -> Vec<u8> {
+    bytes_of(NEWEST_EDITION, Rule::NEWEST)
+}
+
+/// The trace with no record, of the edition: list, count, edition, `BACK`.
+fn empty(bytes: &mut [u8], edition: u8) -> usize {
+    let used = TraceBuffer::create(bytes).unwrap().bytes().len();
+    bytes[used - 8] = edition;
+    used
+}
+
+fn bytes_of(edition: u32, rule: Rule) -> Vec<u8> {
     let mut bytes = vec![0; 4000];
-    let mut recorder = Recorder::create(&mut bytes).unwrap();
-    for search in searches() {
+    let used = empty(&mut bytes, edition as u8);
+    let mut recorder = Recorder::open(&mut bytes, used).unwrap();
+    for search in searches_under(rule) {
         search.recorded(&mut recorder, Some(1.0)).0.unwrap();
         search.recorded(&mut recorder, None).0.unwrap();
     }
@@ -99,7 +116,7 @@ fn records_by_number_and_one_by_one() {
     let bytes = bytes_of_all();
     let trace = Trace::open(&bytes).unwrap();
     let offsets: Vec<_> = trace.iter().map(|r| r.offset()).collect();
-    assert_eq!(offsets, [0, 152, 320, 480, 656, 856]);
+    assert_eq!(offsets, [0, 156, 328, 492, 672, 876]);
     assert_eq!((0..6).map(|i| trace.get(i).unwrap().offset()).collect::<Vec<_>>(), offsets);
     assert!(trace.get(6).is_none() && trace.get(usize::MAX).is_none() && trace.get(1 << 32).is_none());
     assert_eq!(trace.iter().map(|r| r.kind()).collect::<Vec<_>>(), [1, 1, 2, 2, 3, 3]);
@@ -107,9 +124,9 @@ fn records_by_number_and_one_by_one() {
 
     let mut records = trace.iter();
     assert_eq!(records.len(), 6);
-    assert_eq!(records.nth(1).unwrap().offset(), 152);
-    assert_eq!(records.next_back().unwrap().offset(), 856);
-    assert_eq!(records.by_ref().rev().map(|r| r.offset()).collect::<Vec<_>>(), [656, 480, 320]);
+    assert_eq!(records.nth(1).unwrap().offset(), 156);
+    assert_eq!(records.next_back().unwrap().offset(), 876);
+    assert_eq!(records.by_ref().rev().map(|r| r.offset()).collect::<Vec<_>>(), [672, 492, 328]);
     assert!(records.next().is_none() && records.next_back().is_none() && trace.iter().nth(6).is_none());
     assert_eq!((trace.into_iter().count(), (&trace).into_iter().count()), (6, 6));
 }
@@ -159,17 +176,17 @@ fn a_refused_search_is_not_recorded() {
 #[test]
 fn without_room_nothing_changes() {
     let search = &searches()[0];
-    for room in [20, 27, 28, 179] {
+    for room in [20, 27, 28, 183] {
         let mut bytes = vec![0xA5; room];
         let mut recorder = Recorder::create(&mut bytes).unwrap();
         assert_eq!(search.recorded(&mut recorder, Some(1.0)), (Err(Refusal::NoRoom), vec![7.0; 3], vec![8.0; 3]));
         assert_eq!((recorder.bytes().len(), recorder.trace().len()), (20, 0));
         assert!(bytes[20..].iter().all(|&b| b == 0xA5));
     }
-    let mut bytes = vec![0xA5; 180];
+    let mut bytes = vec![0xA5; 184];
     let mut recorder = Recorder::create(&mut bytes).unwrap();
     search.recorded(&mut recorder, Some(1.0)).0.unwrap();
-    assert_eq!(recorder.bytes().len(), 180);
+    assert_eq!(recorder.bytes().len(), 184);
     assert_eq!(TraceBuffer::create(&mut [0xA5; 19]).map(|_| ()), Err(Refusal::NoRoom));
 }
 
@@ -186,7 +203,7 @@ fn broken_bytes_are_refused() {
     }
     assert_eq!(lent, bytes);
     // a record's mark, length, kind, dims and flag; the list; the trailer
-    for place in [0, 3, 4, 8, 12, 16, 28, 1072, bytes.len() - 68, bytes.len() - 20, bytes.len() - 12, bytes.len() - 8, bytes.len() - 1] {
+    for place in [0, 3, 4, 8, 12, 16, 32, 1096, bytes.len() - 68, bytes.len() - 20, bytes.len() - 12, bytes.len() - 8, bytes.len() - 1] {
         let mut broken = bytes.clone();
         broken[place] ^= 2;
         assert_eq!(Trace::open(&broken).map(|_| ()), Err(Refusal::BadTrace), "byte {place}");
@@ -200,14 +217,44 @@ fn broken_bytes_are_refused() {
 fn a_record_may_hold_what_a_search_refuses() {
     let mut bytes = bytes_of_all();
     // the power cone's exponent, a NaN with a payload; and the start before the flag of the search by default
-    bytes[320 + 20..320 + 28].copy_from_slice(&0xfff0_0000_0000_0001u64.to_le_bytes());
-    bytes[320 + 28..320 + 36].copy_from_slice(&f64::NEG_INFINITY.to_le_bytes());
+    bytes[328 + 24..328 + 32].copy_from_slice(&0xfff0_0000_0000_0001u64.to_le_bytes());
+    bytes[328 + 32..328 + 40].copy_from_slice(&f64::NEG_INFINITY.to_le_bytes());
     let record = Trace::open(&bytes).unwrap().get(2).unwrap();
     assert_eq!(record.cone(), Err(Refusal::BadCone));
     assert_eq!((record.kind(), record.exponents()[0].to_bits()), (2, 0x7ff8_0000_0000_0000));
     assert_eq!((record.settings().start, record.settings().step), (f64::NEG_INFINITY, Settings::house(1.0).step));
     let shown = format!("{record:?}");
-    assert!(shown.starts_with("Recorded { offset: 320, kind: 2, exponents: [NaN]") && shown.len() < 600, "{shown}");
+    assert!(shown.starts_with("Recorded { offset: 328, kind: 2, rule: 2, exponents: [NaN]") && shown.len() < 600, "{shown}");
+}
+
+/// A rule is no layout fault: whatever it is, it is read; what is none makes no cone, and its record differs.
+#[test]
+fn a_record_may_hold_any_rule() {
+    let bytes = bytes_of_all();
+    for i in 0..6 {
+        let at = Trace::open(&bytes).unwrap().get(i).unwrap().offset();
+        for rule in [0, 1, 2, 3, 257, u32::MAX] {
+            let mut changed = bytes.clone();
+            changed[at as usize + 20..at as usize + 24].copy_from_slice(&rule.to_le_bytes());
+            let trace = Trace::open(&changed).unwrap();
+            let record = trace.get(i).unwrap();
+            assert_eq!(record.rule(), rule);
+            let under = match rule {
+                1 => Ok(Rule::One),
+                2 => Ok(Rule::Two),
+                _ => Err(Refusal::BadCone),
+            };
+            assert_eq!(record.cone().map(|cone| cone.rule()), under);
+            let mut differ = [7; 6];
+            let replay = trace.replay(&mut differ).unwrap();
+            assert_eq!(replay.differ, if under.is_ok() { vec![] } else { vec![at] });
+            // and is copied as it is
+            let mut copy = vec![0; bytes.len()];
+            let mut buffer = TraceBuffer::create(&mut copy).unwrap();
+            trace.iter().for_each(|record| buffer.append(&record).unwrap());
+            assert_eq!(buffer.bytes(), changed);
+        }
+    }
 }
 
 #[test]
@@ -245,7 +292,7 @@ fn a_refused_search_differs_and_offsets_need_room() {
     let mut bytes = bytes_of_all();
     let second = Trace::open(&bytes).unwrap().get(1).unwrap().offset() as usize;
     // the starts of the first two records, both of kind 1, become NaN: the vectors follow
-    for at in [20, second + 20] {
+    for at in [24, second + 24] {
         bytes[at..at + 8].copy_from_slice(&f64::NAN.to_le_bytes());
     }
     let trace = Trace::open(&bytes).unwrap();
@@ -257,19 +304,12 @@ fn a_refused_search_differs_and_offsets_need_room() {
     assert_eq!(at, [7]);
 }
 
-/// The trace with no record of edition 1: list, count, edition, `BACK`.
-fn first_edition(bytes: &mut [u8]) -> usize {
-    let used = TraceBuffer::create(bytes).unwrap().bytes().len();
-    bytes[used - 8] = 1;
-    used
-}
-
 #[test]
 fn a_recorder_goes_on_with_an_old_trace() {
     let mut bytes = vec![0; 4000];
-    let used = first_edition(&mut bytes);
+    let used = empty(&mut bytes, 1);
     let mut recorder = Recorder::open(&mut bytes, used).unwrap();
-    for search in searches() {
+    for search in searches_under(Rule::One) {
         // the search is the house's, whatever the trace means by default, and so it is written outright
         assert_eq!(search.recorded(&mut recorder, Some(1.0)), search.plain(Settings::house(1.0)));
         search.is(&recorder.trace().iter().next_back().unwrap(), false, Settings::house(1.0));
@@ -280,10 +320,49 @@ fn a_recorder_goes_on_with_an_old_trace() {
     assert_eq!((trace.edition(), trace.replay(&mut at).unwrap().same), (1, 6));
 }
 
+/// Editions 1 and 2 have no place for a rule: a search under rule 2 is refused there, and nothing that was lent has changed.
+#[test]
+fn an_old_trace_keeps_cones_of_rule_1_alone() {
+    for edition in [1, 2] {
+        let before = bytes_of(edition, Rule::One);
+        let mut bytes = before.clone();
+        bytes.resize(4000, 0xA5);
+        let mut recorder = Recorder::open(&mut bytes, before.len()).unwrap();
+        assert_eq!(recorder.trace().iter().map(|r| r.rule()).collect::<Vec<_>>(), [1; 6]);
+        for search in searches() {
+            let n = search.cone.numel();
+            for start in [Some(1.0), None] {
+                assert_eq!(search.recorded(&mut recorder, start), (Err(Refusal::BadTrace), vec![7.0; n], vec![8.0; n]));
+            }
+            // the same cone under rule 1 has the same answers
+            let answer = search.plain(OUTRIGHT);
+            assert_eq!(Search { cone: search.cone.under(Rule::One).unwrap(), ..search }.plain(OUTRIGHT), answer);
+        }
+        assert_eq!(recorder.bytes(), before);
+        let mut buffer = TraceBuffer::open(&mut bytes, before.len()).unwrap();
+        let newest = bytes_of_all();
+        for record in Trace::open(&newest).unwrap() {
+            assert_eq!(buffer.append(&record), Err(Refusal::BadTrace));
+        }
+        assert_eq!(buffer.bytes(), before);
+        assert!(bytes[before.len()..].iter().all(|&b| b == 0xA5));
+        // the other way round every record is kept, under rule 1
+        let mut copy = vec![0; 4000];
+        let mut buffer = TraceBuffer::create(&mut copy).unwrap();
+        for record in Trace::open(&before).unwrap() {
+            buffer.append(&record).unwrap();
+            let last = buffer.trace().iter().next_back().unwrap();
+            assert_eq!((last.rule(), last.cone(), last.settings()), (1, record.cone(), record.settings()));
+        }
+        let mut at = [0; 6];
+        assert_eq!((buffer.trace().edition(), buffer.trace().replay(&mut at).unwrap().same), (NEWEST_EDITION, 6));
+    }
+}
+
 #[test]
 fn a_search_by_default_keeps_its_settings_in_another_edition() {
     // six records of edition 2, those by default turned into searches of edition 1 by their trailer
-    let mut bytes = bytes_of_all();
+    let mut bytes = bytes_of(2, Rule::One);
     let end = bytes.len() - 8;
     bytes[end] = 1;
     let old = Trace::open(&bytes).unwrap();
@@ -297,7 +376,7 @@ fn a_search_by_default_keeps_its_settings_in_another_edition() {
     }
     // and by default again, where it goes back
     let mut back = vec![0; 4000];
-    let used = first_edition(&mut back);
+    let used = empty(&mut back, 1);
     let mut again = TraceBuffer::open(&mut back, used).unwrap();
     for record in old {
         again.append(&record).unwrap();
@@ -349,6 +428,16 @@ fn a_rescue_needs_room_and_an_edition() {
     for edition in 1..=NEWEST_EDITION {
         let none = rescue(&[], &mut output, edition).unwrap();
         assert_eq!((none.trace.is_empty(), none.dropped, none.right, none.trace.edition()), (true, 0, false, edition));
+    }
+    // cut traces of every edition: by one of the other layout nothing is kept
+    for edition in 1..=NEWEST_EDITION {
+        let whole = bytes_of(edition, Rule::One);
+        for given in 1..=NEWEST_EDITION {
+            let mut output = vec![7; 4000];
+            let rescued = rescue(&whole[..whole.len() - 1], &mut output, given).unwrap();
+            let kept = if (edition < 3) == (given < 3) { 6 } else { 0 };
+            assert_eq!((rescued.trace.len(), rescued.trace.edition()), (kept, given));
+        }
     }
     // the list is gone, and the edition still stands before `BACK`
     let mut broken = bytes;

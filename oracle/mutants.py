@@ -3,8 +3,10 @@
 
     oracle/mutants.py            changes one operation at a time in copies of the Rust, repaired (mutants.txt), and asks whether the comparison's cases see it
     oracle/mutants.py --ports    changes the second port, standin.c, into wrong ones (wrong-ports.txt) and asks whether the comparison refuses them
+    oracle/mutants.py --traces   changes the second port of the trace calls, traces.c, into wrong ones (wrong-traces.txt) and asks whether the programs of
+                                 tests/traces refuse them; compiled for the machine at hand
 
-A line of mutants.txt is a change: file | old | new; one of wrong-ports.txt is: what is wrong | old | new. A line end in old or new is written as a
+A line of mutants.txt is a change: file | old | new; one of the two others is: what is wrong | old | new. A line end in old or new is written as a
 pilcrow, the bars around a closure's arguments as slashes. Every changed copy of the Rust becomes an oracle beside the unchanged one in one program,
 over the stand-in's kernels. All answer the calls that the comparison makes; a change is seen at the first call that it answers otherwise.
 
@@ -82,6 +84,56 @@ def wrong_ports(text, work, calls, only):
     return unseen
 
 
+def wrong_traces(work, only):
+    """The tests of traces must fail over each changed traces.c. Hands back how many they did not refuse."""
+    listed = [change for change in changes("wrong-traces.txt") if only in change[0]]
+    if not listed:
+        stop(f"no wrong port of traces has '{only}' in its name")
+    tests = os.path.join(root, "tests/traces")
+    told = {}
+
+    def run(*command):
+        return subprocess.run(command, capture_output=True, timeout=600)
+
+    def expected(what):
+        """A file for the program traces, and what layout.py says that it must print of it; the byte strings only where nothing else has refused."""
+        if what not in told:
+            told[what] = run("python3", os.path.join(tests, "layout.py"), what, os.path.join(work, what)).stdout
+        return told[what]
+
+    def refused():
+        for program in ("traces", "replay", "rescue"):
+            if run(os.path.join(work, program), "calls").returncode:
+                return f"{program} calls"
+        for what, job in (("rows", "play"), ("strings", "judge")):
+            wanted = expected(what)
+            if run(os.path.join(work, "traces"), job, os.path.join(work, what)).stdout != wanted:
+                return what
+        return None
+
+    whole = open(os.path.join(here, "traces.c"), encoding="utf-8").read()
+    changed = os.path.join(work, "traces.c")
+    unseen = 0
+    for name, old, new, _ in [("", "", "", True), *listed]:
+        if old and whole.count(old) != 1:
+            stop(f"this stands {whole.count(old)} times in traces.c: {old}")
+        with open(changed, "w", encoding="utf-8") as out:
+            out.write(whole.replace(old, new) if old else whole)
+        for program in ("traces", "replay", "rescue"):
+            command = ["cc", "-O2", "-ffp-contract=off", "-w", "-I" + os.path.join(root, "include"), "-o", os.path.join(work, program)]
+            if run(*command, os.path.join(tests, program + ".c"), changed, os.path.join(here, "standin.c"), "-lm").returncode:
+                stop(f"the wrong port could not be built: {name}")
+        by = refused()
+        if not name:
+            if by:
+                stop(f"traces.c itself is refused, by {by}")
+            continue
+        unseen += not by
+        print(f"refused by {by}: {name}" if by else f"NOT REFUSED: {name}", flush=True)
+    print(f"{len(listed)} wrong ports of traces, {len(listed) - unseen} refused, {unseen} not")
+    return unseen
+
+
 def written(words):
     return re.sub(r"([(,] ?)/([^/]*)/ ", r"\1|\2| ", words).replace("¶", "\n")
 
@@ -134,6 +186,7 @@ def harness(text, work, only, part):
 def main():
     words = argparse.ArgumentParser(description=__doc__, formatter_class=argparse.RawDescriptionHelpFormatter, usage=argparse.SUPPRESS)
     words.add_argument("--ports", action="store_true", help="wrong ports in the place of changed Rust")
+    words.add_argument("--traces", action="store_true", help="wrong ports of the trace calls in the place of changed Rust")
     words.add_argument("--only", default="", metavar="WORD", help="only changes with this in their line (a wrong port: in its name)")
     words.add_argument("--calls", type=int, default=1000000, metavar="N", help="at most so many calls (a million)")
     words.add_argument("--list", action="store_true", help="changed Rust: the calls of the fixed list in the place of random ones")
@@ -143,6 +196,9 @@ def main():
     words = words.parse_args()
     if not re.fullmatch(r"[1-9]\d*/[1-9]\d*", words.part):
         stop(f"--part is I/N, as 2/9: {words.part}")
+    if words.traces:
+        with tempfile.TemporaryDirectory() as work:
+            sys.exit(1 if wrong_traces(work, words.only) else 0)
     if shutil.which("rustc") is None:
         stop("rustc is not on the PATH; install Rust first")
     with tempfile.TemporaryDirectory() as work:

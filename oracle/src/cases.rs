@@ -1,4 +1,5 @@
-// Calls aimed at the limits: points inside, on and beside the wall and far outside, special numbers in each place, every refusal alone and in pairs.
+// Calls aimed at the limits: points inside, on and beside the wall and far outside, exponent sums at the limits of both rules, special numbers in each
+// place, every refusal alone and in pairs.
 
 use crate::aimed;
 use crate::cones::Oracle;
@@ -40,7 +41,8 @@ pub fn case(random: &mut Random, only: Option<u32>) -> Case {
             return Case { call, flaws: 0, aimed: true };
         }
     }
-    let mut call = good_case(random, entry);
+    let at_a_limit = takes_kind_3(entry) && random.below(1000) < 20;
+    let mut call = if at_a_limit { sum_at_a_limit(random, entry) } else { good_case(random, entry) };
     expect(&mut call);
     let mut flaws = 0;
     let count = match random.below(10) {
@@ -173,7 +175,12 @@ fn aim_sum(random: &mut Random, exps: &mut [f64]) {
         sums::crumbled(exps, target, random.chance(50));
         return;
     }
-    let largest = (0..n).fold(0, |best, i| if exps[i] > exps[best] { i } else { best });
+    reach(exps, target);
+}
+
+// the largest exponent moved until the sum is the target, where it can be had
+fn reach(exps: &mut [f64], target: f64) {
+    let largest = (0..exps.len()).fold(0, |best, i| if exps[i] > exps[best] { i } else { best });
     for _ in 0..20 {
         let sum = sum_of(exps);
         if sum == target {
@@ -648,6 +655,24 @@ pub fn kind_of(random: &mut Random, entry: u32) -> u32 {
 pub fn good_case(random: &mut Random, entry: u32) -> Call {
     let kind = kind_of(random, entry);
     let cone = good_cone(random, kind);
+    good_case_of(random, entry, cone)
+}
+
+// A generalized cone whose sum is at a limit of a rule or the next double beyond it, under either rule; everything else is as in a good call.
+fn sum_at_a_limit(random: &mut Random, entry: u32) -> Call {
+    let mut cone = good_cone(random, 3);
+    let exps = &mut cone.exps[..cone.dim1 as usize];
+    let sum = sums::sum(random.below(sums::SUMS));
+    if exps.len() > 2 && random.chance(30) {
+        sums::crumbled(exps, sum, random.chance(50));
+    } else {
+        reach(exps, sum);
+    }
+    good_case_of(random, entry, cone)
+}
+
+fn good_case_of(random: &mut Random, entry: u32, cone: Cone) -> Call {
+    let kind = cone.kind;
     let n = length_of(&cone);
     let mut call = Call { entry, ..Call::ZERO };
     call.record = if entry_of(&call).takes_record { record(random, cone) } else { Scaling { cone, ..Scaling::ZERO } };

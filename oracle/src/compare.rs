@@ -567,13 +567,13 @@ fn limits_of(limits: &mut Limits, call: &Call, wanted: &Answer) {
     let cone = &call.record.cone;
     let Some(sum) = sums::at(cone) else { return };
     let exps = &cone.exps[..cone.dim1 as usize];
-    if takes_kind_3(call.entry) && (1..=2).contains(&cone.rule) && (1..=32).contains(&cone.dim2) && exps.iter().all(|&a| a > 0.0 && a <= 1.0) {
+    if takes_kind_3(call.entry)
+        && (1..=2).contains(&cone.rule)
+        && (1..=32).contains(&cone.dim2)
+        && exps.iter().all(|&a| a > 0.0 && a <= 1.0)
+    {
         limits[sum][cone.rule as usize - 1][call.entry as usize][(wanted.reply.code == 1) as usize] += 1;
     }
-}
-
-fn takes_kind_3(entry: u32) -> bool {
-    !is_plain(entry) && entry != HIGHER_CORRECTION && entry != COMBINED_DS_SHIFT
 }
 
 fn say_tally(tally: &Tally, pairs: &Pairs, rounds: &[[u64; 101]; 2], tests: u32) {

@@ -125,10 +125,10 @@ pub fn rows() -> Vec<Call> {
     rows
 }
 
-// Those of them that the fixed list has room for.
+// Those of them that the fixed list has room for: each sum by two exponents, and each kind under the rules 0, 3 and 2^32 - 1.
 pub fn listed(call: &Call) -> bool {
     let cone = &call.record.cone;
-    cone.dim1 < 10 && !NO_RULES[2..5].contains(&cone.rule)
+    cone.dim1 < 10 && (at(cone).is_some() || [0, 3, u32::MAX].contains(&cone.rule))
 }
 
 // What documents 01 and 02 say of the rows, in other words than expected.rs has: a row is refused with 1 exactly if its rule is none, its sum is beyond

@@ -232,6 +232,11 @@ pub fn names_serial(entry: u32) -> bool {
     matches!(entry, GET_HS | MUL_HS | HIGHER_CORRECTION | COMBINED_DS_SHIFT)
 }
 
+// "or is 3 in a correction or combined shift"
+pub fn takes_kind_3(entry: u32) -> bool {
+    !is_plain(entry) && entry != HIGHER_CORRECTION && entry != COMBINED_DS_SHIFT
+}
+
 // The entries that document 01 refuses nothing to.
 pub fn is_plain(entry: u32) -> bool {
     entry == HOUSE_SETTINGS || entry >= SQRT

@@ -262,7 +262,7 @@ pub struct Cone {
     exps: [f64; 32],
 }
 
-// the C struct's size and its last padding's place
+// the C struct's size, and where its rule stands
 const _: () = assert!(core::mem::size_of::<Cone>() == 272 && core::mem::offset_of!(Cone, rule) == 12);
 
 impl Cone {

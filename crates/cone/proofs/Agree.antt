@@ -30,8 +30,6 @@ use Rattle.cone.proofs.house_settings.Reads as house-settings
 use Rattle.cone.proofs.house_strategy.Reads as house-strategy
 use Rattle.cone.proofs.three_of.Reads as three-of
 use Rattle.cone.proofs.wide_of.Reads as wide-of
-use Rattle.cone.proofs.refusal.first_row.Reads as refusal-first-row
-use Rattle.cone.proofs.refusal.trace_row.Reads as refusal-trace-row
 use Rattle.cone.proofs.refusal.store.Reads as refusal-store
 use Rattle.cone.proofs.refusal.publish.Reads as refusal-publish
 use Rattle.cone.proofs.refusal.publish_two.Reads as refusal-publish-two
@@ -110,12 +108,6 @@ three-of-agrees κs a x y s t p q = p ∙ sym q
 
 pub wide-of-agrees : OneAnswer wide-of.Post
 wide-of-agrees κs a x y s t p q = p ∙ sym q
-
-pub refusal-first-row-agrees : OneAnswer refusal-first-row.Post
-refusal-first-row-agrees κs a x y s t p q = p ∙ sym q
-
-pub refusal-trace-row-agrees : OneAnswer refusal-trace-row.Post
-refusal-trace-row-agrees κs a x y s t p q = p ∙ sym q
 
 pub refusal-store-agrees : OneOutcome refusal-store.Post {A = List Float} (λ κs s. now (s .0))
 refusal-store-agrees κs a x y s t p q = (refl, p ∙ sym q)

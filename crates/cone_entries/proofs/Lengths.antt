@@ -9,7 +9,7 @@ use lib.ListN.{length}
 use Rattle.cone.specs.declared.Cone.{Cone}
 use Rattle.cone.specs.Judges.{coneOk, numelOf}
 use Rattle.cone.specs.Calls.{WideCall}
-use Rattle.cone.proofs.Settled.{no-fault}
+use Rattle.table.proofs.Settled.{no-fault}
 use Rattle.cone.proofs.Lengths.{same-1, same-2, same-3, cone-is-ok, numel-at-most, wide-call}
 use Rattle.cone_entries.specs.Rows.{readFaults, readRows, unitFaults, unitRows, copyFaults, copyRows, offsetFaults, offsetRows}
 

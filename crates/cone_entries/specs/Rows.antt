@@ -5,9 +5,10 @@ use mathlib.Core.List.{List}
 use lib.Dec.{eqb}
 use lib.Ieee.{Float}
 use Rattle.cone.specs.declared.Cone.{Cone}
-use Rattle.cone.specs.declared.refusal.Faults.{Faults}
+use Rattle.table.specs.declared.Faults.{Faults}
 use Rattle.cone.specs.Judges.{numelOf, allFinite}
-use Rattle.cone.specs.Refusals.{firstRow, badCone, otherLength, notFinite}
+use Rattle.table.specs.Table.{firstRow}
+use Rattle.cone.specs.Refusals.{badCone, otherLength, notFinite}
 
 -- fresh
 unfoldable pub freshFaults : Cone → Faults

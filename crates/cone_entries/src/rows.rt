@@ -6,8 +6,8 @@ use cone::Cone;
 use cone::judge::all_finite;
 use cone::judge::cone_ok;
 use cone::judge::numel;
-use cone::refusal::Faults;
-use cone::refusal::first_row;
+use table::Faults;
+use table::first_row;
 
 pub fn fresh_rows(cone: Cone) -> u32
     ensures { λ r. ⌜ r ≡ freshRows cone ⌝ }

@@ -11,7 +11,8 @@ use lib.ListN.{length}
 use borrow.Author.Tests.{eq-eqb, ne-eqb, eqb-true, eqb-false}
 use Rattle.cone.specs.declared.Scaling.{Scaling}
 use Rattle.cone.specs.Judges.{ruleOk, coneOk, threeOk, allFinite}
-use Rattle.cone.specs.Refusals.{firstRow, otherLength, neverScaled, otherSerial, judgedOf}
+use Rattle.table.specs.Table.{firstRow}
+use Rattle.cone.specs.Refusals.{otherLength, neverScaled, otherSerial, judgedOf}
 use Rattle.cone.proofs.Lengths.{cone-wide, cone-3D, record-wide, record-3D, numel-wide, numel-3D, block-wide, block-3D}
 use Rattle.kinds.specs.Cones.{alphaOf}
 use Rattle.record_three.specs.Entries as three

@@ -15,9 +15,10 @@ use contract.Lifetimes.{Lfts}
 use borrow.Fn.Kinds.{Dens, resT, endedOf}
 use Rattle.cone.specs.declared.Number.{Number}
 use Rattle.cone.specs.declared.Rounds.{Rounds}
-use Rattle.cone.specs.declared.refusal.Faults.{Faults}
+use Rattle.table.specs.declared.Faults.{Faults}
 use Rattle.cone.specs.Judges.{allFinite}
-use Rattle.cone.specs.Refusals.{Lent, firstRow, settle, publishOf, numberOf, judgedOf, countedOf, withRounds}
+use Rattle.table.specs.Table.{firstRow, settle}
+use Rattle.cone.specs.Refusals.{Lent, publishOf, numberOf, judgedOf, countedOf, withRounds}
 use Rattle.cone.specs.Refusals.{refuse, refuseNumber, refuseRounds}
 use Rattle.cone.proofs.Outcomes.{one}
 use Rattle.cone.specs.Points.{threeOf}

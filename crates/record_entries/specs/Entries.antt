@@ -12,7 +12,8 @@ use Rattle.cone.specs.declared.Number.{Number}
 use Rattle.cone.specs.declared.Rounds.{Rounds}
 use Rattle.cone.specs.Judges.{allFinite}
 use Rattle.cone.specs.Points.{threeOf}
-use Rattle.cone.specs.Refusals.{Lent, settle, refuse, refuseNumber, refuseRounds, publishOf, withRounds}
+use Rattle.table.specs.Table.{settle}
+use Rattle.cone.specs.Refusals.{Lent, refuse, refuseNumber, refuseRounds, publishOf, withRounds}
 use Rattle.genpowcone.specs.Rank3 as genRank3
 use Rattle.kinds.specs.declared.three.Valued.{Valued}
 use Rattle.kinds.specs.Cones.{alphaOf}

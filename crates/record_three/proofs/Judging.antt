@@ -4,7 +4,7 @@ use mathlib.Core.Bool.{Bool, false}
 use Prim.Native.Nat.{ℕ}
 use lib.Ieee.{Float}
 use Rattle.cone.specs.declared.Three.{Three}
-use Rattle.cone.proofs.Settled.{no-fault}
+use Rattle.table.proofs.Settled.{no-fault}
 use Rattle.record_three.specs.Entries.{rowsOf}
 
 pub lengths-right

@@ -14,15 +14,15 @@ use cone::judge::rule_ok;
 use cone::judge::sides_finite;
 use cone::judge::three_finite;
 use cone::judge::three_ok;
-use cone::refusal::Faults;
 use cone::refusal::counted;
 use cone::refusal::finished;
-use cone::refusal::first_row;
 use cone::refusal::publish;
 use cone::three_of;
 use double::is_finite;
 use kinds::three;
 use kinds::three::Valued;
+use table::Faults;
+use table::first_row;
 
 // The table, by what is wrong with the call's lengths and its record, and whether its own numbers are finite.
 fn rows(

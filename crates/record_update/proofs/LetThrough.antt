@@ -9,7 +9,7 @@ use Rattle.cone.specs.declared.Scaling.{Scaling}
 use Rattle.cone.specs.Judges.{numelOf}
 use Rattle.cone.specs.Calls.{WideCall}
 use Rattle.cone.specs.Refusals.{lastSerial}
-use Rattle.cone.proofs.Settled.{no-fault}
+use Rattle.table.proofs.Settled.{no-fault}
 use Rattle.cone.proofs.Lengths.{same-2, cone-is-ok, wide-call}
 use Rattle.record_update.specs.Entries.{updateRows}
 

@@ -8,7 +8,8 @@ use Rattle.cone.specs.declared.Scaling.{Scaling}
 use Rattle.cone.specs.declared.Updated.{Updated}
 use Rattle.cone.specs.declared.Attempt.{Attempt}
 use Rattle.cone.specs.Judges.{numelOf, allFinite, recordFinite}
-use Rattle.cone.specs.Refusals.{firstRow, badCone, otherLength, badStrategy, isSpent, lastRows, settle, refuseUpdate}
+use Rattle.table.specs.Table.{firstRow, settle}
+use Rattle.cone.specs.Refusals.{badCone, otherLength, badStrategy, isSpent, lastRows, refuseUpdate}
 use Rattle.scaling.specs.Updates.{newRecordOf}
 
 -- 01: "Every argument of a call is judged, read or not, a passed record's numbers under 3 included."

@@ -10,11 +10,11 @@ use cone::judge::cone_ok;
 use cone::judge::numel;
 use cone::judge::record_finite;
 use cone::judge::strategy_ok;
-use cone::refusal::Faults;
-use cone::refusal::first_row;
 use cone::refusal::last_rows;
 use double::is_finite;
 use scaling::update::new_record;
+use table::Faults;
+use table::first_row;
 
 fn update_rows(scaling: Scaling, s: &[f64], z: &[f64], mu: f64, strategy: u32) -> u32
     ensures { λ r. ⌜ r ≡ updateRows scaling (now (s .entry)) (now (z .entry)) mu strategy ⌝ }

@@ -11,8 +11,10 @@ use Rattle.cone.specs.declared.Scaling.{Scaling}
 use Rattle.cone.specs.declared.Number.{Number}
 use Rattle.cone.specs.declared.Rounds.{Rounds}
 use Rattle.cone.specs.Judges.{ruleOk, toleranceOf, wideOk, wideFinite, allFinite, sidesFinite}
-use Rattle.cone.specs.Refusals.{firstRow, otherLength, neverScaled, otherSerial}
-use Rattle.cone.specs.Refusals.{Lent, settle, refuse, refuseNumber, refuseRounds, publishOf, numberOf, withRounds}
+use Rattle.table.specs.Table.{firstRow}
+use Rattle.cone.specs.Refusals.{otherLength, neverScaled, otherSerial}
+use Rattle.table.specs.Table.{settle}
+use Rattle.cone.specs.Refusals.{Lent, refuse, refuseNumber, refuseRounds, publishOf, numberOf, withRounds}
 use Rattle.genpowcone.specs.Rank3 as genRank3
 use Rattle.kinds.specs.Wide as wide
 

@@ -15,13 +15,13 @@ use cone::judge::sides_finite;
 use cone::judge::tolerance_of;
 use cone::judge::wide_finite;
 use cone::judge::wide_ok;
-use cone::refusal::Faults;
 use cone::refusal::counted;
 use cone::refusal::finished;
-use cone::refusal::first_row;
 use cone::refusal::publish;
 use double::is_finite;
 use kinds::wide;
+use table::Faults;
+use table::first_row;
 
 // The table, by what is wrong with the call's lengths and its record, and whether its own numbers are finite.
 fn rows<'a>(

@@ -7,7 +7,7 @@ use native.Mathlib.Omega.{arith}
 use lib.ListN.{length, take, drop}
 use lib.Seq.{take-at}
 use borrow.Author.Tests.{lt-ltb, le-ltb}
-use Rattle.cone.specs.Refusals.{traceRow, settle}
+use Rattle.table.specs.Table.{traceRow, settle}
 use Rattle.trace_layout.specs.Traces.{editionAt, goodTrace, recordsOf}
 use Rattle.lines.specs.Lines.{refusedText}
 use Rattle.replay_text.specs.Text.{replayText}

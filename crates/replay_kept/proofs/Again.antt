@@ -13,8 +13,9 @@ use Rattle.cone.specs.declared.Cone.{Cone}
 use Rattle.cone.specs.declared.Settings.{Settings}
 use Rattle.cone.specs.declared.Steps.{Steps}
 use Rattle.cone.specs.Judges.{coneOk, numelOf}
-use Rattle.cone.specs.Refusals.{LentTwo, settle, otherLength}
-use Rattle.cone.proofs.Settled.{no-fault}
+use Rattle.table.specs.Table.{settle}
+use Rattle.cone.specs.Refusals.{LentTwo, otherLength}
+use Rattle.table.proofs.Settled.{no-fault}
 use Rattle.search_entries.specs.Rows.{stepFaults}
 use Rattle.search_entries.specs.Entries.{refuseSteps, stepLengthOf}
 use Rattle.rerun.specs.Rerun.{sameAnswers, blankPoint}

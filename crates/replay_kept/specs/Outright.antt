@@ -10,7 +10,7 @@ use lib.ListN.{length, take, drop, getD}
 use Rattle.double.specs.Numbers.{dec}
 use Rattle.cone.specs.declared.Settings.{Settings}
 use Rattle.cone.specs.Judges.{numelOf}
-use Rattle.cone.specs.Refusals.{traceRow, settle}
+use Rattle.table.specs.Table.{traceRow, settle}
 use Rattle.search_entries.specs.Entries.{stepLengthOf}
 use Rattle.trace_layout.specs.Records.{Record, sizeIn}
 use Rattle.trace_layout.specs.Traces.{editionAt, goodTrace, recordsOf}

@@ -9,8 +9,8 @@ use lib.ListN.{length, take, drop}
 use lib.Seq.{sets}
 use borrow.Author.Tests.{ltb-false}
 use Rattle.arith.proofs.Branches.{and-left, false-not-true}
-use Rattle.cone.specs.Refusals.{traceRow}
-use Rattle.cone.proofs.Settled.{refused, through, trace-row-off}
+use Rattle.table.specs.Table.{traceRow}
+use Rattle.table.proofs.Settled.{refused, through, trace-row-off}
 use Rattle.words.proofs.Stores.{sets-first}
 use Rattle.trace_layout.specs.Records.{Record, sizeAt, sizeIn}
 use Rattle.trace_layout.specs.Traces.{countAt, listAt, editionAt, trailerOk, walks, goodTrace, recordsIn, recordsOf}

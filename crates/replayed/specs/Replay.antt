@@ -4,7 +4,7 @@ use mathlib.Core.Bool.{Bool, cond, not}
 use mathlib.Core.List.{List, [], _∷_, _++_}
 use lib.Dec.{ltb}
 use lib.ListN.{length, take, drop}
-use Rattle.cone.specs.Refusals.{traceRow, settle}
+use Rattle.table.specs.Table.{traceRow, settle}
 use Rattle.trace_layout.specs.Records.{Record, sizeIn}
 use Rattle.trace_layout.specs.Traces.{editionAt, goodTrace, recordsIn, recordsOf}
 use Rattle.trace.specs.declared.Opened.{Opened}

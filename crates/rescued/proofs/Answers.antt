@@ -8,8 +8,8 @@ use lib.Dec.{eqb, ltb}
 use lib.ListN.{length, take}
 use lib.Seq.{sets}
 use borrow.Author.Tests.{ltb-false}
-use Rattle.cone.specs.Refusals.{traceRow}
-use Rattle.cone.proofs.Settled.{refused, through, trace-row-off}
+use Rattle.table.specs.Table.{traceRow}
+use Rattle.table.proofs.Settled.{refused, through, trace-row-off}
 use Rattle.words.specs.Words.{AllBelow}
 use Rattle.words.proofs.Stores.{sets-first, cut-is}
 use Rattle.trace.specs.declared.Opened.{Opened}

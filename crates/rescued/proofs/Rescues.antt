@@ -8,8 +8,8 @@ use lib.Dec.{ltb}
 use lib.ListN.{length, drop}
 use lib.Seq.{take-at, drop-at}
 use borrow.Author.Tests.{le-ltb, ltb-false, not-false}
-use Rattle.cone.specs.Refusals.{traceRow, settle}
-use Rattle.cone.proofs.Settled.{trace-row-off}
+use Rattle.table.specs.Table.{traceRow, settle}
+use Rattle.table.proofs.Settled.{trace-row-off}
 use Rattle.words.specs.Words.{spelled, wordAt, AllBelow}
 use Rattle.trace_layout.specs.Records.{Record, laidAt}
 use Rattle.trace_layout.specs.Traces.{known, recordsBytes, traceOf, editionAt, goodTrace, recordsOf}

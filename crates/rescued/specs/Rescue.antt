@@ -4,7 +4,7 @@ use mathlib.Core.Bool.{Bool, cond, false, not, _&&_}
 use mathlib.Core.List.{List, _++_}
 use lib.Dec.{eqb, leb, ltb}
 use lib.ListN.{length, drop}
-use Rattle.cone.specs.Refusals.{traceRow, settle}
+use Rattle.table.specs.Table.{traceRow, settle}
 use Rattle.words.specs.Words.{wordAt}
 use Rattle.trace_layout.specs.Records.{Record}
 use Rattle.trace_layout.specs.Traces.{backMark, known, recordsBytes, traceOf, editionAt, goodTrace}

@@ -5,7 +5,7 @@ ghost use mathlib.Core.Bool.{cond};
 ghost use lib.ListN.{length};
 ghost use Rattle.words.specs.Words.{AllBelow};
 ghost use Rattle.rescued.specs.Rescue.{editionFor, refusedWith, rescueOf};
-use cone::refusal::trace_row;
+use table::trace_row;
 use trace::BACK_MARK;
 use trace::judge::known;
 use trace::judge::open;

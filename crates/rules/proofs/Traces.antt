@@ -6,7 +6,7 @@ use mathlib.Core.List.{List}
 use lib.ListN.{length, take}
 use borrow.Author.Tests.{eq-eqb, ne-eqb}
 use Rattle.arith.proofs.Branches.{false-not-true}
-use Rattle.cone.specs.Refusals.{settle, traceRow}
+use Rattle.table.specs.Table.{settle, traceRow}
 use Rattle.words.specs.Words.{AllBelow}
 use Rattle.words.specs.Runs.{runsSize}
 use Rattle.trace_layout.specs.Records.{Record, runsFor}

@@ -6,9 +6,10 @@ use lib.Dec.{eqb}
 use lib.Ieee.{Float}
 use Rattle.cone.specs.declared.Cone.{Cone}
 use Rattle.cone.specs.declared.Settings.{Settings}
-use Rattle.cone.specs.declared.refusal.Faults.{Faults}
+use Rattle.table.specs.declared.Faults.{Faults}
 use Rattle.cone.specs.Judges.{numelOf, allFinite, sidesFinite, settingsFinite}
-use Rattle.cone.specs.Refusals.{firstRow, badCone, otherLength, badSettings}
+use Rattle.table.specs.Table.{firstRow}
+use Rattle.cone.specs.Refusals.{badCone, otherLength, badSettings}
 
 -- 01: "A slice that is only written is judged by its length alone": `point`, `dualPoint` and `primalPoint` are such lengths.
 -- 01: "Feasibility and step search take a cone and no record": none is unscaled, none has a serial

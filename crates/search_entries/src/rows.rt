@@ -9,8 +9,8 @@ use cone::judge::numel;
 use cone::judge::settings_finite;
 use cone::judge::settings_ok;
 use cone::judge::sides_finite;
-use cone::refusal::Faults;
-use cone::refusal::first_row;
+use table::Faults;
+use table::first_row;
 
 pub fn search_rows(cone: Cone, dq: &[f64], q: &[f64], point: usize, settings: Settings) -> u32
     ensures { λ r. ⌜ r ≡ searchRows cone (now (dq .entry)) (now (q .entry)) point settings ⌝ }

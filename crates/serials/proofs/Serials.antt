@@ -12,8 +12,9 @@ use Rattle.cone.specs.declared.Cone.{Cone}
 use Rattle.cone.specs.declared.Scaling.{Scaling}
 use Rattle.cone.specs.declared.Updated.{Updated}
 use Rattle.cone.specs.Fresh as fresh
-use Rattle.cone.specs.Refusals.{Lent, settle, refuse}
-use Rattle.cone.proofs.Settled.{no-fault}
+use Rattle.table.specs.Table.{settle}
+use Rattle.cone.specs.Refusals.{Lent, refuse}
+use Rattle.table.proofs.Settled.{no-fault}
 use Rattle.cone_entries.specs.Entries.{freshOf}
 use Rattle.record_update.proofs.Updates.{refused-keeps, completed-makes}
 use Rattle.record_entries.specs.Rows.{blockRows, productRows, correctionRows}

@@ -15,8 +15,8 @@ use Rattle.trace_layout.specs.Records.{Record, bytesOf, sizeIn, runsFor, expone
 use Rattle.trace_layout.specs.Traces.{mostRecords, listAt, countAt, editionAt, goodTrace, recordsOf}
 use Rattle.trace.specs.Opening.{openOf}
 use Rattle.trace_layout.proofs.Growing.{old-count, old-length, grown-length, grown-stored}
-use Rattle.cone.specs.Refusals.{traceRow}
-use Rattle.cone.proofs.Settled.{trace-row-off}
+use Rattle.table.specs.Table.{traceRow}
+use Rattle.table.proofs.Settled.{trace-row-off}
 use Rattle.trace_writer.specs.declared.Entry.{Entry}
 use Rattle.trace_writer.specs.declared.Place.{Place}
 use Rattle.trace_writer.specs.Entries.{recordOf, entryBytes, insertOf}

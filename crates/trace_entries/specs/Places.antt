@@ -4,7 +4,7 @@ use mathlib.Core.Bool.{Bool, cond, not, _&&_, _||_}
 use mathlib.Core.List.{List}
 use lib.Dec.{eqb, leb, ltb}
 use lib.ListN.{length, take}
-use Rattle.cone.specs.Refusals.{traceRow}
+use Rattle.table.specs.Table.{traceRow}
 use Rattle.words.specs.Runs.{runsSize}
 use Rattle.trace.specs.declared.Opened.{Opened}
 use Rattle.trace_layout.specs.Records.{shapeOk, stepOk, runsFor}

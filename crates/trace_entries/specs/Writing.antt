@@ -8,7 +8,7 @@ use lib.ListN.{length, take, drop}
 use Rattle.cone.specs.declared.Cone.{Cone}
 use Rattle.cone.specs.declared.Settings.{Settings}
 use Rattle.cone.specs.declared.Steps.{Steps}
-use Rattle.cone.specs.Refusals.{traceRow, settle}
+use Rattle.table.specs.Table.{traceRow, settle}
 use Rattle.trace_layout.specs.Records.{Record}
 use Rattle.trace_layout.specs.Traces.{newestEdition, mostRecords, traceOf, editionAt, goodTrace, recordsOf}
 use Rattle.trace_entries.specs.declared.Written.{Written}

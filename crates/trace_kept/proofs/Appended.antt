@@ -23,7 +23,7 @@ use Rattle.trace_layout.proofs.Inverses.{traces-inverse, appending-keeps}
 use Rattle.cone.specs.declared.Cone.{Cone}
 use Rattle.cone.specs.declared.Settings.{Settings}
 use Rattle.cone.specs.declared.Steps.{Steps}
-use Rattle.cone.specs.Refusals.{settle}
+use Rattle.table.specs.Table.{settle}
 use Rattle.trace_writer.specs.declared.Entry.{Entry}
 use Rattle.trace_writer.specs.Entries.{settingsRow, recordOf}
 use Rattle.trace_writer.proofs.Bits.{length-bitsOf}

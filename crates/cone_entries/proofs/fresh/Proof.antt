@@ -1,5 +1,5 @@
 -- A bad cone gets the record of no cone, any other its own. Assumes nothing.
-use Rattle.cone.proofs.Settled.{refused, done}
+use Rattle.table.proofs.Settled.{refused, done}
 use Rattle.cone_entries.specs.Entries.{freshOf}
 use borrow.Author.Needs.{needs}
 use Rattle.cone_entries.proofs.fresh.Statement.{statement}

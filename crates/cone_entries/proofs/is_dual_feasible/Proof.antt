@@ -1,5 +1,5 @@
 -- A call that its rows refuse leaves with their number and no, one that they let through with the test's answer. Assumes nothing.
-use Rattle.cone.proofs.Settled.{refused, done}
+use Rattle.table.proofs.Settled.{refused, done}
 use Rattle.cone_entries.specs.Entries.{isDualFeasibleOf}
 use borrow.Author.Needs.{needs}
 use Rattle.cone_entries.proofs.is_dual_feasible.Statement.{statement}

@@ -10,7 +10,7 @@ use Rattle.cone.specs.Points.{wideOf}
 use Rattle.cone.specs.Refusals.{Lent, publishOf, refuse}
 use Rattle.cone.proofs.Points.{wide-front}
 use Rattle.cone.proofs.Lengths.{cut}
-use Rattle.cone.proofs.Settled.{refused, done}
+use Rattle.table.proofs.Settled.{refused, done}
 use Rattle.cone_entries.proofs.Lengths.{copy-length}
 use Rattle.cone_entries.specs.Rows.{copyRows}
 use Rattle.cone_entries.specs.Equilibration.{rectifiedOf}

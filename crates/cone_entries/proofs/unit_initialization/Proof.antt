@@ -11,9 +11,9 @@ use Rattle.cone.specs.Refusals.{LentTwo, publishTwoOf, refuseTwo}
 use Rattle.kinds.specs.Cones.{alphaOf}
 use Rattle.kinds.specs.Three as three
 use Rattle.kinds.specs.Wide as wide
-use Rattle.cone.proofs.Settled.{refused}
+use Rattle.table.proofs.Settled.{refused}
 use Rattle.cone.proofs.Lengths.{numel-at-most, numel-3D, cut}
-use Rattle.cone.proofs.Choices.{done-taken, done-left}
+use Rattle.table.proofs.Choices.{done-taken, done-left}
 use Rattle.cone_entries.proofs.Lengths.{unit-lengths}
 use Rattle.cone_entries.specs.Rows.{unitRows}
 use Rattle.cone_entries.specs.Entries.{unitInitializationOf}

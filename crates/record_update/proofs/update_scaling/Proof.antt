@@ -3,7 +3,7 @@
 use mathlib.Core.Path.{_∙_, sym, ap}
 use native.Mathlib.Omega.{arith}
 use Rattle.cone.specs.Refusals.{lastRows}
-use Rattle.cone.proofs.Settled.{refused, done}
+use Rattle.table.proofs.Settled.{refused, done}
 use Rattle.record_update.specs.Entries.{completed, updateScalingOf}
 use Rattle.record_update.proofs.LetThrough.{update-call, not-last}
 use borrow.Author.Needs.{needs}

@@ -3,7 +3,7 @@ use mathlib.Core.Path.{_∙_, ap}
 use native.Mathlib.Omega.{arith}
 use lib.ListN.{length}
 use Rattle.cone.specs.Refusals.{numberOf}
-use Rattle.cone.proofs.Settled.{both, refused, through}
+use Rattle.table.proofs.Settled.{both, refused, through}
 use Rattle.cone.proofs.Lengths.{same-4}
 use Rattle.record_wide.specs.Entries.{dims, rowsIn, computeBarrierOf}
 use Rattle.record_wide.proofs.Judging.{lengths-right, small-dims}

@@ -3,7 +3,7 @@ use mathlib.Core.Path.{_≡_, _∙_, ap}
 use Prim.Native.Nat.{_≤_}
 use native.Mathlib.Omega.{arith}
 use lib.ListN.{length}
-use Rattle.cone.proofs.Settled.{refused, through}
+use Rattle.table.proofs.Settled.{refused, through}
 use Rattle.cone.proofs.Lengths.{same-2}
 use Rattle.genpowcone.specs.Rank3 as genRank3
 use Rattle.record_wide.specs.Entries.{dims, rowsIn, mulHsOf}

@@ -1,6 +1,6 @@
 -- A call that its rows refuse leaves with their number, one that they let through hands the search's outcome on. Assumes nothing.
 use mathlib.Core.Path.{_∙_, sym, ap}
-use Rattle.cone.proofs.Settled.{refused, done}
+use Rattle.table.proofs.Settled.{refused, done}
 use Rattle.search_entries.proofs.LetThrough.{searchable}
 use Rattle.search_entries.specs.Entries.{found, backtrackSearchOf}
 use borrow.Author.Needs.{needs}

@@ -1,6 +1,6 @@
 -- A call that its rows refuse leaves with their number, one that they let through hands both outcomes on. Assumes nothing.
 use mathlib.Core.Path.{_≡_, _∙_, sym, ap}
-use Rattle.cone.proofs.Settled.{refused, done}
+use Rattle.table.proofs.Settled.{refused, done}
 use Rattle.trials.specs.Search.{Outcome}
 use Rattle.search.specs.Problems.{Searchable}
 use Rattle.search_entries.proofs.LetThrough.{both-searchable}

@@ -13,7 +13,7 @@ use Rattle.trace_layout.specs.Records.{Record, exponents, shapeOk, runsFor}
 use Rattle.trace_layout.specs.Traces.{editionAt, countAt, listAt}
 use Rattle.words.specs.Runs.{runsSize}
 use Rattle.trace_layout.proofs.Records.{bounds, exponents-most}
-use Rattle.cone.proofs.Settled.{refused, done}
+use Rattle.table.proofs.Settled.{refused, done}
 use Rattle.trace_writer.specs.declared.Entry.{Entry}
 use Rattle.trace_writer.specs.declared.Place.{Place}
 use Rattle.trace_writer.specs.Entries.{entryBytes, recordOf, insertOf}

@@ -1,6 +1,6 @@
 -- `wide_finite` joins the judgements of its eight parts. Assumes nothing.
 use Rattle.cone.specs.Judges.{wideFinite}
-use Rattle.cone.proofs.Settled.{both}
+use Rattle.table.proofs.Settled.{both}
 use borrow.Author.Needs.{needs}
 use Rattle.cone.proofs.judge.wide_finite.Statement.{statement}
 use Rattle.cone.proofs.judge.wide_finite.Tie as tie

@@ -3,8 +3,8 @@ use mathlib.Core.Path.{_≡_, _∙_}
 use mathlib.Core.Bool.{Bool, true, false, cond}
 use Prim.Native.Nat.{ℕ}
 use Rattle.arith.proofs.Branches.{taken, left}
-use Rattle.cone.specs.Refusals.{settle}
-use Rattle.cone.proofs.Settled.{done}
+use Rattle.table.specs.Table.{settle}
+use Rattle.table.proofs.Settled.{done}
 
 module _ {A : Type 0} {b : Bool} {x a : A} (k r : ℕ) (other : A) (f : ℕ → A) (e : r ≡ k) (z : r ≡ 0) where
   pub done-taken : b ≡ true → x ≡ a → x ≡ settle k (cond b a other) f

@@ -1,7 +1,7 @@
 -- `first_row` asks the rows in the definition's order. Assumes nothing.
-use Rattle.cone.specs.Refusals.{firstRow}
-use Rattle.cone.proofs.refusal.first_row.Statement.{statement}
-use Rattle.cone.proofs.refusal.first_row.Tie as tie
+use Rattle.table.specs.Table.{firstRow}
+use Rattle.table.proofs.first_row.Statement.{statement}
+use Rattle.table.proofs.first_row.Tie as tie
 
 returns : tie.Need-returns
 unfolding firstRow

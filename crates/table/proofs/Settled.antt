@@ -1,14 +1,10 @@
--- A call that leaves with its rows' number is refused with it, one whose rows give 0 goes on, and then no row applied; what it publishes
--- goes out with its count of rounds. Assumes nothing.
+-- A call that leaves with its rows' number is refused with it, one whose rows give 0 goes on, and then no row applied. Assumes nothing.
 use mathlib.Core.Path.{_≡_, refl, sym, _∙_, ap, subst}
 use mathlib.Core.Bool.{Bool, true, false, cond, _&&_}
-use mathlib.Core.List.{List}
 use Prim.Native.Nat.{ℕ, zero, suc, _<_}
 use native.Mathlib.Omega.{arith}
-use lib.Ieee.{Float}
-use Rattle.cone.specs.declared.Rounds.{Rounds}
-use Rattle.cone.specs.declared.refusal.Faults.{Faults}
-use Rattle.cone.specs.Refusals.{firstRow, traceRow, settle, Lent, countedOf, withRounds}
+use Rattle.table.specs.declared.Faults.{Faults}
+use Rattle.table.specs.Table.{firstRow, traceRow, settle}
 
 pub refused : {A : Type 0} (k r : ℕ) (d : A) (f : ℕ → A) → r ≡ k → (r ≡ 0 → ⊥) → f r ≡ settle k d f
 unfolding settle
@@ -21,14 +17,6 @@ done k r d f e z = subst (λ (n : ℕ). d ≡ settle n d f) (sym z ∙ e) refl
 
 pub through : {A : Type 0} {x : A} (k r : ℕ) (d : A) (f : ℕ → A) → r ≡ k → r ≡ 0 → x ≡ d → x ≡ settle k d f
 through k r d f e z p = p ∙ done k r d f e z
-
--- an answer that was published, and the number of it and its rounds
-pub with-count
-    : (published : Lent ℕ) (rounds : ℕ) {k : ℕ} {out : List Float} {t : Rounds}
-    → record { answer = k; slice = out } ≡ published
-    → t ≡ countedOf k rounds
-    → record { answer = t; slice = out } ≡ withRounds rounds published
-with-count published rounds {out = out} q e = ap (λ (n : Rounds). record { answer = n; slice = out }) e ∙ ap (withRounds rounds) q
 
 -- two judgements taken together
 pub both : {a b a' b' : Bool} → a ≡ a' → b ≡ b' → (a && b) ≡ (a' && b')

@@ -1,7 +1,7 @@
 -- `trace_row` asks the two rows in the definition's order. Assumes nothing.
-use Rattle.cone.specs.Refusals.{traceRow}
-use Rattle.cone.proofs.refusal.trace_row.Statement.{statement}
-use Rattle.cone.proofs.refusal.trace_row.Tie as tie
+use Rattle.table.specs.Table.{traceRow}
+use Rattle.table.proofs.trace_row.Statement.{statement}
+use Rattle.table.proofs.trace_row.Tie as tie
 
 returns : tie.Need-returns
 unfolding traceRow

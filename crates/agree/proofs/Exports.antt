@@ -27,6 +27,7 @@ use Rattle.spindle.proofs.spindle_house_settings.Reads as house-settings
 use Rattle.spindle.proofs.spindle_house_strategy.Reads as house-strategy
 use Rattle.spindle.proofs.spindle_backtrack_search.Reads as backtrack-search
 use Rattle.spindle.proofs.spindle_step_length.Reads as step-length
+use Rattle.spindle.proofs.spindle_common_step.Reads as common-step
 use Rattle.spindle.proofs.spindle_unit_initialization.Reads as unit-initialization
 use Rattle.spindle.proofs.spindle_rectify_equilibration.Reads as rectify-equilibration
 use Rattle.spindle.proofs.spindle_affine_ds.Reads as affine-ds
@@ -85,6 +86,9 @@ backtrack-search-agrees κs a x y s t p q = one {A = Found} (p ∙ sym q)
 pub step-length-agrees :
     OneOutcome step-length.Post {A = List Float × List Float} (λ κs s. (now (s .1 .1 .1 .1 .1 .0), now (s .1 .1 .1 .1 .1 .1 .0)))
 step-length-agrees κs a x y s t p q = two {A = Steps} (p ∙ sym q)
+
+pub common-step-agrees : OneOutcome common-step.Post {A = List Float} (λ κs s. now (s .1 .1 .1 .1 .0))
+common-step-agrees κs a x y s t p q = one {A = Found} (p ∙ sym q)
 
 pub unit-initialization-agrees :
     OneOutcome unit-initialization.Post {A = List Float × List Float} (λ κs s. (now (s .1 .0), now (s .1 .1 .0)))

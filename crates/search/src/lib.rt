@@ -15,7 +15,7 @@ pub struct Searched {
 }
 
 // Writes q + alpha * dq into point.
-fn put_trial(q: &[f64], dq: &[f64], alpha: f64, point: &mut [f64])
+pub fn put_trial(q: &[f64], dq: &[f64], alpha: f64, point: &mut [f64])
     requires { ⌜ (length (now dq) ≡ length (now q)) × (length (now point) ≡ length (now q)) ⌝ }
     ensures { λ _. ⌜ now (point .exit) ≡ trialPoint (now (q .entry)) (now (dq .entry)) alpha ⌝ }
 {

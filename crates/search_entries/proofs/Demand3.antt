@@ -32,7 +32,7 @@ use Rattle.search_entries.proofs.step_length.Kinds as step-kinds
 use Rattle.search_entries.proofs.step_length.Reads as step
 
 -- a call whose number is 0 was let through: a refusal carries the number of its row
-let-through : {A : Type 0} (number : A → ℕ) (d : A) (refuse : ℕ → A) → ((k : ℕ) → number (refuse k) ≡ k)
+pub let-through : {A : Type 0} (number : A → ℕ) (d : A) (refuse : ℕ → A) → ((k : ℕ) → number (refuse k) ≡ k)
     → (k : ℕ) → number (settle k d refuse) ≡ 0 → k ≡ 0
 unfolding settle
 let-through number d refuse carries zero e = refl

@@ -5,6 +5,8 @@ ghost use Rattle.cone.specs.Fresh.{houseSettings, houseStrategy};
 ghost use Rattle.cone_entries.specs.Entries.{freshOf, isPrimalFeasibleOf, isDualFeasibleOf, barrierDualOf, dualGradHOf};
 ghost use Rattle.cone_entries.specs.Entries.{unitInitializationOf, rectifyEquilibrationOf, affineDsOf, dsFromDzOffsetOf};
 ghost use Rattle.search_entries.specs.Entries.{backtrackSearchOf, stepLengthOf};
+ghost use Rattle.cone_words.specs.Words.{conesOf};
+ghost use Rattle.plan_entries.specs.Entries.{commonStepOf};
 ghost use Rattle.record_update.specs.Entries.{updateScalingOf};
 ghost use Rattle.record_entries.specs.Entries.{gradientPrimalOf, barrierPrimalOf, computeBarrierOf, getHsOf, mulHsOf};
 ghost use Rattle.record_entries.specs.Entries.{higherCorrectionOf, combinedDsShiftOf};
@@ -142,6 +144,22 @@ pub extern "C" fn spindle_step_length(
         (now (primalpoint .entry)) settings ⌝ }
 {
     search_entries::step_length(cone, dz, ds, z, s, dualpoint, primalpoint, settings)
+}
+
+// The list is the memory of C's `const Cone *cones, size_t ncones`: 34 words a cone.
+#[no_mangle]
+pub extern "C" fn spindle_common_step(
+    cones: &[[u64; 34]],
+    primal: bool,
+    dq: &[f64],
+    q: &[f64],
+    point: &mut [f64],
+    settings: Settings,
+) -> Found
+    ensures { λ r. ⌜ record { answer = r; slice = now (point .exit) }
+        ≡ commonStepOf (conesOf (now (cones .entry))) primal (now (dq .entry)) (now (q .entry)) (now (point .entry)) settings ⌝ }
+{
+    plan_entries::common_step(cones, primal, dq, q, point, settings)
 }
 
 #[no_mangle]

@@ -35,14 +35,14 @@ module _ (P : Problem) where
 
   -- ---- how the search ends, in the words of the statement
 
-  first-of : (n : ℕ) → Reached P n (trialOf P n) → passesAt P (trialOf P n) ≡ true → First P n
+  pub first-of : (n : ℕ) → Reached P n (trialOf P n) → passesAt P (trialOf P n) ≡ true → First P n
   first-of n r p = record { allowed = r .allowed; passes = p; none-before = r .failed }
 
-  last-of : (n : ℕ) → Reached P n (trialOf P n) → cutAfter P (trialOf P n) ≡ true → Last P n
+  pub last-of : (n : ℕ) → Reached P n (trialOf P n) → cutAfter P (trialOf P n) ≡ true → Last P n
   unfolding trial
   last-of n r c = record { allowed = r .allowed; next-cut = c }
 
-  none-of : (n : ℕ) → Reached P n (trialOf P n) → passesAt P (trialOf P n) ≡ false → Last P n → NonePasses P
+  pub none-of : (n : ℕ) → Reached P n (trialOf P n) → passesAt P (trialOf P n) ≡ false → Last P n → NonePasses P
   none-of n r p z k a = go (decLt n k)
     where
       up-to : (n < k → ⊥) → k < suc n

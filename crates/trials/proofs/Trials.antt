@@ -1,9 +1,12 @@
--- There are at most `bound` allowed trials: each product leaves at most 0.99 + 2^-53 of a trial, so 69 of them take a binary exponent. Assumes nothing.
+-- The allowed trials fall, and there are at most `bound` of them: each product leaves at most 0.99 + 2^-53 of a trial, so 69 of them take a binary
+-- exponent. Assumes nothing.
 -- The trials are followed in units, that is as whole numbers. A start below the smallest step may be subnormal; then the first product is below the
 -- smallest step too.
 use mathlib.Core.Path.{_≡_, refl, sym, ap, _∙_, subst}
 use Prim.Native.Nat.{ℕ, zero, suc, _+_, _-_, _*_, _^_, _≤_, _<_}
-use native.Mathlib.Nat.{le-refl, le-trans, le-of-eq, le-of-lt, lt-of-le-of-lt, lt-of-lt-of-le, lt-of-not-le}
+use mathlib.Core.Logic.{inl, inr}
+use native.Mathlib.Nat.{le-refl, le-trans, le-of-eq, le-of-lt, le-suc, le-step, lt-trans, lt-of-le-of-lt, lt-of-lt-of-le, lt-of-not-le}
+use native.Mathlib.Nat.{eq-or-lt-of-le, le-of-suc-le-suc, not-suc-le-zero}
 use native.Mathlib.Nat.{one-mul, mul-comm, mul-assoc, mul-le-mul-right, le-div-iff-mul-le}
 use native.Mathlib.Omega.{arith}
 use mathlib.Core.Bool.{Bool, true, false, cond, true≢false}
@@ -187,6 +190,33 @@ module _ (how : Settings) (ok : Usable how) where
       go false e n a = good e n n a (le-refl n) .pos
       go true e zero a = ok .start-positive
       go true e (suc n) a = absurd (true≢false (sym (once e) ∙ a 1 (omega arith) (omega arith)))
+
+  -- the allowed trials fall: each is below all before it
+  next-falls : (how .start ≺ how .smallest) ≡ false → (k : ℕ) → Allowed how (suc k) → u (suc k) < u k
+  unfolding u
+  next-falls e k a =
+      let g = good e (suc k) k a (le-suc k) in
+      let z = after k g in
+      subst (λ (w : ℕ). w < u k) (sym (units-of binary64 (trial how (suc k)) (z .units) (z .is)))
+      (less-of-product (z .units) (u k) (z .small) (lt-of-lt-of-le M-pos (g .above)))
+
+  falls : (how .start ≺ how .smallest) ≡ false → (n k : ℕ) → k < n → Allowed how n → u n < u k
+  falls e zero k l a = absurd (not-suc-le-zero l)
+  falls e (suc n) k l a =
+      elim (eq-or-lt-of-le (le-of-suc-le-suc l)) [
+        | inl p ↦ subst (λ (j : ℕ). u (suc n) < u j) (sym p) (next-falls e n a)
+        | inr h ↦ lt-trans (next-falls e n a) (falls e n k h (λ j p m. a j p (le-step m)))
+      ]
+
+  pub above-later : (k n : ℕ) → k < n → Allowed how n → T (trial how n ≺ trial how k)
+  unfolding u
+  above-later k n l a = go (how .start ≺ how .smallest) refl
+    where
+      go : (b : Bool) → (how .start ≺ how .smallest) ≡ b → T (trial how n ≺ trial how k)
+      go true e = absurd (true≢false (sym (once e) ∙ a 1 (omega arith) (omega arith)))
+      go false e =
+          lt-of-units binary64 (trial how n) (trial how k) (u n) (u k) (good e n n a (le-refl n) .is) (good e n k a (le-of-lt l) .is)
+          (falls e n k l a)
 
 -- so a count of tests fits 32 bits
 pub bound-small : (how : Settings) → bound how ≤ 141312

@@ -1,3 +1,5 @@
 pub mod Trials
 pub mod Search
 pub mod FirstPassing
+pub mod Costed
+pub mod LargestPassing

@@ -1,0 +1,31 @@
+-- What can be wrong with a plan's arguments, a row of the table each; and the first row that applies. Definitions only.
+use Prim.Native.Nat.{ℕ}
+use mathlib.Core.Bool.{Bool, false, _||_, _&&_, not}
+use mathlib.Core.List.{List}
+use lib.Dec.{eqb}
+use lib.Ieee.{Float}
+use Rattle.cone.specs.declared.Cone.{Cone}
+use Rattle.cone.specs.declared.Settings.{Settings}
+use Rattle.table.specs.declared.Faults.{Faults}
+use Rattle.cone.specs.Judges.{allFinite, settingsFinite}
+use Rattle.table.specs.Table.{firstRow}
+use Rattle.cone.specs.Refusals.{otherLength, badSettings}
+use Rattle.plan.specs.Plans.{planOk, totalOf}
+
+-- 02, Order 10: "Refusals: 1 for a bad cone or list length, 2 if the lengths of the cones do not add up to the vectors'."
+-- 01: "A slice that is only written is judged by its length alone": `point` is that length
+unfoldable pub planFaults : List Cone → List Float → List Float → ℕ → Settings → Faults
+planFaults cs dq q point s =
+    let n = totalOf cs in
+    record {
+      cone = not (planOk cs);
+      length = otherLength n dq || otherLength n q || not (eqb point n);
+      number = not (allFinite dq && allFinite q && settingsFinite s);
+      setting = badSettings s;
+      spent = false;
+      unscaled = false;
+      serial = false;
+    }
+
+abbrev pub planRows : List Cone → List Float → List Float → ℕ → Settings → ℕ
+planRows cs dq q point s = firstRow (planFaults cs dq q point s)

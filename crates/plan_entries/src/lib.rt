@@ -1,0 +1,59 @@
+// 02, Order 10: the public entry of a plan, one common step for a list of cones on one side. The list is the memory of C's `const Cone *`.
+ghost use mathlib.Core.Path.{_≡_};
+ghost use Rattle.cone_words.specs.Words.{conesOf};
+ghost use Rattle.plan_entries.specs.Rows.{planRows};
+ghost use Rattle.plan_entries.specs.Entries.{commonStepOf};
+use cone::Found;
+use cone::Settings;
+use cone::judge::all_finite;
+use cone::judge::settings_finite;
+use cone::judge::settings_ok;
+use table::Faults;
+use table::first_row;
+
+// The cones are judged before their lengths are added, so that no sum wraps.
+fn plan_rows(cones: &[[u64; 34]], dq: &[f64], q: &[f64], point: usize, settings: Settings) -> u32
+    ensures { λ r. ⌜ r ≡ planRows (conesOf (now (cones .entry))) (now (dq .entry)) (now (q .entry)) point settings ⌝ }
+{
+    if !plan::plan_ok(cones) {
+        return 1;
+    }
+    let n = plan::total(cones);
+    first_row(Faults {
+        cone: false,
+        length: (dq.len() != n) | (q.len() != n) | (point != n),
+        number: !(all_finite(dq) & all_finite(q) & settings_finite(settings)),
+        setting: !settings_ok(settings),
+        spent: false,
+        unscaled: false,
+        serial: false,
+    })
+}
+
+// One side of a plan: primal, or dual. The tested point is handed back, and q with step zero.
+pub fn common_step(
+    cones: &[[u64; 34]],
+    primal: bool,
+    dq: &[f64],
+    q: &[f64],
+    point: &mut [f64],
+    settings: Settings,
+) -> Found
+    ensures { λ r. ⌜ record { answer = r; slice = now (point .exit) }
+        ≡ commonStepOf (conesOf (now (cones .entry))) primal (now (dq .entry)) (now (q .entry)) (now (point .entry)) settings ⌝ }
+{
+    let code = plan_rows(cones, dq, q, point.len(), settings);
+    if code != 0 {
+        return Found {
+            code,
+            count: 0,
+            step: 0.0,
+        };
+    }
+    let searched = plan::common_search(cones, primal, dq, q, settings, point);
+    Found {
+        code: 0,
+        count: searched.count,
+        step: searched.step,
+    }
+}

@@ -38,6 +38,7 @@ void *rust_made(uint32_t numbers, const Inputs *);
 void rust_entry(uint32_t numbers, void *cones, uint32_t entry, const Inputs *, Outputs *);
 void rust_record(void *cones, size_t i, Scaling *record);
 uint32_t rust_search(uint32_t numbers, void *cones, size_t i, const double *dq, const double *q, double *point, const double *settings);
+uint32_t rust_common(void *cones, size_t count, const Inputs *, const double *dq, const double *q, double *point);
 typedef struct { uint64_t searches, tests, turned[2], steps; } Changed;
 void rust_changed(void *cones, const Inputs *, Changed *);
 uint64_t rust_calls(uint32_t kernel);
@@ -545,6 +546,51 @@ static void searches(void)
     }
 }
 
+/* One common step of a plan's first cones, beside the same loop in Rust and beside a search of each cone by itself. The last cone is the first to pass at the
+   trial `trials`, the others stay inside: each trial tests every cone. */
+static void commons(const Plan *p)
+{
+    static const size_t counts[] = { 225, 450, 900 };
+    static const unsigned trials[] = { 1, 5, 20 };
+    size_t all = p->at[900];
+    double *dq = room(all * sizeof(double)), *point = room(all * sizeof(double)), *points = room(all * sizeof(double));
+    void *rust = rust_made(0, &p->in);
+    printf("\nCommon step of a plan, us    cones   trials    tests     port   ns for a test   port/Rust   as many single searches, their tests\n");
+    for (size_t c = 0; c < 3; c++)
+        for (size_t t = 0; t < 3; t++) {
+            size_t count = counts[c], last = count - 1, n = p->at[count];
+            uint32_t tests = (uint32_t)(count * trials[t]), single = 0;
+            memset(dq, 0, all * sizeof(double));
+            direction(&p->cone[last], p->unit + p->at[last], trials[t], dq + p->at[last]);
+            double best[3] = { 1e9, 1e9, 1e9 };
+            for (int turn = 0; turn < 9; turn++) {
+                double before = now();
+                Found found = spindle_common_step(p->cone, count, true, dq, n, p->unit, n, point, n, p->in.settings);
+                double took = now() - before;
+                if (found.code) refused("common_step", last, found.code);
+                if (found.count != tests) { fprintf(stderr, "\nbench: %u tests where %u were meant\n", (unsigned)found.count, (unsigned)tests); exit(1); }
+                if (took < best[0]) best[0] = took;
+                before = now();
+                if (rust_common(rust, count, &p->in, dq, p->unit, points) != tests) { fprintf(stderr, "\nbench: the Rust made other tests\n"); exit(1); }
+                took = now() - before;
+                if (took < best[1]) best[1] = took;
+                if (memcmp(point, points, n * sizeof(double))) { fprintf(stderr, "\nbench: other points\n"); exit(1); }
+                single = 0;
+                before = now();
+                for (size_t i = 0; i < count; i++) {
+                    size_t at = p->at[i], m = p->at[i + 1] - at;
+                    Found one = spindle_backtrack_search(p->cone[i], true, dq + at, m, p->unit + at, m, points + at, m, p->in.settings);
+                    if (one.code) refused("backtrack_search", i, one.code);
+                    single += one.count;
+                }
+                took = now() - before;
+                if (took < best[2]) best[2] = took;
+            }
+            printf("  %24s %7zu %8u %8u %8.1f %15.1f %11.2f %24.1f %7u\n", "", count, trials[t], (unsigned)tests, best[0] * 1e6, best[0] * 1e9 / tests,
+                   best[0] / best[1], best[2] * 1e6, (unsigned)single);
+        }
+}
+
 /* ---- the stack of a call: a painted one of its own */
 
 #define STACK (1 << 18)
@@ -690,6 +736,7 @@ int main(int count, char **words)
         kernels(&p, rounds, sum[PORT]);
         sizes(rounds, runs);
         searches();
+        commons(&p);
         stacks();
     }
     fprintf(stderr, "\r%70s\r", "");

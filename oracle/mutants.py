@@ -77,7 +77,7 @@ def wrong_ports(text, work, calls, only):
         if made.returncode:
             stop(f"the wrong port could not be built: {name}")
         ran = subprocess.run([x86, "run", program, "--calls", str(calls)], capture_output=True, text=True)
-        at = re.search(r"DIFFERENT at ((?:call|row) \d+)", ran.stdout)
+        at = re.search(r"DIFFERENT at ((?:call|row|plan) \d+)", ran.stdout)
         unseen += not at
         print(f"refused at {at.group(1)}: {name}" if at else f"NOT REFUSED: {name}", flush=True)
     print(f"{len(listed)} wrong ports, {len(listed) - unseen} refused, {unseen} not, at most {calls} calls")

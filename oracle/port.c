@@ -67,6 +67,14 @@ void oracle_port(Call *call, Reply *reply)
     }
 }
 
+/* Order 10 of document 02: a plan's call, whose list and slices have no room in a Call */
+typedef struct { const Cone *cones; uint64_t ncones; const double *dq; uint64_t ndq; const double *q; uint64_t nq; double *point; uint64_t np; Settings settings; uint32_t primal; } PlanCall;
+
+void oracle_common(const PlanCall *call, Found *found)
+{
+    *found = spindle_common_step(call->cones, call->ncones, call->primal == 1, call->dq, call->ndq, call->q, call->nq, call->point, call->np, call->settings);
+}
+
 /* A panic of the Rust text comes back to the guard around it; any other panic is a fault of the harness. */
 static void *place[5];
 static int guarded;

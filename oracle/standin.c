@@ -309,6 +309,30 @@ Steps spindle_step_length(Cone c, const double *dz, size_t ndz, const double *ds
     if (!r.code) { r.dual_step = search(&c, false, dz, z, dp, set, &r.dual_count); r.primal_step = search(&c, true, ds, s, pp, set, &r.primal_count); }
     return r;
 }
+/* Order 10 of document 02: a plan of cones, one behind the other over the long vectors */
+static bool all_inside(const Cone *c, size_t n, bool primal, const double *x, uint32_t *tests)
+{
+    for (size_t i = 0; i < n; x += len(&c[i++])) {
+        ++*tests;
+        if (inside(&c[i], primal, x) != 1) return false;
+    }
+    return true;
+}
+Found spindle_common_step(const Cone *c, size_t n, bool primal, const double *dq, size_t ndq, const double *q, size_t nq, double *point, size_t np, Settings s)
+{
+    Found r = { n < 1 || n > 1024, 0, 0 };
+    size_t m = 0;
+    for (size_t i = 0; !r.code && i < n; i++) r.code = bad_cone(&c[i]);
+    for (size_t i = 0; !r.code && i < n; i++) m += len(&c[i]);
+    if (!r.code) r.code = ndq != m || nq != m || np != m ? 2 : !fins(dq, m) || !fins(q, m) ? 3 : bad_settings(s);
+    if (r.code) return r;
+    for (double a = s.start;;) {
+        for (size_t i = 0; i < m; i++) point[i] = q[i] + a * dq[i];
+        if (all_inside(c, n, primal, point, &r.count)) { r.step = a; return r; }
+        a = a * s.step;
+        if (s.smallest > a) { for (size_t i = 0; i < m; i++) point[i] = q[i]; return r; }
+    }
+}
 uint32_t spindle_unit_initialization(Cone c, double *z, size_t nz, double *s, size_t ns)
 {
     if (bad_cone(&c)) return 1;

@@ -3,12 +3,13 @@
 use crate::algebra::FloatT;
 use crate::cones::nonsymmetric_common::{backtrack_search, SEEN, TESTED};
 use crate::cones::{
-    expcone::ExponentialCone, genpowcone::GenPowerCone, powcone::PowerCone, Cone, CoreSettings, NonsymmetricCone, NonsymmetricNDCone,
+    expcone::ExponentialCone, genpowcone::GenPowerCone, long_search, powcone::PowerCone, Cone, CoreSettings, NonsymmetricCone, NonsymmetricNDCone,
     ScalingStrategy,
 };
 use crate::numbers::{Counted, Own};
 use crate::types::{Cone as ConeData, Scaling, MOST};
 use alloc::{boxed::Box, vec::Vec};
+use core::cell::Cell;
 use core::slice::{from_raw_parts, from_raw_parts_mut};
 
 #[repr(C)]
@@ -255,4 +256,27 @@ pub unsafe extern "C" fn rust_search(
         0 => searched::<f64>(cones, i, dq, q, point, settings),
         _ => searched::<Own>(cones, i, dq, q, point, settings),
     }
+}
+
+// One step for the first `count` cones of a plan, on the primal side, by 003's search over their own tests: a trial ends at the first that fails. How many
+// cones were tested. The text has no such loop.
+#[no_mangle]
+pub unsafe extern "C" fn rust_common(cones: *mut u8, count: usize, inputs: *const Inputs, dq: *const f64, q: *const f64, point: *mut f64) -> u32 {
+    let cones = &(&*(cones as *const Vec<Any<f64>>))[..count];
+    let at = from_raw_parts((*inputs).at, count + 1);
+    let n = at[count];
+    let tests = Cell::new(0);
+    let every_cone = |x: &[f64]| {
+        cones.iter().zip(at.windows(2)).all(|(cone, place)| {
+            tests.set(tests.get() + 1);
+            let part = &x[place[0]..place[1]];
+            each!(cone, c => c.is_primal_feasible(part))
+        })
+    };
+    let (dq, q) = (part::<f64>(dq, 0, n), part::<f64>(q, 0, n));
+    let point = part_mut::<f64>(point, 0, n);
+    if long_search(dq, q, &(*inputs).settings, every_cone, point) == 0.0 {
+        point.copy_from_slice(q);
+    }
+    tests.get()
 }

@@ -750,7 +750,7 @@ fn good_case_of(random: &mut Random, entry: u32, cone: Cone) -> Call {
 }
 
 // a start and a direction; often one that leaves the cone at a trial in the middle
-fn search_points(random: &mut Random, cone: &Cone, dual: bool, settings: &[f64; 3]) -> ([f64; MOST], [f64; MOST]) {
+pub fn search_points(random: &mut Random, cone: &Cone, dual: bool, settings: &[f64; 3]) -> ([f64; MOST], [f64; MOST]) {
     let n = length_of(cone);
     let (mut q, mut dq) = ([0.0; MOST], [0.0; MOST]);
     let at = place(random);

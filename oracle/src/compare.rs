@@ -7,6 +7,7 @@ use crate::expected::expected;
 use crate::margins;
 use crate::mutants;
 use crate::paper;
+use crate::plans;
 use crate::random::Random;
 use crate::rules;
 use crate::say;
@@ -531,6 +532,10 @@ pub extern "C" fn oracle_main(count: i32, words: *const *const u8) -> i32 {
             say::line(" s");
             say::flush();
         }
+    }
+    // a plan has as many tests as a thousand calls; with one entry asked for, only that one is compared
+    if options.entry.is_none() && !plans::compare(options.calls / 1000, options.seed) {
+        return 1;
     }
     say_tally(&tally, &pairs, &rounds, tests);
     say_answers(&answers, undecided);

@@ -125,6 +125,12 @@ pub(crate) mod nonsymmetric_common {
     }
 }
 
+// 003's search over any test, not watched: for a plan's long vectors (plans.rs).
+pub(crate) fn long_search<T: FloatT>(dq: &[T], q: &[T], settings: &[T; 3], passes: impl Fn(&[T]) -> bool, work: &mut [T]) -> T {
+    let [start, step, smallest] = *settings;
+    text_of_003::backtrack_search(dq, q, start, smallest, step, passes, work)
+}
+
 pub(crate) mod expcone {
     include!(concat!(env!("SPINDLE_RUST"), "/expcone.rs"));
 

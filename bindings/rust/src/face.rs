@@ -110,6 +110,9 @@ extern "C" {
         cone: Cone, dz: In, ndz: usize, ds: In, nds: usize, z: In, nz: usize, s: In, ns: usize, dual_point: Out, ndp: usize,
         primal_point: Out, npp: usize, settings: Settings,
     ) -> Steps;
+    pub fn spindle_common_step(
+        cones: *const Cone, ncones: usize, primal: bool, dq: In, ndq: usize, q: In, nq: usize, point: Out, np: usize, settings: Settings,
+    ) -> FoundOut;
     pub fn spindle_unit_initialization(cone: Cone, z: Out, nz: usize, s: Out, ns: usize) -> u32;
     pub fn spindle_rectify_equilibration(cone: Cone, delta: Out, nd: usize, e: In, ne: usize) -> YesNo;
     pub fn spindle_affine_ds(cone: Cone, ds: Out, nds: usize, s: In, ns: usize) -> u32;

@@ -15,6 +15,8 @@
 //! A test of feasibility answers yes, no or undecided ([`Answer`]): near the wall of a cone the sign of what it computes is noise. A search
 //! takes a point only on yes.
 //!
+//! A [`Plan`] searches the one step that all cones of a list can take.
+//!
 //! A [`Recorder`] makes the same searches and keeps each in a trace, bytes that a [`Trace`] reads again, and replays: every search is run
 //! once more and compared with its record. What a host that lost power left of one, [`rescue`] makes a trace again.
 //!
@@ -30,8 +32,10 @@
 #![deny(missing_docs)]
 
 mod face;
+mod plan;
 mod trace;
 
+pub use plan::{Parts, Plan, MOST_CONES};
 pub use trace::{rescue, Recorded, Recorder, Records, Replay, Rescue, Trace, TraceBuffer, MOST_RECORDS, NEWEST_EDITION};
 
 /// The version of this crate, which is that of the library and its C header.
@@ -205,7 +209,7 @@ impl Answer {
 pub struct Found {
     /// The first allowed trial whose point passed, its test's answer being [`Answer::Yes`]; 0 exactly if none did.
     pub step: f64,
-    /// How many points were tested.
+    /// How many points were tested; of a [`Plan`], how many cones.
     pub tests: u32,
 }
 

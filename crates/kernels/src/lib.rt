@@ -1,12 +1,13 @@
-// The four kernels behind one door: nothing above this crate knows which crate computes a root, a logarithm or an exponential.
+// The four kernels behind one door: no formula above this crate knows which crate computes a root, a logarithm or an exponential.
 ghost use mathlib.Core.Path.{_≡_};
 ghost use Rattle.kernels.specs.Door.{sqrtOf, logOf, expOf, powerAt, powfOf};
 
-// The square root.
+// The square root. 02, Order 11: "The cone code calls the new one", the one from a table estimate; its count is not asked for.
 pub fn sqrt(x: f64) -> f64
     ensures { λ r. ⌜ r ≡ sqrtOf x ⌝ }
 {
-    root::sqrt(x)
+    let rooted = table_root::sqrt(x);
+    rooted.root
 }
 
 // The natural logarithm; 000's `logsafe`.

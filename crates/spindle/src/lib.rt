@@ -1,6 +1,7 @@
 // The face of the library, include/spindle.h: each export hands its arguments on.
 ghost use mathlib.Core.Path.{_≡_};
 ghost use Rattle.kernels.specs.Door.{sqrtOf, logOf, expOf, powfOf};
+ghost use Rattle.table_root.specs.Steps.{tableSqrtOf};
 ghost use Rattle.cone.specs.Fresh.{houseSettings, houseStrategy};
 ghost use Rattle.cone_entries.specs.Entries.{freshOf, isPrimalFeasibleOf, isDualFeasibleOf, barrierDualOf, dualGradHOf};
 ghost use Rattle.cone_entries.specs.Entries.{unitInitializationOf, rectifyEquilibrationOf, affineDsOf, dsFromDzOffsetOf};
@@ -28,6 +29,7 @@ use cone::YesNo;
 use recorded::Recorded;
 use replayed::Replayed;
 use rescued::Rescued;
+use table_root::Root;
 use trace_entries::Opened;
 use trace_entries::Written;
 use verdict::Verdict;
@@ -60,6 +62,22 @@ pub extern "C" fn spindle_powf(x: f64, y: f64) -> f64
     ensures { λ r. ⌜ r ≡ powfOf x y ⌝ }
 {
     kernels::powf(x, y)
+}
+
+// 02, Order 11: both square roots by name. `spindle_sqrt` is the second one without its count.
+
+#[no_mangle]
+pub extern "C" fn spindle_plain_sqrt(x: f64) -> f64
+    ensures { λ r. ⌜ r ≡ sqrtOf x ⌝ }
+{
+    root::sqrt(x)
+}
+
+#[no_mangle]
+pub extern "C" fn spindle_table_sqrt(x: f64) -> Root
+    ensures { λ r. ⌜ r ≡ tableSqrtOf x ⌝ }
+{
+    table_root::sqrt(x)
 }
 
 // ---- entries that take a cone

@@ -1,0 +1,3 @@
+-- EstimateRule: each entry is close on its whole interval.
+pub mod EstimateRule
+pub mod Agree

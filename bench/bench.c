@@ -403,6 +403,42 @@ static double own_log(const double *x) { return own_kernel(1, x); }
 static double own_exp(const double *x) { return own_kernel(2, x); }
 static double own_powf(const double *x) { return own_kernel(3, x); }
 
+/* ---- both square roots of document 02's Order 11, and the processor's */
+
+static double plain_root(const double *x) { return spindle_plain_sqrt(x[0]); }
+static double table_root(const double *x) { return spindle_table_sqrt(x[0]).root; }
+__attribute__((noinline)) static double no_root(const double *x) { return x[0]; }
+
+static volatile uint64_t no_bits;
+
+/* ns of one call whose argument waits for the answer before it: some of that answer's bits are put into the argument, and they are none */
+#define CHAINED(call, arguments, count) ({ \
+    double best_ = 1e9; \
+    for (int turn_ = 0; turn_ < 5; turn_++) { \
+        union { double d; uint64_t b; } x_, last_ = { 0 }; \
+        uint64_t some_ = no_bits; \
+        double before_ = now(); \
+        for (size_t i_ = 0; i_ < (count); i_++) { \
+            x_.d = (arguments)[2 * i_]; \
+            x_.b |= last_.b & some_; \
+            last_.d = call(&x_.d); \
+        } \
+        double took_ = now() - before_; \
+        sink = last_.d; \
+        if (took_ < best_) best_ = took_; \
+    } \
+    best_ * 1e9 / (double)(count); })
+
+static void roots(const double *arguments, size_t count)
+{
+    printf("\nSquare roots, ns     one after another   each by itself\n");
+    #define ROOT(name, call) printf("  %-18s %17.1f %16.1f\n", name, CHAINED(call, arguments, count), TIMED(call, arguments, count))
+    ROOT("plain", plain_root);
+    ROOT("from the table", table_root);
+    ROOT("the processor's", own_sqrt);
+    ROOT("an empty call", no_root);
+}
+
 static void kernels(Plan *p, int rounds, double port_total)
 {
     uint64_t start = seed;
@@ -433,6 +469,7 @@ static void kernels(Plan *p, int rounds, double port_total)
         printf("  %-18s %15llu %9.1f %13.1f %9.1f %7.1f %%\n", kernel_names[k], (unsigned long long)rust_calls(k), ns[0][k], ns[1][k], ms, ms / (port_total * 10));
     }
     printf("  %-18s %15s %9s %13s %9.1f %7.1f %%\n", "all four", "", "", "", all, all / (port_total * 10));
+    roots(rust_arguments(0), kept[0]);
 }
 
 /* ---- what passing the records costs by itself: as many calls as a plan makes, of functions that do nothing */

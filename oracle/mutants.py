@@ -73,7 +73,8 @@ def wrong_ports(text, work, calls, only):
             stop(f"this stands {whole.count(old)} times in standin.c: {old}")
         with open(changed, "w", encoding="utf-8") as out:
             out.write(whole.replace(old, new))
-        made = subprocess.run([x86, "cc", program, "-I" + os.path.join(root, "include"), "-w", os.path.join(here, "port.c"), *parts, changed, "-lm"])
+        folders = ["-I" + os.path.join(root, "include"), "-I" + here]
+        made = subprocess.run([x86, "cc", program, *folders, "-w", os.path.join(here, "port.c"), *parts, changed, "-lm"])
         if made.returncode:
             stop(f"the wrong port could not be built: {name}")
         ran = subprocess.run([x86, "run", program, "--calls", str(calls)], capture_output=True, text=True)

@@ -18,6 +18,16 @@ _Static_assert(sizeof(Call) == 4 + 4 + sizeof(Scaling) + SLICES * (8 + 8 * ROOM)
 
 #define IN(i) (call->slices[i].room + BEFORE), (size_t)call->slices[i].len
 
+/* The root by each of its names. Where their bits differ, or the second has a count that none can have, the answer is one that no root has. */
+static double root_by_each_name(double x)
+{
+    double root = spindle_sqrt(x), plain = spindle_plain_sqrt(x);
+    Root table = spindle_table_sqrt(x);
+    bool stepped = x > 0 && x < __builtin_inf();
+    bool counted = stepped ? table.steps == 3 || table.steps == 4 : table.steps == 0;
+    return counted && !memcmp(&root, &plain, sizeof root) && !memcmp(&root, &table.root, sizeof root) ? root : -1;
+}
+
 void oracle_port(Call *call, Reply *reply)
 {
     Cone cone = call->record.cone;
@@ -60,7 +70,7 @@ void oracle_port(Call *call, Reply *reply)
     case 17: reply->code = spindle_mul_hs(call->record, call->option, IN(0), IN(1)); break;
     case 18: reply->code = spindle_higher_correction(call->record, call->option, IN(0), IN(1), IN(2)); break;
     case 19: reply->code = spindle_combined_ds_shift(call->record, call->option, IN(0), IN(1), IN(2), call->numbers[0]); break;
-    case 20: reply->values[0] = spindle_sqrt(call->numbers[0]); break;
+    case 20: reply->values[0] = root_by_each_name(call->numbers[0]); break;
     case 21: reply->values[0] = spindle_log(call->numbers[0]); break;
     case 22: reply->values[0] = spindle_exp(call->numbers[0]); break;
     case 23: reply->values[0] = spindle_powf(call->numbers[0], call->numbers[1]); break;

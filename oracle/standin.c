@@ -2,6 +2,7 @@
    It shares nothing with the oracle but spindle.h. Its kernels are the C library's, bent to document 01's special values;
    with -DKERNELS_OF_THE_ARCHIVE it leaves them to an archive. */
 #include "spindle.h"
+#include "roots.h"
 #include <math.h>
 #define INF __builtin_inf()
 #define EPS 0x1p-52
@@ -14,6 +15,8 @@ static double root(double x) { double r; __asm__("sqrtsd %1, %0" : "=x"(r) : "x"
 static double root(double x) { return __builtin_sqrt(x); }
 #endif
 double spindle_sqrt(double x) { return x != x || x < 0 ? nan_() : root(x); }
+double spindle_plain_sqrt(double x) { return spindle_sqrt(x); }
+Root spindle_table_sqrt(double x) { return x > 0 && x < INF ? root_by_steps(x) : (Root) { spindle_sqrt(x), 0 }; }
 double spindle_log(double x) { return x != x ? nan_() : x <= 0 ? -INF : x == INF ? x : log(x); }
 double spindle_exp(double x) { return x != x ? nan_() : x > 709 ? INF : x < -708 ? 0 : exp(x); }
 double spindle_powf(double x, double y)

@@ -1,17 +1,13 @@
 /* The four kernels of libspindle.a from outside. See run.
-   kernels sqrt N     N square roots against the machine's
+   kernels sqrt N     N square roots, by each of their names, against the machine's, and their correction steps against oracle/roots.h
    kernels rules N    the fixed cases of document 01, every NaN, and N powers against exp(y*log x)
    kernels sample N   about N lines each of "log x answer" and "exp x answer", and N of "powf x y answer", patterns in hexadecimal */
+#include "roots.h"
 #include <inttypes.h>
 #include <stdint.h>
 #include <stdio.h>
 #include <stdlib.h>
 #include <string.h>
-
-double spindle_sqrt(double x);
-double spindle_log(double x);
-double spindle_exp(double x);
-double spindle_powf(double x, double y);
 
 #define THE_NAN UINT64_C(0x7ff8000000000000)
 #define INFINITE UINT64_C(0x7ff0000000000000)
@@ -50,11 +46,19 @@ static void expect(const char *what, uint64_t x, uint64_t y, uint64_t got, uint6
 
 /* ---- square roots */
 
-static long done, wanted;
+static long done, wanted, counts[5];
 static void root(uint64_t x)
 {
     uint64_t want = bits(machine_sqrt(of(x)));
-    expect("sqrt", x, 0, bits(spindle_sqrt(of(x))), is_nan(want) ? THE_NAN : want);
+    if (is_nan(want)) want = THE_NAN;
+    expect("sqrt", x, 0, bits(spindle_sqrt(of(x))), want);
+    expect("plain_sqrt", x, 0, bits(spindle_plain_sqrt(of(x))), want);
+    Root table = spindle_table_sqrt(of(x)), second = { of(want), 0 };
+    if (of(x) > 0 && x != INFINITE) second = root_by_steps(of(x));
+    expect("table_sqrt", x, 0, bits(table.root), want);
+    expect("table_sqrt, a second time", x, 0, bits(second.root), want);
+    expect("correction steps", x, 0, table.steps, second.steps);
+    if (table.steps < 5) counts[table.steps]++;
     if (++done % 2000000 == 0 && done < wanted) fprintf(stderr, "sqrt: %ld of %ld\n", done, wanted);
 }
 
@@ -85,7 +89,8 @@ static void roots(long n)
         uint64_t place = UINT64_C(1023) + (uint64_t)(shift % 2) + any() % 500 * 2;
         for (int k = -1; k <= 1; k++) root((place << 52 | top) + (uint64_t)(int64_t)k);
     }
-    printf("sqrt   %ld patterns of every class, bit for bit the machine's square root%s\n", done, failures ? ": NOT SO" : "");
+    printf("sqrt   %ld patterns of every class, both roots bit for bit the machine's square root%s\n", done, failures ? ": NOT SO" : "");
+    printf("steps  none for %ld of them, 3 for %ld, 4 for %ld, as a second program counts%s\n", counts[0], counts[3], counts[4], failures ? ": NOT SO" : "");
 }
 
 /* ---- fixed cases */
@@ -95,6 +100,7 @@ static const uint64_t nans[] = {
 #define EACH_NAN(b) for (unsigned i_ = 0, go_ = 1; i_ < sizeof nans / sizeof *nans; i_++, go_ = 1) for (uint64_t b = nans[i_]; go_; go_ = 0)
 
 static void one(const char *name, double (*f)(double), double x, uint64_t want) { expect(name, bits(x), 0, bits(f(x)), want); }
+static double table_sqrt(double x) { return spindle_table_sqrt(x).root; }
 static void two(double x, double y, uint64_t want) { expect("powf", bits(x), bits(y), bits(spindle_powf(x, y)), want); }
 
 static void rules(long n)
@@ -102,6 +108,8 @@ static void rules(long n)
     const double inf = of(INFINITE), zero = 0.0, minus = of(SIGN), tiny = of(1);
     EACH_NAN(b) {
         one("sqrt", spindle_sqrt, of(b), THE_NAN);
+        one("plain_sqrt", spindle_plain_sqrt, of(b), THE_NAN);
+        one("table_sqrt", table_sqrt, of(b), THE_NAN);
         one("log", spindle_log, of(b), THE_NAN);
         one("exp", spindle_exp, of(b), THE_NAN);
         static const double ys[] = {1.0, 2.0, 3.0, -1.0, 0.5, 1e300};

@@ -1,4 +1,5 @@
 //! include/spindle.h, word for word in Rust.
+use crate::kernels::Root;
 use crate::{Cone, Recorded, Scaling, Settings, Three, Wide};
 
 #[repr(C)]
@@ -87,6 +88,8 @@ pub struct Rescued {
     pub right: bool,
 }
 
+const _: () = assert!(core::mem::size_of::<Root>() == 16);
+
 type In = *const f64;
 type Out = *mut f64;
 
@@ -95,6 +98,8 @@ extern "C" {
     pub fn spindle_log(x: f64) -> f64;
     pub fn spindle_exp(x: f64) -> f64;
     pub fn spindle_powf(x: f64, y: f64) -> f64;
+    pub fn spindle_plain_sqrt(x: f64) -> f64;
+    pub fn spindle_table_sqrt(x: f64) -> Root;
 
     pub fn spindle_fresh(cone: Cone) -> Updated;
     pub fn spindle_is_primal_feasible(cone: Cone, s: In, ns: usize) -> Verdict;

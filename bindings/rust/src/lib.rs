@@ -624,13 +624,40 @@ impl Scaling {
     }
 }
 
-/// The four kernels: every double taken, nothing refused. A NaN answer has the bits 7FF8000000000000.
+/// The four kernels, and both square roots by name: every double taken, nothing refused. A NaN answer has the bits 7FF8000000000000.
 pub mod kernels {
     use crate::face;
 
-    /// The square root, correctly rounded.
+    /// The square root, correctly rounded: that of [`table_sqrt`] without its count.
     pub fn sqrt(x: f64) -> f64 {
         unsafe { face::spindle_sqrt(x) }
+    }
+
+    /// A square root, and the correction steps that it took.
+    #[derive(Clone, Copy, Debug, PartialEq)]
+    #[repr(C)]
+    pub struct Root {
+        /// The root.
+        pub root: f64,
+        /// 3 or 4 at a positive number, never more; 0 where the root is the number itself or NaN.
+        pub steps: u32,
+    }
+
+    /// The plain square root, which checks an estimate by squares of whole numbers. It has the bits of [`table_sqrt`] for every double.
+    pub fn plain_sqrt(x: f64) -> f64 {
+        unsafe { face::spindle_plain_sqrt(x) }
+    }
+
+    /// The square root from a table estimate, corrected with whole-number steps, and how many it took.
+    ///
+    /// ```
+    /// use spindle::kernels;
+    /// let two = kernels::table_sqrt(2.0);
+    /// assert_eq!((two.root, two.steps), (std::f64::consts::SQRT_2, 4));
+    /// assert_eq!(kernels::plain_sqrt(2.0), two.root);
+    /// ```
+    pub fn table_sqrt(x: f64) -> Root {
+        unsafe { face::spindle_table_sqrt(x) }
     }
 
     /// The natural logarithm; minus infinity for zero and below.

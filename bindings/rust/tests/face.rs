@@ -377,6 +377,31 @@ fn kernels_take_every_double() {
 }
 
 #[test]
+fn both_roots_agree() {
+    let agree = |x: f64, steps: &[u32]| {
+        let table = kernels::table_sqrt(x);
+        assert_eq!(table.root.to_bits(), kernels::plain_sqrt(x).to_bits(), "{x:e}");
+        assert_eq!(table.root.to_bits(), kernels::sqrt(x).to_bits(), "{x:e}");
+        if x >= 0.0 {
+            assert_eq!(table.root.to_bits(), x.sqrt().to_bits(), "{x:e}");
+        }
+        assert!(steps.contains(&table.steps), "{x:e} took {} steps", table.steps);
+    };
+    for x in [0.0, -0.0, f64::INFINITY, f64::NAN, -1.0, f64::NEG_INFINITY, -f64::MIN_POSITIVE, f64::from_bits(0x7ff0_0000_0000_0001)] {
+        agree(x, &[0]);
+    }
+    agree(1.0, &[4]);
+    agree(2.0, &[4]);
+    agree(1.5, &[3]);
+    for field in 0..2047u64 {
+        for digits in [1, (1 << 51) + 1, (1 << 52) - 1] {
+            agree(f64::from_bits(field << 52 | digits), &[3, 4]);
+        }
+    }
+    assert_eq!(kernels::table_sqrt(-1.0).root.to_bits(), 0x7ff8_0000_0000_0000);
+}
+
+#[test]
 fn refusals_speak() {
     assert_eq!(Refusal::BadLength.number(), 2);
     assert_eq!(Refusal::NotFinite.to_string(), "refused with 3: an input number is NaN or infinite");

@@ -1,0 +1,5 @@
+pub mod Coordinates
+pub mod Weights
+pub mod Primal
+pub mod Dual
+pub mod Meaning

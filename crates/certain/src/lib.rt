@@ -1,0 +1,1 @@
+// Laws only: what a yes and a no of the exponential cone's test say of the exact point. No code.

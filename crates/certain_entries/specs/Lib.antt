@@ -1,0 +1,3 @@
+pub mod Points
+pub mod Feasibility
+pub mod Searches

@@ -1,0 +1,34 @@
+-- Order 12 of the searches: a step other than zero hands back a point that lies exactly inside. Of the definitions that the contracts of both calls name.
+-- Definitions only; proofs/Searches proves it. A refused call has the step +0.
+use mathlib.Core.Path.{_≡_}
+use mathlib.Core.Bool.{Bool, true, false}
+use mathlib.Core.List.{List}
+use lib.Ieee.{Float}
+use Rattle.double.specs.Numbers.{#0}
+use Rattle.cone.specs.declared.Cone.{Cone}
+use Rattle.cone.specs.declared.Settings.{Settings}
+use Rattle.cone.specs.declared.Steps.{Steps}
+use Rattle.cone.specs.Refusals.{LentTwo}
+use Rattle.search_entries.specs.Entries.{backtrackSearchOf, stepLengthOf}
+use Rattle.certain_entries.specs.Points.{AllInRange, ExactlyInside}
+
+-- a step with the point that is handed back beside it
+abbrev pub StepCertain : Bool → Float → List Float → Type 0
+StepCertain primal step point = (step ≡ #0 → ⊥) → AllInRange point → ExactlyInside primal point
+
+-- 003 backtrack_search
+abbrev pub SearchCertain : Type 0
+SearchCertain =
+    (c : Cone) → c .kind ≡ 1 → (primal : Bool) (dq q point : List Float) (s : Settings)
+    → let l = backtrackSearchOf c primal dq q point s in
+    StepCertain primal (l .answer .step) (l .slice)
+
+-- 000 step_length, each side by itself
+pub record BothCertain (l : LentTwo Steps) : Type 0 where
+  pub dual-side : StepCertain false (l .answer .dualstep) (l .first)
+  pub primal-side : StepCertain true (l .answer .primalstep) (l .second)
+
+abbrev pub StepLengthCertain : Type 0
+StepLengthCertain =
+    (c : Cone) → c .kind ≡ 1 → (dz ds z s dualPoint primalPoint : List Float) (settings : Settings)
+    → BothCertain (stepLengthOf c dz ds z s dualPoint primalPoint settings)

@@ -1,0 +1,1 @@
+// Laws only: how far L moves when its fraction does, and products and differences of exact numbers. No code.

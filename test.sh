@@ -3,7 +3,7 @@
 #
 #   sh test.sh            everything, from nothing
 #   sh test.sh --quick    only the checks of files: layout, listed crates, silent answers, lemmas of agreement, versions, paths
-#   sh test.sh --outside  only what runs over the archive: the C examples, the kernels, a gradient, the traces, the comparison with the Rust, the Rust crate
+#   sh test.sh --outside  only what runs over the archive: the C examples, the kernels, a gradient, exact points, the traces, the comparison with the Rust, the Rust crate
 #   sh test.sh --help     this text
 #
 # Exit status 0 only if everything passed; 2: bad usage, or a command is missing.
@@ -54,6 +54,9 @@ outside() {
 
     say "the generalized primal gradient against the dual one (a short run of tests/gradient/run)"
     tests/gradient/run --short
+
+    say "the exponential cone's answers against the exact points (a short run of tests/certain/run)"
+    tests/certain/run --short
 
     say "traces written and read, against two other readings of their layout (tests/traces/run)"
     tests/traces/run

@@ -178,6 +178,9 @@ impl Default for Strategy {
 ///
 /// The margins are those of document 02's Order 5: with l the logarithm of the residue, 2^-40·(s2·(1+|l|)+|s1|) for the exponential cone and
 /// 2^-40·(|z2|+|z1|·(1+|l|)) for its dual; 2^-30·(e+q) for both power cones, whose residue is e-q.
+///
+/// Of the exponential cone, where each coordinate is zero or from 2^-500 to 2^500 in size, a yes says that the point itself lies inside, with no
+/// rounding at all, and a no that no sign has caused says that it lies outside (document 02's Order 12). Undecided promises nothing.
 #[derive(Clone, Copy, Debug, PartialEq, Eq, Hash)]
 pub enum Answer {
     /// The residue is below minus its margin, or a coordinate has the wrong sign.

@@ -17,7 +17,7 @@ use Rattle.cone.specs.Fresh.{freshOf, noThree, noWide}
 use Rattle.cone.specs.Judges.{allOf, coneOk, coneOkWithin, threeOk, numelOf, threeFinite, recordFinite}
 use Rattle.table.specs.Table.{firstRow, settle}
 use Rattle.cone.specs.Refusals.{lastRows}
-use Rattle.expcone.specs.Feasible as expcone
+use Rattle.expcone_feasible.specs.Feasible as expcone
 use Rattle.wright.specs.Omega.{taylorStart, startOf, refineOf, refinedAt, refinedOf, omegaOf, omegaArg, omegaAt}
 use Rattle.expcone.specs.PrimalGradient.{gradientBy, gradientPrimalOf}
 use Rattle.expcone.specs.DualGradient.{gradHAt, updateDualGradHOf}

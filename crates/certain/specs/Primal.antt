@@ -1,6 +1,6 @@
 -- The test of the exponential cone on three numbers, and the exact number beside it. Definitions only.
--- The test is Order 5's. It stands here, below the cone file that has it of a point (expcone/specs/Feasible), so that the test and what is proved of it
--- are in one small crate.
+-- The test is Order 5's. It stands here, below the crate that has it of a point (expcone_feasible/specs/Feasible), so that the test and
+-- what is proved of it are in one small crate.
 use mathlib.Core.Bool.{Bool, _&&_}
 use lib.Ieee.{Float}
 use Rattle.double.specs.Operators.{_⊕_, _⊖_, _⊗_, _⊘_, _≺_}

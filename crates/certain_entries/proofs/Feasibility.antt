@@ -8,7 +8,7 @@ use Rattle.verdict.specs.declared.Answer.the-variants.{No, Yes, Undecided}
 use Rattle.verdict.specs.declared.Verdict.{Verdict}
 use Rattle.verdict.specs.Answers.{numberOf}
 use Rattle.table.specs.Table.{settle}
-use Rattle.expcone.specs.Feasible.{primalSigns, dualSigns}
+use Rattle.expcone_feasible.specs.Feasible.{primalSigns, dualSigns}
 use Rattle.kinds.specs.Answers.{answerOf}
 use Rattle.cone_entries.specs.Rows.{readRows}
 use Rattle.cone_entries.specs.Entries.{refuseVerdict, verdictOf, isPrimalFeasibleOf, isDualFeasibleOf}

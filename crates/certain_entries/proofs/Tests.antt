@@ -10,7 +10,7 @@ use Rattle.series_change.specs.SignedArithmetic.{BelowZero}
 use Rattle.verdict.specs.declared.Answer.{Answer}
 use Rattle.verdict.specs.declared.Answer.the-variants.{No, Yes}
 use Rattle.cone.specs.declared.Cone.{Cone}
-use Rattle.expcone.specs.Feasible as expcone
+use Rattle.expcone_feasible.specs.Feasible as expcone
 use Rattle.kinds.specs.Answers.{expAnswer, answerIn, answerOf}
 use Rattle.certain.specs.Primal as primal
 use Rattle.certain.specs.Dual as dual

@@ -7,7 +7,7 @@ use Rattle.series_change.specs.SignedArithmetic.{BelowZero}
 use Rattle.verdict.specs.declared.Answer.the-variants.{No, Yes}
 use Rattle.verdict.specs.Answers.{numberOf}
 use Rattle.cone.specs.declared.Cone.{Cone}
-use Rattle.expcone.specs.Feasible.{primalSigns, dualSigns}
+use Rattle.expcone_feasible.specs.Feasible.{primalSigns, dualSigns}
 use Rattle.cone_entries.specs.Entries.{verdictOf, isPrimalFeasibleOf, isDualFeasibleOf}
 use Rattle.certain_entries.specs.Points.{PointAt, ExactlyInside, exactNumber}
 

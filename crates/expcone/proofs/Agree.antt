@@ -4,10 +4,6 @@ use Rattle.arith.specs.Outcomes.{OneAnswer}
 use Rattle.expcone.proofs.unit_initialization.Reads as unit-initialization
 use Rattle.expcone.proofs.combined_ds_shift.Reads as combined-ds-shift
 use Rattle.expcone.proofs.compute_barrier.Reads as compute-barrier
-use Rattle.expcone.proofs.primal_residue.Reads as primal-residue
-use Rattle.expcone.proofs.dual_residue.Reads as dual-residue
-use Rattle.expcone.proofs.is_primal_feasible.Reads as is-primal-feasible
-use Rattle.expcone.proofs.is_dual_feasible.Reads as is-dual-feasible
 use Rattle.expcone.proofs.barrier_primal.Reads as barrier-primal
 use Rattle.expcone.proofs.barrier_dual.Reads as barrier-dual
 use Rattle.expcone.proofs.higher_correction.Reads as higher-correction
@@ -22,18 +18,6 @@ combined-ds-shift-agrees κs a x y s t p q = p ∙ sym q
 
 pub compute-barrier-agrees : OneAnswer compute-barrier.Post
 compute-barrier-agrees κs a x y s t p q = p ∙ sym q
-
-pub primal-residue-agrees : OneAnswer primal-residue.Post
-primal-residue-agrees κs a x y s t p q = p ∙ sym q
-
-pub dual-residue-agrees : OneAnswer dual-residue.Post
-dual-residue-agrees κs a x y s t p q = p ∙ sym q
-
-pub is-primal-feasible-agrees : OneAnswer is-primal-feasible.Post
-is-primal-feasible-agrees κs a x y s t p q = p ∙ sym q
-
-pub is-dual-feasible-agrees : OneAnswer is-dual-feasible.Post
-is-dual-feasible-agrees κs a x y s t p q = p ∙ sym q
 
 pub barrier-primal-agrees : OneAnswer barrier-primal.Post
 barrier-primal-agrees κs a x y s t p q = p ∙ sym q

@@ -1,4 +1,3 @@
-pub mod Feasible
 pub mod Barriers
 pub mod Correction
 pub mod DualGradient

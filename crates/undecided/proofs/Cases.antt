@@ -18,7 +18,7 @@ use Rattle.exponential.specs.Steps.{border, gap, placeOf, raised, rest, coeffic
 use Rattle.verdict.specs.declared.Answer.the-variants.{No, Undecided}
 use Rattle.verdict.specs.Answers.{toldOf}
 use Rattle.verdict.specs.Margins.{powerMargin}
-use Rattle.expcone.specs.Feasible as expcone
+use Rattle.expcone_feasible.specs.Feasible as expcone
 use Rattle.powcone.specs.Feasible as powcone
 
 abbrev triple : Float → Float → Float → List Float

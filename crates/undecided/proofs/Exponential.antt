@@ -11,8 +11,8 @@ use Rattle.double.specs.Numbers.{#0, #1}
 use Rattle.double.specs.Sizes.{absOf}
 use Rattle.kernels.specs.Door.{logOf}
 use Rattle.verdict.specs.Margins.{#2⁻⁴⁰}
-use Rattle.expcone.specs.Feasible.{primalResidueAt, primalResidue, primalMarginAt, primalMargin, primalSigns}
-use Rattle.expcone.specs.Feasible.{dualResidueAt, dualResidue, dualMarginAt, dualMargin, dualSigns}
+use Rattle.expcone_feasible.specs.Feasible.{primalResidueAt, primalResidue, primalMarginAt, primalMargin, primalSigns}
+use Rattle.expcone_feasible.specs.Feasible.{dualResidueAt, dualResidue, dualMarginAt, dualMargin, dualSigns}
 use Rattle.undecided.proofs.Unsigned.{unsigned, abs-unsigned, add-unsigned, mul-unsigned, of-above, one-unsigned}
 use Rattle.undecided.proofs.Boundless.{boundless, abs-boundless, left-boundless, right-boundless, times-boundless, boundless-times}
 use Rattle.undecided.proofs.Kernels.{log-size}

@@ -15,7 +15,7 @@ use Rattle.verdict.specs.Answers.{isYes, judged}
 use Rattle.cone.specs.declared.Cone.{Cone}
 use Rattle.cone.specs.Judges.{allOf, allFinite, powerOk, exponentOk, toleranceOf, sumOk, wideOk, coneOk, numelOf}
 use Rattle.cone.specs.Points.{threeOf}
-use Rattle.expcone.specs.Feasible as expcone
+use Rattle.expcone_feasible.specs.Feasible as expcone
 use Rattle.powcone.specs.Feasible as powcone
 use Rattle.genpowcone.specs.Feasible as genpowcone
 use Rattle.kinds.specs.Answers.{expAnswer, powAnswer, genpowAnswer, answerIn, answerOf}

@@ -1,9 +1,9 @@
 -- `primal_residue` meets its contract: the definition's text, with the kernel's logarithm. Assumes nothing.
 use mathlib.Core.Path.{ap}
-use Rattle.expcone.specs.Feasible.{primalResidue, primalResidueAt}
+use Rattle.expcone_feasible.specs.Feasible.{primalResidue, primalResidueAt}
 use borrow.Author.Needs.{needs}
-use Rattle.expcone.proofs.primal_residue.Statement.{statement}
-use Rattle.expcone.proofs.primal_residue.Tie as tie
+use Rattle.expcone_feasible.proofs.primal_residue.Statement.{statement}
+use Rattle.expcone_feasible.proofs.primal_residue.Tie as tie
 
 returns : tie.Need-returns
 unfolding primalResidue primalResidueAt

@@ -1,8 +1,8 @@
 -- `primal_margin` computes as its definition does. Assumes nothing.
-use Rattle.expcone.specs.Feasible.{primalMarginAt}
+use Rattle.expcone_feasible.specs.Feasible.{primalMarginAt}
 use borrow.Author.Needs.{needs}
-use Rattle.expcone.proofs.primal_margin.Statement.{statement}
-use Rattle.expcone.proofs.primal_margin.Tie as tie
+use Rattle.expcone_feasible.proofs.primal_margin.Statement.{statement}
+use Rattle.expcone_feasible.proofs.primal_margin.Tie as tie
 
 returns : tie.Need-returns
 unfolding primalMarginAt

@@ -1,9 +1,9 @@
 -- `dual_residue` meets its contract: the definition's text, with the kernel's logarithm. Assumes nothing.
 use mathlib.Core.Path.{ap}
-use Rattle.expcone.specs.Feasible.{dualResidue, dualResidueAt}
+use Rattle.expcone_feasible.specs.Feasible.{dualResidue, dualResidueAt}
 use borrow.Author.Needs.{needs}
-use Rattle.expcone.proofs.dual_residue.Statement.{statement}
-use Rattle.expcone.proofs.dual_residue.Tie as tie
+use Rattle.expcone_feasible.proofs.dual_residue.Statement.{statement}
+use Rattle.expcone_feasible.proofs.dual_residue.Tie as tie
 
 returns : tie.Need-returns
 unfolding dualResidue dualResidueAt

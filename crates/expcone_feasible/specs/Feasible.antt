@@ -8,7 +8,7 @@ use Rattle.verdict.specs.declared.Answer.{Answer}
 use Rattle.verdict.specs.Answers.{judged}
 use Rattle.certain.specs.Primal as primal
 use Rattle.certain.specs.Dual as dual
-use Rattle.expcone.specs.declared.Residue.{Residue}
+use Rattle.expcone_feasible.specs.declared.Residue.{Residue}
 
 -- 000 is_primal_feasible, res: s2·log(s3/s2) - s1, counting from 1; l is the logarithm
 unfoldable pub primalResidueAt : List Float → Float → Residue

@@ -1,8 +1,8 @@
 -- `dual_margin` computes as its definition does. Assumes nothing.
-use Rattle.expcone.specs.Feasible.{dualMarginAt}
+use Rattle.expcone_feasible.specs.Feasible.{dualMarginAt}
 use borrow.Author.Needs.{needs}
-use Rattle.expcone.proofs.dual_margin.Statement.{statement}
-use Rattle.expcone.proofs.dual_margin.Tie as tie
+use Rattle.expcone_feasible.proofs.dual_margin.Statement.{statement}
+use Rattle.expcone_feasible.proofs.dual_margin.Tie as tie
 
 returns : tie.Need-returns
 unfolding dualMarginAt

@@ -1,9 +1,9 @@
 -- `is_dual_feasible` asks the signs, and then tells by residue and margin. Assumes nothing.
 use mathlib.Core.Logic.{⊎-elim}
-use Rattle.expcone.specs.Feasible.{dualSigns, dualMargin, dualFeasible}
+use Rattle.expcone_feasible.specs.Feasible.{dualSigns, dualMargin, dualFeasible}
 use borrow.Author.Needs.{needs}
-use Rattle.expcone.proofs.is_dual_feasible.Statement.{statement}
-use Rattle.expcone.proofs.is_dual_feasible.Tie as tie
+use Rattle.expcone_feasible.proofs.is_dual_feasible.Statement.{statement}
+use Rattle.expcone_feasible.proofs.is_dual_feasible.Tie as tie
 
 returns : tie.Need-returns
 unfolding dualFeasible dualSigns dualMargin

@@ -1,9 +1,9 @@
 -- `is_primal_feasible` asks the signs, and then tells by residue and margin. Assumes nothing.
 use mathlib.Core.Logic.{⊎-elim}
-use Rattle.expcone.specs.Feasible.{primalSigns, primalMargin, primalFeasible}
+use Rattle.expcone_feasible.specs.Feasible.{primalSigns, primalMargin, primalFeasible}
 use borrow.Author.Needs.{needs}
-use Rattle.expcone.proofs.is_primal_feasible.Statement.{statement}
-use Rattle.expcone.proofs.is_primal_feasible.Tie as tie
+use Rattle.expcone_feasible.proofs.is_primal_feasible.Statement.{statement}
+use Rattle.expcone_feasible.proofs.is_primal_feasible.Tie as tie
 
 returns : tie.Need-returns
 unfolding primalFeasible primalSigns primalMargin

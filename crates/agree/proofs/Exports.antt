@@ -10,7 +10,7 @@ use Rattle.cone.specs.declared.YesNo.{YesNo}
 use Rattle.cone.specs.declared.Found.{Found}
 use Rattle.cone.specs.declared.Steps.{Steps}
 use Rattle.cone.specs.declared.Rounds.{Rounds}
-use Rattle.cone.proofs.Outcomes.{one, two}
+use Rattle.judges.proofs.Outcomes.{one, two}
 use Rattle.trace_entries.proofs.Agree.{left}
 use Rattle.replayed.proofs.Agree.{noted-alike}
 use Rattle.rescued.proofs.Agree.{saved-alike}

@@ -14,9 +14,10 @@ use Rattle.exponential.specs.Steps.{border, gap, placeOf, raised, rest, coeffic
 use Rattle.verdict.specs.Answers.{toldOf}
 use Rattle.verdict.specs.Margins.{powerMargin}
 use Rattle.cone.specs.Fresh.{freshOf, noThree, noWide}
-use Rattle.cone.specs.Judges.{allOf, coneOk, coneOkWithin, threeOk, numelOf, threeFinite, recordFinite}
+use Rattle.cone.specs.Codes.{numelOf}
+use Rattle.judges.specs.Judges.{allOf, coneOk, coneOkWithin, threeOk, threeFinite, recordFinite}
 use Rattle.table.specs.Table.{firstRow, settle}
-use Rattle.cone.specs.Refusals.{lastRows}
+use Rattle.judges.specs.Refusals.{lastRows}
 use Rattle.expcone_feasible.specs.Feasible as expcone
 use Rattle.wright.specs.Omega.{taylorStart, startOf, refineOf, refinedAt, refinedOf, omegaOf, omegaArg, omegaAt}
 use Rattle.expcone.specs.PrimalGradient.{gradientBy, gradientPrimalOf}

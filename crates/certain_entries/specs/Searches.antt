@@ -8,7 +8,7 @@ use Rattle.double.specs.Numbers.{#0}
 use Rattle.cone.specs.declared.Cone.{Cone}
 use Rattle.cone.specs.declared.Settings.{Settings}
 use Rattle.cone.specs.declared.Steps.{Steps}
-use Rattle.cone.specs.Refusals.{LentTwo}
+use Rattle.judges.specs.Refusals.{LentTwo}
 use Rattle.search_entries.specs.Entries.{backtrackSearchOf, stepLengthOf}
 use Rattle.certain_entries.specs.Points.{AllInRange, ExactlyInside}
 

@@ -1,5 +1,3 @@
--- Laws that the entries cite: points, equal outcomes, lengths of a call that is let through.
+-- Laws that the entries cite, of points; and the lemmas of agreement.
 pub mod Points
-pub mod Outcomes
-pub mod Lengths
 mod Agree

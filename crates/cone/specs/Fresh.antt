@@ -4,7 +4,7 @@ use Prim.Native.Nat.{ℕ}
 use lib.Ieee.{Float}
 use lib.ListN.{replicate}
 use Rattle.double.specs.Numbers.{#0, #houseStep, #houseSmallest}
-use Rattle.cone.specs.Judges.{primalDual}
+use Rattle.cone.specs.Codes.{primalDual}
 use Rattle.cone.specs.declared.Cone.{Cone}
 use Rattle.cone.specs.declared.Settings.{Settings}
 use Rattle.cone.specs.declared.Three.{Three}

@@ -1,5 +1,4 @@
+pub mod Codes
 pub mod Fresh
 pub mod Points
-pub mod Judges
-pub mod Refusals
 pub mod Calls

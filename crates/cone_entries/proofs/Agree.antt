@@ -6,7 +6,7 @@ use lib.Ieee.{Float}
 use denote.Ref.{now}
 use Rattle.arith.specs.Outcomes.{OneAnswer, OneOutcome}
 use Rattle.cone.specs.declared.YesNo.{YesNo}
-use Rattle.cone.proofs.Outcomes.{one, two}
+use Rattle.judges.proofs.Outcomes.{one, two}
 use Rattle.cone_entries.proofs.fresh.Reads as fresh
 use Rattle.cone_entries.proofs.is_primal_feasible.Reads as is-primal-feasible
 use Rattle.cone_entries.proofs.is_dual_feasible.Reads as is-dual-feasible

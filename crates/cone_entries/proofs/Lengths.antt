@@ -7,10 +7,11 @@ use native.Mathlib.Omega.{arith}
 use lib.Ieee.{Float}
 use lib.ListN.{length}
 use Rattle.cone.specs.declared.Cone.{Cone}
-use Rattle.cone.specs.Judges.{coneOk, numelOf}
+use Rattle.cone.specs.Codes.{numelOf}
+use Rattle.judges.specs.Judges.{coneOk}
 use Rattle.cone.specs.Calls.{WideCall}
 use Rattle.table.proofs.Settled.{no-fault}
-use Rattle.cone.proofs.Lengths.{same-1, same-2, same-3, cone-is-ok, numel-at-most, wide-call}
+use Rattle.judges.proofs.Lengths.{same-1, same-2, same-3, cone-is-ok, numel-at-most, wide-call}
 use Rattle.cone_entries.specs.Rows.{readFaults, readRows, unitFaults, unitRows, copyFaults, copyRows, offsetFaults, offsetRows}
 
 pub read-call : (c : Cone) (s : List Float) → readRows c s ≡ 0 → WideCall c s

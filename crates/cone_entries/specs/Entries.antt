@@ -17,7 +17,7 @@ use Rattle.cone.specs.declared.Attempt.{Attempt}
 use Rattle.cone.specs.Fresh as fresh
 use Rattle.cone.specs.Fresh.{emptyCone, noThree, noWide}
 use Rattle.table.specs.Table.{settle}
-use Rattle.cone.specs.Refusals.{lastRows, Lent, LentTwo, refuse, refuseTwo, refuseNumber, publishOf, publishTwoOf, numberOf}
+use Rattle.judges.specs.Refusals.{lastRows, Lent, LentTwo, refuse, refuseTwo, refuseNumber, publishOf, publishTwoOf, numberOf}
 use Rattle.kinds.specs.Answers.{answerOf}
 use Rattle.kinds.specs.Cones as kinds
 use Rattle.kinds.specs.Cones.{alphaOf}

@@ -6,9 +6,10 @@ use lib.Dec.{eqb}
 use lib.Ieee.{Float}
 use Rattle.cone.specs.declared.Cone.{Cone}
 use Rattle.table.specs.declared.Faults.{Faults}
-use Rattle.cone.specs.Judges.{numelOf, allFinite}
+use Rattle.cone.specs.Codes.{numelOf}
+use Rattle.judges.specs.Judges.{allFinite}
 use Rattle.table.specs.Table.{firstRow}
-use Rattle.cone.specs.Refusals.{badCone, otherLength, notFinite}
+use Rattle.judges.specs.Refusals.{badCone, otherLength, notFinite}
 
 -- fresh
 unfoldable pub freshFaults : Cone → Faults

@@ -3,9 +3,9 @@
 ghost use mathlib.Core.Path.{_≡_};
 ghost use Rattle.cone_entries.specs.Rows.{freshRows, readRows, unitRows, copyRows, offsetRows};
 use cone::Cone;
-use cone::judge::all_finite;
-use cone::judge::cone_ok;
-use cone::judge::numel;
+use judges::all_finite;
+use judges::cone_ok;
+use judges::numel;
 use table::Faults;
 use table::first_row;
 

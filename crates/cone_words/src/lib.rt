@@ -2,7 +2,7 @@
 // loops over it are proved like any others.
 ghost use mathlib.Core.Path.{_≡_};
 ghost use Prim.Native.Nat.{_≤_};
-ghost use Rattle.cone.specs.Judges.{numelOf};
+ghost use Rattle.cone.specs.Codes.{numelOf};
 ghost use Rattle.cone_words.specs.Words.{lowHalf, highHalf, placesOf, coneOfWords};
 use cone::Cone;
 use double::of_bits;

@@ -9,7 +9,7 @@ use borrow.Author.Tests.{eqb-true}
 use Rattle.arith.proofs.Branches.{and-right, false-not-true}
 use Rattle.double.specs.Operators.{at}
 use Rattle.cone.specs.declared.Cone.{Cone}
-use Rattle.cone.specs.Judges.{powerOk, ruleOk, toleranceOf, wideOk, threeOk, coneOkWithin, coneOk}
+use Rattle.judges.specs.Judges.{powerOk, ruleOk, toleranceOf, wideOk, threeOk, coneOkWithin, coneOk}
 
 abbrev pub cone : ℕ → ℕ → ℕ → ℕ → List Float → Cone
 cone kind dim1 dim2 rule exps = record { kind = kind; dim1 = dim1; dim2 = dim2; rule = rule; exps = exps }

@@ -8,7 +8,7 @@ use Rattle.double.specs.Operators.{at}
 use Rattle.verdict.specs.declared.Answer.{Answer}
 use Rattle.verdict.specs.declared.Answer.the-variants.{No}
 use Rattle.cone.specs.declared.Cone.{Cone}
-use Rattle.cone.specs.Judges.{byKind}
+use Rattle.cone.specs.Codes.{byKind}
 use Rattle.cone.specs.Points.{threeOf}
 use Rattle.expcone_feasible.specs.Feasible as expcone
 use Rattle.powcone.specs.Feasible as powcone

@@ -9,7 +9,7 @@ use Rattle.double.specs.Numbers.{#0}
 use Rattle.cone.specs.declared.Cone.{Cone}
 use Rattle.cone.specs.declared.Attempt.{Attempt}
 use Rattle.cone.specs.Fresh.{noThree, noWide, attemptOf}
-use Rattle.cone.specs.Judges.{byKind}
+use Rattle.cone.specs.Codes.{byKind}
 use Rattle.cone.specs.Points.{threeOf}
 use Rattle.expcone.specs.Barriers as expBarriers
 use Rattle.powcone.specs.Barriers as powBarriers

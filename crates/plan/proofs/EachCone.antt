@@ -12,7 +12,7 @@ use Rattle.arith.proofs.Branches.{false-not-true}
 use Rattle.algebra.specs.Vectors.{movedOf}
 use Rattle.cone.specs.declared.Cone.{Cone}
 use Rattle.cone.specs.declared.Settings.{Settings}
-use Rattle.cone.specs.Judges.{numelOf}
+use Rattle.cone.specs.Codes.{numelOf}
 use Rattle.trials.specs.Trials.{bound, Usable}
 use Rattle.trials.specs.Costed.{costedOf}
 use Rattle.trials.proofs.LargestPassing.{largest-passing}

@@ -9,7 +9,7 @@ use lib.Seq.{take-all}
 use lib.Ieee.{Float}
 use Rattle.cone.specs.declared.Cone.{Cone}
 use Rattle.cone.specs.declared.Settings.{Settings}
-use Rattle.cone.specs.Judges.{numelOf}
+use Rattle.cone.specs.Codes.{numelOf}
 use Rattle.trials.specs.Search.{searchOf}
 use Rattle.trials.specs.Costed.{costedOf}
 use Rattle.trials.proofs.SameTests.{same-search}

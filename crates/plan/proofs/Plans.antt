@@ -14,8 +14,9 @@ use lib.Ieee.{Float}
 use borrow.Author.Tests.{leb-true}
 use Rattle.arith.proofs.Branches.{and-left, and-right}
 use Rattle.cone.specs.declared.Cone.{Cone}
-use Rattle.cone.specs.Judges.{coneOk, numelOf}
-use Rattle.cone.proofs.Lengths.{numel-at-most}
+use Rattle.cone.specs.Codes.{numelOf}
+use Rattle.judges.specs.Judges.{coneOk}
+use Rattle.judges.proofs.Lengths.{numel-at-most}
 use Rattle.cone_words.specs.Words.{coneOfWords, conesOf}
 use Rattle.plan.specs.declared.Tested.{Tested}
 use Rattle.plan.specs.Plans.{totalOf, allConesOk, mostCones, planOk, conePasses, allPass, testsOf, testedOf}

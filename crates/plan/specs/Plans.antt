@@ -8,7 +8,8 @@ use lib.ListN.{length, take, drop}
 use lib.Ieee.{Float}
 use Rattle.cone.specs.declared.Cone.{Cone}
 use Rattle.cone.specs.declared.Settings.{Settings}
-use Rattle.cone.specs.Judges.{coneOk, numelOf}
+use Rattle.cone.specs.Codes.{numelOf}
+use Rattle.judges.specs.Judges.{coneOk}
 use Rattle.kinds.specs.Passes.{passesIn}
 use Rattle.trials.specs.Search.{Problem}
 use Rattle.trials.specs.Costed.{Costed}

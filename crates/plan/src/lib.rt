@@ -11,13 +11,13 @@ ghost use Rattle.plan.specs.Plans.{usedOf, conePasses, totalOf, planOk, 
 use algebra::vector::head;
 use algebra::vector::tail;
 use cone::Settings;
-use cone::judge::cone_ok;
-use cone::refusal::store;
 use cone_words::cone_of;
 use cone_words::high_half;
 use cone_words::low_half;
 use cone_words::numel_of;
 use cone_words::places;
+use judges::cone_ok;
+use judges::refusal::store;
 use kinds::passes;
 use search::Searched;
 use search::put_trial;

@@ -5,7 +5,7 @@ use lib.Ieee.{Float}
 use denote.Ref.{now}
 use Rattle.arith.specs.Outcomes.{OneOutcome}
 use Rattle.cone.specs.declared.Found.{Found}
-use Rattle.cone.proofs.Outcomes.{one}
+use Rattle.judges.proofs.Outcomes.{one}
 use Rattle.plan_entries.proofs.common_step.Reads as common-step
 
 -- the point is the fifth argument

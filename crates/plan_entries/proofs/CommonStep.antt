@@ -11,8 +11,8 @@ use borrow.Fn.Kinds.{Dens, GoodsP, resT, endedOf}
 use Rattle.cone.specs.declared.Cone.{Cone}
 use Rattle.cone.specs.declared.Settings.{Settings}
 use Rattle.cone.specs.declared.Found.{Found}
-use Rattle.cone.specs.Judges.{allFinite}
-use Rattle.cone.specs.Refusals.{Lent}
+use Rattle.judges.specs.Judges.{allFinite}
+use Rattle.judges.specs.Refusals.{Lent}
 use Rattle.table.proofs.Settled.{done}
 use Rattle.cone_words.specs.Words.{conesOf}
 use Rattle.trials.specs.Search.{searchOf}

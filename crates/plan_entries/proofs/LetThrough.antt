@@ -10,10 +10,10 @@ use borrow.Author.Tests.{not-false}
 use Rattle.arith.proofs.Branches.{and-left, and-right}
 use Rattle.cone.specs.declared.Cone.{Cone}
 use Rattle.cone.specs.declared.Settings.{Settings}
-use Rattle.cone.specs.Judges.{allFinite, settingsFinite}
+use Rattle.judges.specs.Judges.{allFinite, settingsFinite}
 use Rattle.table.specs.Table.{firstRow}
 use Rattle.table.proofs.Settled.{NoFault, no-fault}
-use Rattle.cone.proofs.Lengths.{same-3}
+use Rattle.judges.proofs.Lengths.{same-3}
 use Rattle.plan.specs.Plans.{planOk, totalOf, Plannable}
 use Rattle.plan.proofs.Plans.{plan-some, plan-few}
 use Rattle.plan_entries.specs.Rows.{planFaults, planRows}

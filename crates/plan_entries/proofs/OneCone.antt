@@ -10,11 +10,12 @@ use lib.ListN.{length}
 use Rattle.cone.specs.declared.Cone.{Cone}
 use Rattle.cone.specs.declared.Settings.{Settings}
 use Rattle.cone.specs.declared.Found.{Found}
-use Rattle.cone.specs.Judges.{coneOk, numelOf}
+use Rattle.cone.specs.Codes.{numelOf}
+use Rattle.judges.specs.Judges.{coneOk}
 use Rattle.table.specs.Table.{settle}
-use Rattle.cone.specs.Refusals.{Lent}
+use Rattle.judges.specs.Refusals.{Lent}
 use Rattle.table.proofs.Settled.{no-fault}
-use Rattle.cone.proofs.Lengths.{same-3}
+use Rattle.judges.proofs.Lengths.{same-3}
 use Rattle.trials.specs.Search.{Outcome, searchOf}
 use Rattle.trials.specs.Costed.{costedOf}
 use Rattle.search.specs.Problems.{problemOf}

@@ -7,7 +7,7 @@ use Rattle.cone.specs.declared.Cone.{Cone}
 use Rattle.cone.specs.declared.Settings.{Settings}
 use Rattle.cone.specs.declared.Found.{Found}
 use Rattle.table.specs.Table.{settle}
-use Rattle.cone.specs.Refusals.{Lent}
+use Rattle.judges.specs.Refusals.{Lent}
 use Rattle.trials.specs.Costed.{costedOf}
 use Rattle.search_entries.specs.Entries.{found, refuseFound}
 use Rattle.plan.specs.Plans.{planOf}

@@ -7,9 +7,9 @@ use lib.Ieee.{Float}
 use Rattle.cone.specs.declared.Cone.{Cone}
 use Rattle.cone.specs.declared.Settings.{Settings}
 use Rattle.table.specs.declared.Faults.{Faults}
-use Rattle.cone.specs.Judges.{allFinite, settingsFinite}
+use Rattle.judges.specs.Judges.{allFinite, settingsFinite}
 use Rattle.table.specs.Table.{firstRow}
-use Rattle.cone.specs.Refusals.{otherLength, badSettings}
+use Rattle.judges.specs.Refusals.{otherLength, badSettings}
 use Rattle.plan.specs.Plans.{planOk, totalOf}
 
 -- 02, Order 10: "Refusals: 1 for a bad cone or list length, 2 if the lengths of the cones do not add up to the vectors'."

@@ -5,9 +5,9 @@ ghost use Rattle.plan_entries.specs.Rows.{planRows};
 ghost use Rattle.plan_entries.specs.Entries.{commonStepOf};
 use cone::Found;
 use cone::Settings;
-use cone::judge::all_finite;
-use cone::judge::settings_finite;
-use cone::judge::settings_ok;
+use judges::all_finite;
+use judges::settings_finite;
+use judges::settings_ok;
 use table::Faults;
 use table::first_row;
 

@@ -6,7 +6,7 @@ use lib.Ieee.{Float}
 use denote.Ref.{now}
 use Rattle.arith.specs.Outcomes.{OneAnswer, OneOutcome}
 use Rattle.cone.specs.declared.Rounds.{Rounds}
-use Rattle.cone.proofs.Outcomes.{one}
+use Rattle.judges.proofs.Outcomes.{one}
 use Rattle.record_entries.proofs.gradient_primal.Reads as gradient-primal
 use Rattle.record_entries.proofs.barrier_primal.Reads as barrier-primal
 use Rattle.record_entries.proofs.compute_barrier.Reads as compute-barrier

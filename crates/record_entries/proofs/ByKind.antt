@@ -10,10 +10,10 @@ use lib.Ieee.Scale.{finite}
 use lib.ListN.{length}
 use borrow.Author.Tests.{eq-eqb, ne-eqb, eqb-true, eqb-false}
 use Rattle.cone.specs.declared.Scaling.{Scaling}
-use Rattle.cone.specs.Judges.{ruleOk, coneOk, threeOk, allFinite}
+use Rattle.judges.specs.Judges.{ruleOk, coneOk, threeOk, allFinite}
 use Rattle.table.specs.Table.{firstRow}
-use Rattle.cone.specs.Refusals.{otherLength, neverScaled, otherSerial, judgedOf}
-use Rattle.cone.proofs.Lengths.{cone-wide, cone-3D, record-wide, record-3D, numel-wide, numel-3D, block-wide, block-3D}
+use Rattle.judges.specs.Refusals.{otherLength, neverScaled, otherSerial, judgedOf}
+use Rattle.judges.proofs.Lengths.{cone-wide, cone-3D, record-wide, record-3D, numel-wide, numel-3D, block-wide, block-3D}
 use Rattle.kinds.specs.Cones.{alphaOf}
 use Rattle.record_three.specs.Entries as three
 use Rattle.record_wide.specs.Entries as wide

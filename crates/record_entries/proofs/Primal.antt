@@ -16,11 +16,11 @@ use borrow.Fn.Kinds.{Dens, resT, endedOf}
 use Rattle.cone.specs.declared.Number.{Number}
 use Rattle.cone.specs.declared.Rounds.{Rounds}
 use Rattle.table.specs.declared.Faults.{Faults}
-use Rattle.cone.specs.Judges.{allFinite}
+use Rattle.judges.specs.Judges.{allFinite}
 use Rattle.table.specs.Table.{firstRow, settle}
-use Rattle.cone.specs.Refusals.{Lent, publishOf, numberOf, judgedOf, countedOf, withRounds}
-use Rattle.cone.specs.Refusals.{refuse, refuseNumber, refuseRounds}
-use Rattle.cone.proofs.Outcomes.{one}
+use Rattle.judges.specs.Refusals.{Lent, publishOf, numberOf, judgedOf, countedOf, withRounds}
+use Rattle.judges.specs.Refusals.{refuse, refuseNumber, refuseRounds}
+use Rattle.judges.proofs.Outcomes.{one}
 use Rattle.cone.specs.Points.{threeOf}
 use Rattle.kinds.specs.declared.three.Gradient.{Gradient}
 use Rattle.kinds.specs.Cones.{alphaOf}

@@ -10,10 +10,10 @@ use Rattle.algebra.specs.Packed.{mulOf}
 use Rattle.cone.specs.declared.Scaling.{Scaling}
 use Rattle.cone.specs.declared.Number.{Number}
 use Rattle.cone.specs.declared.Rounds.{Rounds}
-use Rattle.cone.specs.Judges.{allFinite}
+use Rattle.judges.specs.Judges.{allFinite}
 use Rattle.cone.specs.Points.{threeOf}
 use Rattle.table.specs.Table.{settle}
-use Rattle.cone.specs.Refusals.{Lent, refuse, refuseNumber, refuseRounds, publishOf, withRounds}
+use Rattle.judges.specs.Refusals.{Lent, refuse, refuseNumber, refuseRounds, publishOf, withRounds}
 use Rattle.genpowcone.specs.Rank3 as genRank3
 use Rattle.kinds.specs.declared.three.Valued.{Valued}
 use Rattle.kinds.specs.Cones.{alphaOf}

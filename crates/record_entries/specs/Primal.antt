@@ -5,7 +5,7 @@ use mathlib.Core.Bool.{true}
 use mathlib.Core.List.{List}
 use lib.Ieee.{Float}
 use Rattle.cone.specs.declared.Scaling.{Scaling}
-use Rattle.cone.specs.Judges.{recordFinite}
+use Rattle.judges.specs.Judges.{recordFinite}
 use Rattle.record_entries.specs.Entries.{gradientPrimalOf, barrierPrimalOf, computeBarrierOf}
 
 -- two records with the same cone whose used numbers are finite; one may be fresh, and they may have been scaled at other points

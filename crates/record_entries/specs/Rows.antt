@@ -7,9 +7,10 @@ use lib.Dec.{eqb}
 use lib.Ieee.{Float}
 use lib.Ieee.Scale.{finite}
 use Rattle.cone.specs.declared.Scaling.{Scaling}
-use Rattle.cone.specs.Judges.{numelOf, blockOf, allFinite, sidesFinite, recordFinite}
+use Rattle.cone.specs.Codes.{numelOf, blockOf}
+use Rattle.judges.specs.Judges.{allFinite, sidesFinite, recordFinite}
 use Rattle.table.specs.Table.{firstRow}
-use Rattle.cone.specs.Refusals.{badCone, badCone3D, otherLength, neverScaled, otherSerial}
+use Rattle.judges.specs.Refusals.{badCone, badCone3D, otherLength, neverScaled, otherSerial}
 
 -- A slice that is only written is given by its length.
 

@@ -9,10 +9,10 @@ use Rattle.algebra.specs.Packed.{mulOf}
 use Rattle.cone.specs.declared.Three.{Three}
 use Rattle.cone.specs.declared.Number.{Number}
 use Rattle.cone.specs.declared.Rounds.{Rounds}
-use Rattle.cone.specs.Judges.{ruleOk, threeOk, threeFinite, allFinite, sidesFinite}
+use Rattle.judges.specs.Judges.{ruleOk, threeOk, threeFinite, allFinite, sidesFinite}
 use Rattle.cone.specs.Points.{threeOf}
 use Rattle.table.specs.Table.{firstRow, settle}
-use Rattle.cone.specs.Refusals.{otherLength, Lent, refuse, refuseNumber, refuseRounds, publishOf, judgedOf, withRounds}
+use Rattle.judges.specs.Refusals.{otherLength, Lent, refuse, refuseNumber, refuseRounds, publishOf, judgedOf, withRounds}
 use Rattle.kinds.specs.declared.three.Gradient.{Gradient}
 use Rattle.kinds.specs.declared.three.Valued.{Valued}
 use Rattle.kinds.specs.Three as three

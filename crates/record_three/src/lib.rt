@@ -2,23 +2,23 @@
 // and, where it matters, whether it was never scaled and whether its serial is another than the caller's: so none copies the rest. Each
 // judges its arguments by the table of document 01, computes into locals, and only then writes.
 ghost use mathlib.Core.Path.{_≡_};
-ghost use Rattle.cone.specs.Refusals.{judgedOf};
+ghost use Rattle.judges.specs.Refusals.{judgedOf};
 ghost use Rattle.record_three.specs.Entries.{rowsOf, gradientPrimalOf, barrierPrimalOf, computeBarrierOf, getHsOf, mulHsOf};
 ghost use Rattle.record_three.specs.Entries.{higherCorrectionOf, combinedDsShiftOf};
 use algebra::sym3::mul;
 use cone::Number;
 use cone::Rounds;
 use cone::Three;
-use cone::judge::all_finite;
-use cone::judge::rule_ok;
-use cone::judge::sides_finite;
-use cone::judge::three_finite;
-use cone::judge::three_ok;
-use cone::refusal::counted;
-use cone::refusal::finished;
-use cone::refusal::publish;
 use cone::three_of;
 use double::is_finite;
+use judges::all_finite;
+use judges::refusal::counted;
+use judges::refusal::finished;
+use judges::refusal::publish;
+use judges::rule_ok;
+use judges::sides_finite;
+use judges::three_finite;
+use judges::three_ok;
 use kinds::three;
 use kinds::three::Valued;
 use table::Faults;

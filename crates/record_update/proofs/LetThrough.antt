@@ -6,11 +6,11 @@ use lib.Ieee.{Float}
 use lib.ListN.{length}
 use borrow.Author.Tests.{eqb-false}
 use Rattle.cone.specs.declared.Scaling.{Scaling}
-use Rattle.cone.specs.Judges.{numelOf}
+use Rattle.cone.specs.Codes.{numelOf}
 use Rattle.cone.specs.Calls.{WideCall}
-use Rattle.cone.specs.Refusals.{lastSerial}
+use Rattle.judges.specs.Refusals.{lastSerial}
 use Rattle.table.proofs.Settled.{no-fault}
-use Rattle.cone.proofs.Lengths.{same-2, cone-is-ok, wide-call}
+use Rattle.judges.proofs.Lengths.{same-2, cone-is-ok, wide-call}
 use Rattle.record_update.specs.Entries.{updateRows}
 
 pub update-call : (r : Scaling) (s z : List Float) (μ : Float) (k : ℕ) → updateRows r s z μ k ≡ 0 → WideCall (r .cone) z

@@ -16,7 +16,7 @@ use Rattle.cone.specs.declared.Attempt.{Attempt}
 use Rattle.cone.specs.Fresh.{noThree, noWide}
 use Rattle.cone.specs.Points.{threeOf}
 use Rattle.table.specs.Table.{settle}
-use Rattle.cone.specs.Refusals.{lastRows, refuseUpdate}
+use Rattle.judges.specs.Refusals.{lastRows, refuseUpdate}
 use Rattle.cone.proofs.Points.{wide-behind}
 use Rattle.genpowcone.proofs.Held.{unused-zero}
 use Rattle.cone.specs.Calls.{WideCall}

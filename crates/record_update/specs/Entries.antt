@@ -7,9 +7,10 @@ use lib.Ieee.Scale.{finite}
 use Rattle.cone.specs.declared.Scaling.{Scaling}
 use Rattle.cone.specs.declared.Updated.{Updated}
 use Rattle.cone.specs.declared.Attempt.{Attempt}
-use Rattle.cone.specs.Judges.{numelOf, allFinite, recordFinite}
+use Rattle.cone.specs.Codes.{numelOf}
+use Rattle.judges.specs.Judges.{allFinite, recordFinite}
 use Rattle.table.specs.Table.{firstRow, settle}
-use Rattle.cone.specs.Refusals.{badCone, otherLength, badStrategy, isSpent, lastRows, refuseUpdate}
+use Rattle.judges.specs.Refusals.{badCone, otherLength, badStrategy, isSpent, lastRows, refuseUpdate}
 use Rattle.scaling.specs.Updates.{newRecordOf}
 
 -- 01: "Every argument of a call is judged, read or not, a passed record's numbers under 3 included."

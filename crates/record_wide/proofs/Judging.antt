@@ -7,9 +7,9 @@ use lib.Ieee.{Float}
 use borrow.Author.Tests.{not-false}
 use Rattle.arith.proofs.Branches.{and-right}
 use Rattle.cone.specs.declared.Wide.{Wide}
-use Rattle.cone.specs.Judges.{ruleOk}
+use Rattle.judges.specs.Judges.{ruleOk}
 use Rattle.table.proofs.Settled.{no-fault}
-use Rattle.cone.proofs.Lengths.{dim1-at-most, dim2-at-most}
+use Rattle.judges.proofs.Lengths.{dim1-at-most, dim2-at-most}
 use Rattle.record_wide.specs.Entries.{rowsIn}
 
 module _

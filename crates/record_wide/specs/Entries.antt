@@ -10,11 +10,11 @@ use Rattle.cone.specs.declared.Wide.{Wide}
 use Rattle.cone.specs.declared.Scaling.{Scaling}
 use Rattle.cone.specs.declared.Number.{Number}
 use Rattle.cone.specs.declared.Rounds.{Rounds}
-use Rattle.cone.specs.Judges.{ruleOk, toleranceOf, wideOk, wideFinite, allFinite, sidesFinite}
+use Rattle.judges.specs.Judges.{ruleOk, toleranceOf, wideOk, wideFinite, allFinite, sidesFinite}
 use Rattle.table.specs.Table.{firstRow}
-use Rattle.cone.specs.Refusals.{otherLength, neverScaled, otherSerial}
+use Rattle.judges.specs.Refusals.{otherLength, neverScaled, otherSerial}
 use Rattle.table.specs.Table.{settle}
-use Rattle.cone.specs.Refusals.{Lent, refuse, refuseNumber, refuseRounds, publishOf, numberOf, withRounds}
+use Rattle.judges.specs.Refusals.{Lent, refuse, refuseNumber, refuseRounds, publishOf, numberOf, withRounds}
 use Rattle.genpowcone.specs.Rank3 as genRank3
 use Rattle.kinds.specs.Wide as wide
 

@@ -12,9 +12,10 @@ use Rattle.arith.proofs.Branches.{or-left, or-right}
 use Rattle.cone.specs.declared.Cone.{Cone}
 use Rattle.cone.specs.declared.Settings.{Settings}
 use Rattle.cone.specs.declared.Steps.{Steps}
-use Rattle.cone.specs.Judges.{coneOk, numelOf}
+use Rattle.cone.specs.Codes.{numelOf}
+use Rattle.judges.specs.Judges.{coneOk}
 use Rattle.table.specs.Table.{settle}
-use Rattle.cone.specs.Refusals.{LentTwo, otherLength}
+use Rattle.judges.specs.Refusals.{LentTwo, otherLength}
 use Rattle.table.proofs.Settled.{no-fault}
 use Rattle.search_entries.specs.Rows.{stepFaults}
 use Rattle.search_entries.specs.Entries.{refuseSteps, stepLengthOf}

@@ -10,9 +10,10 @@ use lib.ListN.{length, take}
 use lib.Seq.{take-at, length-take-le}
 use Rattle.double.specs.Operators.{at}
 use Rattle.cone.specs.declared.Cone.{Cone}
-use Rattle.cone.specs.Judges.{allOf, exponentOk, ruleOk, toleranceOf, sumOk, wideOk, threeOk, coneOkWithin, coneOk, numelOf}
+use Rattle.cone.specs.Codes.{numelOf}
+use Rattle.judges.specs.Judges.{allOf, exponentOk, ruleOk, toleranceOf, sumOk, wideOk, threeOk, coneOkWithin, coneOk}
 use Rattle.cone.specs.Points.{threeOf}
-use Rattle.cone.proofs.Lengths.{dim1-at-most}
+use Rattle.judges.proofs.Lengths.{dim1-at-most}
 use Rattle.verdict.specs.Answers.{isYes}
 use Rattle.kinds.specs.Answers.{answerIn, powAnswer, genpowAnswer}
 use Rattle.kinds.specs.Passes.{passesIn}

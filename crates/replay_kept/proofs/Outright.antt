@@ -7,7 +7,7 @@ use lib.Dec.{eqb}
 use lib.Ieee.{Float, binary64, ofBits}
 use lib.ListN.{take, getD}
 use Rattle.cone.specs.declared.Settings.{Settings}
-use Rattle.cone.specs.Judges.{numelOf}
+use Rattle.cone.specs.Codes.{numelOf}
 use Rattle.search_entries.specs.Entries.{stepLengthOf}
 use Rattle.trace_layout.specs.Records.{Record, sizeIn}
 use Rattle.trace_layout.specs.Traces.{editionAt}

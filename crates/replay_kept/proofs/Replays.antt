@@ -10,8 +10,8 @@ use lib.ListN.{take}
 use Rattle.cone.specs.declared.Cone.{Cone}
 use Rattle.cone.specs.declared.Settings.{Settings}
 use Rattle.cone.specs.declared.Steps.{Steps}
-use Rattle.cone.specs.Judges.{numelOf}
-use Rattle.cone.proofs.Lengths.{numel-at-most}
+use Rattle.cone.specs.Codes.{numelOf}
+use Rattle.judges.proofs.Lengths.{numel-at-most}
 use Rattle.search_entries.specs.Entries.{stepLengthOf}
 use Rattle.trace_layout.specs.Records.{Record, sizeIn}
 use Rattle.trace_entries.specs.Given.{givenOf}

@@ -9,7 +9,7 @@ use lib.Ieee.{Float, binary64, ofBits}
 use lib.ListN.{length, take, drop, getD}
 use Rattle.double.specs.Numbers.{dec}
 use Rattle.cone.specs.declared.Settings.{Settings}
-use Rattle.cone.specs.Judges.{numelOf}
+use Rattle.cone.specs.Codes.{numelOf}
 use Rattle.table.specs.Table.{traceRow, settle}
 use Rattle.search_entries.specs.Entries.{stepLengthOf}
 use Rattle.trace_layout.specs.Records.{Record, sizeIn}

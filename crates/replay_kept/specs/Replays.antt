@@ -9,7 +9,7 @@ use lib.ListN.{take}
 use Rattle.cone.specs.declared.Cone.{Cone}
 use Rattle.cone.specs.declared.Settings.{Settings}
 use Rattle.cone.specs.declared.Steps.{Steps}
-use Rattle.cone.specs.Judges.{ruleOk}
+use Rattle.judges.specs.Judges.{ruleOk}
 use Rattle.words.specs.Words.{AllBelow}
 use Rattle.search_entries.specs.Entries.{stepLengthOf}
 use Rattle.trace_layout.specs.Records.{Record}

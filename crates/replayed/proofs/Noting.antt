@@ -21,7 +21,7 @@ use Rattle.trace_layout.specs.Traces.{mostRecords, listAt, countAt, editionAt, 
 use Rattle.trace_layout.proofs.Fields.{kind-of, dim1-of, dim2-of, flag-of}
 use Rattle.trace_layout.proofs.Records.{found, bounds}
 use Rattle.trace_layout.proofs.Traces.{ends}
-use Rattle.cone.specs.Judges.{numelOf}
+use Rattle.cone.specs.Codes.{numelOf}
 use Rattle.recorded.specs.declared.Recorded.{Recorded}
 use Rattle.recorded.specs.Recorded.{coneOf, recordedOf}
 use Rattle.trace.specs.Opening.{openOf}

@@ -7,7 +7,7 @@ use lib.Ieee.{Float, binary64, toBits}
 use lib.ListN.{take, replicate}
 use Rattle.double.specs.Numbers.{#0}
 use Rattle.cone.specs.declared.Steps.{Steps}
-use Rattle.cone.specs.Judges.{numelOf}
+use Rattle.cone.specs.Codes.{numelOf}
 use Rattle.search_entries.specs.Entries.{stepLengthOf}
 use Rattle.recorded.specs.declared.Recorded.{Recorded}
 

@@ -1,12 +1,12 @@
 // A recorded search, run again. 02, Order 2: "run every search again, compare steps and counts bit for bit".
 ghost use mathlib.Core.Path.{_≡_};
 ghost use Prim.Native.Nat.{_≤_};
-ghost use Rattle.cone.specs.Judges.{numelOf};
+ghost use Rattle.cone.specs.Codes.{numelOf};
 ghost use Rattle.rerun.specs.Rerun.{sameAnswers, blankPoint, agreesOf};
 use algebra::vector::head;
 use cone::Steps;
-use cone::judge::numel;
 use double::to_bits;
+use judges::numel;
 use recorded::Recorded;
 use search_entries::step_length;
 

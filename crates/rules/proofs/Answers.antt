@@ -10,10 +10,11 @@ use Rattle.cone.specs.declared.Cone.{Cone}
 use Rattle.cone.specs.declared.Scaling.{Scaling}
 use Rattle.cone.specs.declared.Attempt.{Attempt}
 use Rattle.cone.specs.declared.Updated.{Updated}
-use Rattle.cone.specs.Judges.{rule1, rule2, ruleOk, coneOk, recordFinite, numelOf, blockOf}
+use Rattle.cone.specs.Codes.{numelOf, blockOf}
+use Rattle.judges.specs.Judges.{rule1, rule2, ruleOk, coneOk, recordFinite}
 use Rattle.cone.specs.Fresh as made
 use Rattle.table.specs.Table.{firstRow, settle}
-use Rattle.cone.specs.Refusals.{lastRows}
+use Rattle.judges.specs.Refusals.{lastRows}
 use Rattle.kinds.specs.Cones as kinds
 use Rattle.scaling.specs.Updates.{newThree, newWide, newRecordOf}
 use Rattle.cone_entries.specs.Rows.{freshFaults, readFaults, unitFaults, copyFaults, offsetFaults}

@@ -5,7 +5,7 @@ use lib.Ieee.{add, sub, neg, lt, le, eq, ofBits, ofFields, round, size, units, o
 use Rattle.arith.specs.Turns.{iter}
 use Rattle.double.specs.Numbers.{pow2}
 use Rattle.algebra.specs.Vectors.{sumOf}
-use Rattle.cone.specs.Judges.{allOf, toleranceOf, wideOk, coneOkWithin, coneOk}
+use Rattle.judges.specs.Judges.{allOf, toleranceOf, wideOk, coneOkWithin, coneOk}
 use Rattle.rules.specs.Rules.{AtTolerance}
 
 pub at-tolerance : AtTolerance

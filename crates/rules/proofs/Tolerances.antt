@@ -11,7 +11,7 @@ use Rattle.double.specs.Operators.{_⊖_, _≼_}
 use Rattle.double.specs.Numbers.{#1}
 use Rattle.algebra.specs.Vectors.{sumOf}
 use Rattle.cone.specs.declared.Cone.{Cone}
-use Rattle.cone.specs.Judges.{allOf, exponentOk, rule1, rule2, toleranceOf, sumOk, wideOk, coneOkWithin, coneOk}
+use Rattle.judges.specs.Judges.{allOf, exponentOk, rule1, rule2, toleranceOf, sumOk, wideOk, coneOkWithin, coneOk}
 use Rattle.rules.specs.Entries.{under}
 use Rattle.rules.specs.Rules.{Wider}
 use Rattle.rules.proofs.Order.{at-most-through, signs-turn}

@@ -14,7 +14,7 @@ use Rattle.cone.specs.declared.Found.{Found}
 use Rattle.cone.specs.declared.Steps.{Steps}
 use Rattle.cone.specs.declared.DualGrad.{DualGrad}
 use Rattle.cone.specs.declared.Updated.{Updated}
-use Rattle.cone.specs.Refusals.{Lent, LentTwo}
+use Rattle.judges.specs.Refusals.{Lent, LentTwo}
 use Rattle.cone_entries.specs.Entries as cones
 use Rattle.search_entries.specs.Entries as searches
 use Rattle.record_update.specs.Entries as updates

@@ -9,7 +9,7 @@ use lib.ListN.{replicate}
 use Rattle.double.specs.Operators.{_≼_, _⊕_, _⊖_}
 use Rattle.double.specs.Numbers.{pow2, #0, #½}
 use Rattle.cone.specs.declared.Cone.{Cone}
-use Rattle.cone.specs.Judges.{rule1, rule2, ruleOk, toleranceOf, coneOkWithin, coneOk}
+use Rattle.judges.specs.Judges.{rule1, rule2, ruleOk, toleranceOf, coneOkWithin, coneOk}
 use Rattle.rules.specs.Entries.{Entry, call, codeOf, under, carrying}
 
 -- ---- the cones

@@ -10,7 +10,7 @@ use Rattle.double.specs.Numbers.{#0, #1, #3, #ε, #√ε}
 use Rattle.double.specs.Sizes.{absOf}
 use Rattle.algebra.specs.Vectors.{dotOf, movedOf, normalizeOf}
 use Rattle.algebra.specs.Packed.{mulOf, quadFormOf, normFroOf, scaledOf, outerOf}
-use Rattle.cone.specs.Judges.{dual}
+use Rattle.cone.specs.Codes.{dual}
 use Rattle.kinds.specs.declared.three.Gradient.{Gradient}
 use Rattle.kinds.specs.Three.{gradientPrimalOf}
 use Rattle.scaling.specs.declared.Scaled.{Scaled}

@@ -14,7 +14,7 @@ use Rattle.double.specs.Operators.{_⊕_, _⊗_}
 use Rattle.double.specs.Numbers.{#0}
 use Rattle.algebra.specs.Vectors.{movedOf}
 use Rattle.cone.specs.declared.Settings.{Settings}
-use Rattle.cone.specs.Judges.{allOf, allFinite}
+use Rattle.judges.specs.Judges.{allOf, allFinite}
 use Rattle.trials.specs.Trials.{Usable}
 use Rattle.trials.specs.Search.{Problem, Outcome, searchOf}
 use Rattle.search.specs.Points.{trialPoint, allNumbers}

@@ -11,7 +11,7 @@ use Rattle.arith.proofs.Branches.{and-left, and-right}
 use Rattle.double.specs.Operators.{_≺_, _≼_}
 use Rattle.double.specs.Numbers.{#0, #largestStep, #smallestNormal}
 use Rattle.cone.specs.declared.Settings.{Settings}
-use Rattle.cone.specs.Judges.{settingsFinite, settingsOk}
+use Rattle.judges.specs.Judges.{settingsFinite, settingsOk}
 use Rattle.trials.specs.Trials.{Usable}
 
 pub of-true : (b : Bool) → b ≡ true → T b

@@ -3,7 +3,7 @@ use mathlib.Core.Bool.{Bool, not}
 use mathlib.Core.List.{List}
 use lib.Ieee.{Float, isNan}
 use Rattle.algebra.specs.Vectors.{movedOf}
-use Rattle.cone.specs.Judges.{allOf}
+use Rattle.judges.specs.Judges.{allOf}
 
 -- 01: "Trial point: q[i] + α·dq[i], two roundings." 003: work.waxpby(1, q, α, dq), and 1·q[i] is q[i]
 abbrev pub trialPoint : List Float → List Float → Float → List Float

@@ -7,7 +7,7 @@ use lib.ListN.{length}
 use lib.Ieee.{Float}
 use Rattle.cone.specs.declared.Cone.{Cone}
 use Rattle.cone.specs.declared.Settings.{Settings}
-use Rattle.cone.specs.Judges.{settingsFinite, settingsOk}
+use Rattle.judges.specs.Judges.{settingsFinite, settingsOk}
 use Rattle.trials.specs.Search.{Problem}
 use Rattle.kinds.specs.Passes.{passesIn}
 use Rattle.search.specs.Points.{trialPoint}

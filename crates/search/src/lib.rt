@@ -5,7 +5,7 @@ ghost use Rattle.trials.specs.Search.{outcome, searchOf};
 ghost use Rattle.search.specs.Points.{trialPoint};
 ghost use Rattle.search.specs.Problems.{problemIn, Searchable};
 use cone::Settings;
-use cone::refusal::store;
+use judges::refusal::store;
 use kinds::passes;
 
 // The step, zero where no allowed trial passed, and how many points were tested.

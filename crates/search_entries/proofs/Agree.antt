@@ -6,7 +6,7 @@ use denote.Ref.{now}
 use Rattle.arith.specs.Outcomes.{OneOutcome}
 use Rattle.cone.specs.declared.Found.{Found}
 use Rattle.cone.specs.declared.Steps.{Steps}
-use Rattle.cone.proofs.Outcomes.{one, two}
+use Rattle.judges.proofs.Outcomes.{one, two}
 use Rattle.search_entries.proofs.backtrack_search.Reads as backtrack-search
 use Rattle.search_entries.proofs.step_length.Reads as step-length
 

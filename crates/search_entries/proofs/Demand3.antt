@@ -13,9 +13,9 @@ use Rattle.cone.specs.declared.Cone.{Cone}
 use Rattle.cone.specs.declared.Settings.{Settings}
 use Rattle.cone.specs.declared.Found.{Found}
 use Rattle.cone.specs.declared.Steps.{Steps}
-use Rattle.cone.specs.Judges.{allFinite}
+use Rattle.judges.specs.Judges.{allFinite}
 use Rattle.table.specs.Table.{settle}
-use Rattle.cone.specs.Refusals.{Lent, LentTwo}
+use Rattle.judges.specs.Refusals.{Lent, LentTwo}
 use Rattle.table.proofs.Settled.{done}
 use Rattle.trials.specs.Search.{Problem, searchOf}
 use Rattle.trials.proofs.FirstPassing.{first-passing}

@@ -8,9 +8,10 @@ use borrow.Author.Tests.{not-false}
 use Rattle.arith.proofs.Branches.{or-left, or-right, and-left, and-right}
 use Rattle.cone.specs.declared.Cone.{Cone}
 use Rattle.cone.specs.declared.Settings.{Settings}
-use Rattle.cone.specs.Judges.{numelOf, allFinite, sidesFinite, settingsFinite}
+use Rattle.cone.specs.Codes.{numelOf}
+use Rattle.judges.specs.Judges.{allFinite, sidesFinite, settingsFinite}
 use Rattle.table.proofs.Settled.{NoFault, no-fault}
-use Rattle.cone.proofs.Lengths.{off, same-1, same-3, same-4}
+use Rattle.judges.proofs.Lengths.{off, same-1, same-3, same-4}
 use Rattle.search.specs.Problems.{Searchable}
 use Rattle.search_entries.specs.Rows.{searchFaults, searchRows, stepFaults, stepRows}
 

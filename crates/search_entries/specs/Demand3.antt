@@ -9,7 +9,7 @@ use Rattle.cone.specs.declared.Cone.{Cone}
 use Rattle.cone.specs.declared.Settings.{Settings}
 use Rattle.cone.specs.declared.Found.{Found}
 use Rattle.cone.specs.declared.Steps.{Steps}
-use Rattle.cone.specs.Refusals.{LentTwo}
+use Rattle.judges.specs.Refusals.{LentTwo}
 use Rattle.trials.specs.Search.{Problem, Outcome, outcome}
 use Rattle.trials.specs.FirstPassing.{FirstPassing}
 use Rattle.search.specs.Points.{allNumbers}

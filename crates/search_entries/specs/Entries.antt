@@ -10,7 +10,7 @@ use Rattle.cone.specs.declared.Settings.{Settings}
 use Rattle.cone.specs.declared.Found.{Found}
 use Rattle.cone.specs.declared.Steps.{Steps}
 use Rattle.table.specs.Table.{settle}
-use Rattle.cone.specs.Refusals.{Lent, LentTwo}
+use Rattle.judges.specs.Refusals.{Lent, LentTwo}
 use Rattle.trials.specs.Search.{Outcome, searchOf}
 use Rattle.search.specs.Problems.{problemOf}
 use Rattle.search_entries.specs.Rows.{searchRows, stepRows}

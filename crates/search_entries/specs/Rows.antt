@@ -7,9 +7,10 @@ use lib.Ieee.{Float}
 use Rattle.cone.specs.declared.Cone.{Cone}
 use Rattle.cone.specs.declared.Settings.{Settings}
 use Rattle.table.specs.declared.Faults.{Faults}
-use Rattle.cone.specs.Judges.{numelOf, allFinite, sidesFinite, settingsFinite}
+use Rattle.cone.specs.Codes.{numelOf}
+use Rattle.judges.specs.Judges.{allFinite, sidesFinite, settingsFinite}
 use Rattle.table.specs.Table.{firstRow}
-use Rattle.cone.specs.Refusals.{badCone, otherLength, badSettings}
+use Rattle.judges.specs.Refusals.{badCone, otherLength, badSettings}
 
 -- 01: "A slice that is only written is judged by its length alone": `point`, `dualPoint` and `primalPoint` are such lengths.
 -- 01: "Feasibility and step search take a cone and no record": none is unscaled, none has a serial

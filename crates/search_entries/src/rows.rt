@@ -3,12 +3,12 @@ ghost use mathlib.Core.Path.{_≡_};
 ghost use Rattle.search_entries.specs.Rows.{searchRows, stepRows};
 use cone::Cone;
 use cone::Settings;
-use cone::judge::all_finite;
-use cone::judge::cone_ok;
-use cone::judge::numel;
-use cone::judge::settings_finite;
-use cone::judge::settings_ok;
-use cone::judge::sides_finite;
+use judges::all_finite;
+use judges::cone_ok;
+use judges::numel;
+use judges::settings_finite;
+use judges::settings_ok;
+use judges::sides_finite;
 use table::Faults;
 use table::first_row;
 

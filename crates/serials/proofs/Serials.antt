@@ -13,7 +13,7 @@ use Rattle.cone.specs.declared.Scaling.{Scaling}
 use Rattle.cone.specs.declared.Updated.{Updated}
 use Rattle.cone.specs.Fresh as fresh
 use Rattle.table.specs.Table.{settle}
-use Rattle.cone.specs.Refusals.{Lent, refuse}
+use Rattle.judges.specs.Refusals.{Lent, refuse}
 use Rattle.table.proofs.Settled.{no-fault}
 use Rattle.cone_entries.specs.Entries.{freshOf}
 use Rattle.record_update.proofs.Updates.{refused-keeps, completed-makes}

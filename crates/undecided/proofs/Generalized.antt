@@ -19,7 +19,7 @@ use Rattle.double.specs.Numbers.{#0, #1, #2}
 use Rattle.kernels.specs.Door.{logOf, expOf}
 use Rattle.verdict.specs.Margins.{powerMargin}
 use Rattle.algebra.specs.Vectors.{sumsqOf}
-use Rattle.cone.specs.Judges.{allOf, allFinite, exponentOk}
+use Rattle.judges.specs.Judges.{allOf, allFinite, exponentOk}
 use Rattle.genpowcone_loops.specs.Folds.{aboveZeroTurn, allAboveZero, primalLogSum, dualLogSum}
 use Rattle.genpowcone.specs.Feasible.{residueAt, primalResidue, primalMargin, dualResidue, dualMargin, signs}
 use Rattle.undecided.proofs.Unsigned.{unsigned, mul-unsigned, square-unsigned, of-above}

@@ -13,7 +13,8 @@ use Rattle.arith.proofs.Branches.{and-left, and-right, false-not-true}
 use Rattle.double.specs.Operators.{at}
 use Rattle.verdict.specs.Answers.{isYes, judged}
 use Rattle.cone.specs.declared.Cone.{Cone}
-use Rattle.cone.specs.Judges.{allOf, allFinite, powerOk, exponentOk, toleranceOf, sumOk, wideOk, coneOk, numelOf}
+use Rattle.cone.specs.Codes.{numelOf}
+use Rattle.judges.specs.Judges.{allOf, allFinite, powerOk, exponentOk, toleranceOf, sumOk, wideOk, coneOk}
 use Rattle.cone.specs.Points.{threeOf}
 use Rattle.expcone_feasible.specs.Feasible as expcone
 use Rattle.powcone.specs.Feasible as powcone

@@ -15,7 +15,7 @@ use Rattle.double.specs.Operators.{_⊕_, _⊖_, _⊗_, _⊘_, _≺_, at}
 use Rattle.double.specs.Numbers.{#0, #1, #2}
 use Rattle.kernels.specs.Door.{logOf, expOf}
 use Rattle.verdict.specs.Margins.{#2⁻³⁰, powerMargin}
-use Rattle.cone.specs.Judges.{powerOk}
+use Rattle.judges.specs.Judges.{powerOk}
 use Rattle.powcone.specs.Feasible.{residueAt, primalResidue, primalMargin, dualResidue, dualMargin, signs}
 use Rattle.undecided.proofs.Unsigned.{unsigned, add-unsigned, mul-unsigned, square-unsigned, of-above, round-unsigned}
 use Rattle.undecided.proofs.Boundless.{boundless, square-boundless, left-boundless, right-boundless, times-boundless}

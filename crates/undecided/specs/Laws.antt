@@ -9,7 +9,8 @@ use Rattle.double.specs.Numbers.{#0}
 use Rattle.verdict.specs.declared.Answer.the-variants.{No, Yes, Undecided}
 use Rattle.verdict.specs.Answers.{judged}
 use Rattle.cone.specs.declared.Cone.{Cone}
-use Rattle.cone.specs.Judges.{allFinite, numelOf}
+use Rattle.cone.specs.Codes.{numelOf}
+use Rattle.judges.specs.Judges.{allFinite}
 use Rattle.kinds.specs.Answers.{answerOf}
 use Rattle.kinds.specs.Passes.{passesIn}
 use Rattle.undecided.specs.Parts.{signsOf, residueOf, marginOf, passedBefore}

@@ -6,7 +6,7 @@ use lib.Ieee.{Float}
 use Rattle.double.specs.Operators.{_≺_, at}
 use Rattle.double.specs.Numbers.{#0}
 use Rattle.cone.specs.declared.Cone.{Cone}
-use Rattle.cone.specs.Judges.{byKind}
+use Rattle.cone.specs.Codes.{byKind}
 use Rattle.cone.specs.Points.{threeOf}
 use Rattle.expcone_feasible.specs.Feasible as expcone
 use Rattle.powcone.specs.Feasible as powcone

@@ -1,7 +1,7 @@
 -- A call that its rows refuse leaves with their number, one that they let through with the finished barrier. Assumes nothing.
 use mathlib.Core.Path.{_∙_, ap}
 use Rattle.table.proofs.Settled.{refused, done}
-use Rattle.cone.specs.Refusals.{numberOf}
+use Rattle.judges.specs.Refusals.{numberOf}
 use Rattle.cone_entries.specs.Entries.{barrierDualOf}
 use borrow.Author.Needs.{needs}
 use Rattle.cone_entries.proofs.barrier_dual.Statement.{statement}

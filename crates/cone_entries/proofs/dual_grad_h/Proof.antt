@@ -1,7 +1,7 @@
 -- A call that its rows refuse leaves with their number, also after the formulas; any other with all that they made. Assumes nothing.
 use mathlib.Core.Path.{_≡_, _∙_, sym, ap}
 use Rattle.table.proofs.Settled.{refused, done}
-use Rattle.cone.specs.Refusals.{lastRows}
+use Rattle.judges.specs.Refusals.{lastRows}
 use Rattle.kinds.specs.Cones as kinds
 use Rattle.cone_entries.proofs.Lengths.{read-call}
 use Rattle.cone_entries.specs.Entries.{gradOf, dualGradHOf}

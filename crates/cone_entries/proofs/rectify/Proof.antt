@@ -7,9 +7,9 @@ use lib.Ieee.{Float}
 use lib.ListN.{length, take, length-map}
 use Rattle.cone.specs.declared.Cone.{Cone}
 use Rattle.cone.specs.Points.{wideOf}
-use Rattle.cone.specs.Refusals.{Lent, publishOf, refuse}
+use Rattle.judges.specs.Refusals.{Lent, publishOf, refuse}
 use Rattle.cone.proofs.Points.{wide-front}
-use Rattle.cone.proofs.Lengths.{cut}
+use Rattle.judges.proofs.Lengths.{cut}
 use Rattle.table.proofs.Settled.{refused, done}
 use Rattle.cone_entries.proofs.Lengths.{copy-length}
 use Rattle.cone_entries.specs.Rows.{copyRows}

@@ -7,12 +7,12 @@ use lib.Ieee.{Float}
 use lib.ListN.{length, take}
 use borrow.Author.Tests.{eq-eqb, ne-eqb}
 use Rattle.cone.specs.declared.Cone.{Cone}
-use Rattle.cone.specs.Refusals.{LentTwo, publishTwoOf, refuseTwo}
+use Rattle.judges.specs.Refusals.{LentTwo, publishTwoOf, refuseTwo}
 use Rattle.kinds.specs.Cones.{alphaOf}
 use Rattle.kinds.specs.Three as three
 use Rattle.kinds.specs.Wide as wide
 use Rattle.table.proofs.Settled.{refused}
-use Rattle.cone.proofs.Lengths.{numel-at-most, numel-3D, cut}
+use Rattle.judges.proofs.Lengths.{numel-at-most, numel-3D, cut}
 use Rattle.table.proofs.Choices.{done-taken, done-left}
 use Rattle.cone_entries.proofs.Lengths.{unit-lengths}
 use Rattle.cone_entries.specs.Rows.{unitRows}

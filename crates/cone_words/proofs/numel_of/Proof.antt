@@ -4,7 +4,7 @@ use Prim.Native.Nat.{ℕ, _+_}
 use borrow.Author.Needs.{needs}
 use borrow.Author.Tests.{eq-eqb, ne-eqb}
 use Rattle.arith.proofs.Branches.{taken, left}
-use Rattle.cone.specs.Judges.{numelOf}
+use Rattle.cone.specs.Codes.{numelOf}
 use Rattle.cone_words.specs.Words.{coneOfWords}
 use Rattle.cone_words.proofs.numel_of.Statement.{statement}
 use Rattle.cone_words.proofs.numel_of.Tie as tie

@@ -1,5 +1,5 @@
 -- `dual_grad_h` asks the cone of the kind and leaves the other kind's places +0. Assumes nothing.
-use Rattle.cone.proofs.Lengths.{wide-fits}
+use Rattle.judges.proofs.Lengths.{wide-fits}
 use borrow.Author.Tests.{eq-eqb, ne-eqb}
 use Rattle.kinds.specs.Cones.{dualGradHOf}
 use borrow.Author.Needs.{needs}

@@ -8,7 +8,7 @@ use native.Mathlib.Omega.{arith}
 use lib.ListN.{length, drop}
 use borrow.Author.Needs.{needs}
 use borrow.Author.Tests.{not-true, not-false}
-use Rattle.cone.specs.Judges.{coneOk}
+use Rattle.judges.specs.Judges.{coneOk}
 use Rattle.cone_words.specs.Words.{conesOf}
 use Rattle.plan.specs.Plans.{allConesOk, planOk}
 use Rattle.plan.proofs.Plans.{unlisted, ok-begins, ok-next, ok-end}

@@ -10,7 +10,7 @@ use lib.Ieee.{Float}
 use borrow.Author.Needs.{needs}
 use borrow.Author.Tests.{not-true, not-false}
 use Rattle.cone.specs.declared.Cone.{Cone}
-use Rattle.cone.specs.Judges.{numelOf}
+use Rattle.cone.specs.Codes.{numelOf}
 use Rattle.cone_words.specs.Words.{coneOfWords}
 use Rattle.plan.specs.Plans.{conePasses}
 use Rattle.plan.proofs.Plans.{PassedTo, passed-none, passed-next, failed-now, passed-all, fits}

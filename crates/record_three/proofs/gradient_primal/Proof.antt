@@ -9,10 +9,10 @@ use lib.Ieee.{Float}
 use lib.ListN.{length}
 use Rattle.arith.proofs.Branches.{taken, left}
 use Rattle.cone.specs.declared.Rounds.{Rounds}
-use Rattle.cone.specs.Refusals.{Lent, refuseRounds, publishOf, countedOf}
+use Rattle.judges.specs.Refusals.{Lent, refuseRounds, publishOf, countedOf}
 use Rattle.table.proofs.Settled.{refused, through}
-use Rattle.cone.proofs.Outcomes.{with-count}
-use Rattle.cone.proofs.Lengths.{same-2}
+use Rattle.judges.proofs.Outcomes.{with-count}
+use Rattle.judges.proofs.Lengths.{same-2}
 use Rattle.kinds.specs.declared.three.Gradient.{Gradient}
 use Rattle.record_three.specs.Entries.{rowsOf, published, gradientPrimalOf}
 use Rattle.record_three.proofs.Judging.{lengths-right}

@@ -1,5 +1,5 @@
 -- `judged` branches as its definition does. Assumes nothing.
-use Rattle.cone.specs.Refusals.{judgedOf}
+use Rattle.judges.specs.Refusals.{judgedOf}
 use borrow.Author.Needs.{needs}
 use Rattle.record_three.proofs.judged.Statement.{statement}
 use Rattle.record_three.proofs.judged.Tie as tie

@@ -2,7 +2,7 @@
 -- serial after the old one, which is not the last. Assumes nothing.
 use mathlib.Core.Path.{_∙_, sym, ap}
 use native.Mathlib.Omega.{arith}
-use Rattle.cone.specs.Refusals.{lastRows}
+use Rattle.judges.specs.Refusals.{lastRows}
 use Rattle.table.proofs.Settled.{refused, done}
 use Rattle.record_update.specs.Entries.{completed, updateScalingOf}
 use Rattle.record_update.proofs.LetThrough.{update-call, not-last}

@@ -2,9 +2,9 @@
 use mathlib.Core.Path.{_∙_, ap}
 use native.Mathlib.Omega.{arith}
 use lib.ListN.{length}
-use Rattle.cone.specs.Refusals.{numberOf}
+use Rattle.judges.specs.Refusals.{numberOf}
 use Rattle.table.proofs.Settled.{refused, through}
-use Rattle.cone.proofs.Lengths.{same-1}
+use Rattle.judges.proofs.Lengths.{same-1}
 use Rattle.record_wide.specs.Entries.{dims, rowsIn, barrierPrimalOf}
 use Rattle.record_wide.proofs.Judging.{lengths-right, small-dims}
 use borrow.Author.Needs.{needs}

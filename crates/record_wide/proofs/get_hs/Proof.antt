@@ -2,7 +2,7 @@
 use native.Mathlib.Omega.{arith}
 use lib.ListN.{length}
 use Rattle.table.proofs.Settled.{refused, through}
-use Rattle.cone.proofs.Lengths.{same-1}
+use Rattle.judges.proofs.Lengths.{same-1}
 use Rattle.record_wide.specs.Entries.{dims, getHsOf}
 use Rattle.record_wide.proofs.Judging.{lengths-right, small-dims}
 use borrow.Author.Needs.{needs}

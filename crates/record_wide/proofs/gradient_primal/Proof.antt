@@ -3,10 +3,10 @@ use mathlib.Core.Path.{_∙_, ap}
 use Prim.Native.Nat.{_≤_}
 use native.Mathlib.Omega.{arith}
 use lib.ListN.{length, take}
-use Rattle.cone.specs.Refusals.{publishOf}
+use Rattle.judges.specs.Refusals.{publishOf}
 use Rattle.table.proofs.Settled.{refused, through}
-use Rattle.cone.proofs.Outcomes.{with-count}
-use Rattle.cone.proofs.Lengths.{same-2}
+use Rattle.judges.proofs.Outcomes.{with-count}
+use Rattle.judges.proofs.Lengths.{same-2}
 use Rattle.record_wide.specs.Entries.{dims, rowsIn, gradientPrimalOf}
 use Rattle.record_wide.proofs.Judging.{lengths-right, small-dims}
 use borrow.Author.Needs.{needs}

@@ -4,7 +4,7 @@ use Prim.Native.Nat.{_≤_}
 use native.Mathlib.Omega.{arith}
 use lib.ListN.{length}
 use Rattle.table.proofs.Settled.{refused, through}
-use Rattle.cone.proofs.Lengths.{same-2}
+use Rattle.judges.proofs.Lengths.{same-2}
 use Rattle.genpowcone.specs.Rank3 as genRank3
 use Rattle.record_wide.specs.Entries.{dims, rowsIn, mulHsOf}
 use Rattle.record_wide.proofs.Judging.{lengths-right, small-dims}

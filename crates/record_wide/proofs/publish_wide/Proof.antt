@@ -1,7 +1,7 @@
 -- `publish_wide` publishes the front of what is lent. Assumes nothing.
 use mathlib.Core.Path.{_∙_, ap}
-use Rattle.cone.specs.Refusals.{publishOf}
-use Rattle.cone.proofs.Lengths.{cut}
+use Rattle.judges.specs.Refusals.{publishOf}
+use Rattle.judges.proofs.Lengths.{cut}
 use borrow.Author.Needs.{needs}
 use Rattle.record_wide.proofs.publish_wide.Statement.{statement}
 use Rattle.record_wide.proofs.publish_wide.Tie as tie

@@ -7,8 +7,8 @@ use lib.Ieee.{Float}
 use lib.ListN.{length, take}
 use lib.Seq.{length-take-le}
 use Rattle.cone.specs.declared.Steps.{Steps}
-use Rattle.cone.specs.Judges.{numelOf}
-use Rattle.cone.specs.Refusals.{LentTwo}
+use Rattle.cone.specs.Codes.{numelOf}
+use Rattle.judges.specs.Refusals.{LentTwo}
 use Rattle.search_entries.specs.Entries.{stepLengthOf}
 use Rattle.recorded.specs.declared.Recorded.{Recorded}
 use Rattle.rerun.specs.Rerun.{sameAnswers, blankPoint, rerunOf, agreesOf}

@@ -1,6 +1,6 @@
 -- `barrier_primal` hands on the exponents in use. Assumes nothing.
 use native.Mathlib.Omega.{arith}
-use Rattle.cone.proofs.Lengths.{used-at-most}
+use Rattle.judges.proofs.Lengths.{used-at-most}
 use Rattle.kinds.specs.Wide.{barrierPrimalOf}
 use borrow.Author.Needs.{needs}
 use Rattle.kinds.proofs.wide.barrier_primal.Statement.{statement}

@@ -1,6 +1,6 @@
 -- `compute_barrier` hands on the exponents in use. Assumes nothing.
 use native.Mathlib.Omega.{arith}
-use Rattle.cone.proofs.Lengths.{used-at-most}
+use Rattle.judges.proofs.Lengths.{used-at-most}
 use Rattle.kinds.specs.Wide.{computeBarrierOf}
 use borrow.Author.Needs.{needs}
 use Rattle.kinds.proofs.wide.compute_barrier.Statement.{statement}

@@ -1,6 +1,6 @@
 -- `unit_initialization` hands on the exponents in use. Assumes nothing.
 use native.Mathlib.Omega.{arith}
-use Rattle.cone.proofs.Lengths.{used-at-most}
+use Rattle.judges.proofs.Lengths.{used-at-most}
 use Rattle.kinds.specs.Wide.{unitInitializationOf}
 use borrow.Author.Needs.{needs}
 use Rattle.kinds.proofs.wide.unit_initialization.Statement.{statement}

@@ -5,7 +5,7 @@ use Prim.Native.Nat.{ℕ, _+_, _≤_}
 use native.Mathlib.Omega.{arith}
 use lib.Ieee.{Float}
 use lib.ListN.{length, take}
-use Rattle.cone.proofs.Lengths.{used-length}
+use Rattle.judges.proofs.Lengths.{used-length}
 use Rattle.scaling.specs.Updates.{newWide}
 use borrow.Author.Needs.{needs}
 use Rattle.scaling.proofs.update.new_wide.Statement.{statement}

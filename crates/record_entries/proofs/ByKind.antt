@@ -1,5 +1,5 @@
--- By kind, an entry's definition is that of record_three or of record_wide: judges, lengths and formulas are those of the kind. Assumes
--- nothing.
+-- By kind, an entry's definition is that of record_blocks, of record_three or of record_wide: judges, lengths and formulas are those of the
+-- kind. Assumes nothing.
 use Prim.Native.Nat.{ℕ}
 use mathlib.Core.Path.{_≡_, refl}
 use mathlib.Core.Bool.{Bool, true, false, _||_, _&&_, not}
@@ -15,6 +15,7 @@ use Rattle.table.specs.Table.{firstRow}
 use Rattle.judges.specs.Refusals.{otherLength, neverScaled, otherSerial, judgedOf}
 use Rattle.judges.proofs.Lengths.{cone-wide, cone-3D, record-wide, record-3D, numel-wide, numel-3D, block-wide, block-3D}
 use Rattle.kinds.specs.Cones.{alphaOf}
+use Rattle.record_blocks.specs.Blocks as blocks
 use Rattle.record_three.specs.Entries as three
 use Rattle.record_wide.specs.Entries as wide
 use Rattle.record_entries.specs.Rows.{gradientRows, barrierRows, computeRows, blockRows, productRows, correctionRows}
@@ -31,29 +32,29 @@ module _ (r : Scaling) (k : r .cone .kind ≡ 3 → ⊥) where
   pub gradient-primal-3D
       : (g s : List Float)
       → three.gradientPrimalOf (r .cone .kind) (r .cone .rule) (α r) (r .three) g s ≡ gradientPrimalOf r g s
-  unfolding three.gradientPrimalOf three.rowsOf gradientPrimalOf gradientRows
+  unfolding three.gradientPrimalOf blocks.rowsOf gradientPrimalOf gradientRows
   gradient-primal-3D g s = simp (ne-eqb _ _ k, cone-3D (r .cone) k, numel-3D (r .cone) k, record-3D r k)
 
   pub barrier-primal-3D : (s : List Float) → three.barrierPrimalOf (r .cone .kind) (r .cone .rule) (α r) (r .three) s ≡ barrierPrimalOf r s
-  unfolding three.barrierPrimalOf three.rowsOf barrierPrimalOf primalBarrierOf barrierRows
+  unfolding three.barrierPrimalOf blocks.rowsOf barrierPrimalOf primalBarrierOf barrierRows
   barrier-primal-3D s = simp (ne-eqb _ _ k, cone-3D (r .cone) k, numel-3D (r .cone) k, record-3D r k)
 
   pub compute-barrier-3D
       : (z s dz ds : List Float) (step : Float)
       → three.computeBarrierOf (r .cone .kind) (r .cone .rule) (α r) (r .three) z s dz ds step ≡ computeBarrierOf r z s dz ds step
-  unfolding three.computeBarrierOf three.rowsOf computeBarrierOf combinedBarrierOf computeRows
+  unfolding three.computeBarrierOf blocks.rowsOf computeBarrierOf combinedBarrierOf computeRows
   compute-barrier-3D z s dz ds step = simp (ne-eqb _ _ k, cone-3D (r .cone) k, numel-3D (r .cone) k, record-3D r k)
 
   pub get-hs-3D
       : (serial : ℕ) (block : List Float)
-      → three.getHsOf (r .cone .kind) (r .cone .rule) (α r) (neverScaled r) (otherSerial serial r) (r .three) block ≡ getHsOf r serial block
-  unfolding three.getHsOf three.rowsOf getHsOf blockRows
+      → blocks.getHsOf (r .cone .kind) (r .cone .rule) (α r) (neverScaled r) (otherSerial serial r) (r .three) block ≡ getHsOf r serial block
+  unfolding blocks.getHsOf blocks.rowsOf getHsOf blockRows
   get-hs-3D serial block = simp (ne-eqb _ _ k, cone-3D (r .cone) k, block-3D (r .cone) k, record-3D r k)
 
   pub mul-hs-3D
       : (serial : ℕ) (y x : List Float)
-      → three.mulHsOf (r .cone .kind) (r .cone .rule) (α r) (neverScaled r) (otherSerial serial r) (r .three) y x ≡ mulHsOf r serial y x
-  unfolding three.mulHsOf three.rowsOf mulHsOf productRows
+      → blocks.mulHsOf (r .cone .kind) (r .cone .rule) (α r) (neverScaled r) (otherSerial serial r) (r .three) y x ≡ mulHsOf r serial y x
+  unfolding blocks.mulHsOf blocks.rowsOf mulHsOf productRows
   mul-hs-3D serial y x = simp (ne-eqb _ _ k, cone-3D (r .cone) k, numel-3D (r .cone) k, record-3D r k)
 
 -- ---- kind 3
@@ -98,18 +99,18 @@ and-false false = refl
 module _ (r : Scaling) (serial : ℕ) where
   abbrev rows : Bool → Bool → ℕ
   rows lengths numbers =
-      three.rowsOf (r .cone .kind) (r .cone .rule) (α r) (r .three) lengths (neverScaled r) (otherSerial serial r) numbers
+      blocks.rowsOf (r .cone .kind) (r .cone .rule) (α r) (r .three) lengths (neverScaled r) (otherSerial serial r) numbers
 
   module _ (out : ℕ) (a b : List Float) (numbers : Bool) where
     abbrev lengths : Bool
     lengths = not (eqb out 3) || otherLength 3 a || otherLength 3 b
 
     rows-wide : r .cone .kind ≡ 3 → rows lengths numbers ≡ correctionRows r serial out a b numbers
-    unfolding three.rowsOf correctionRows firstRow threeOk
+    unfolding blocks.rowsOf correctionRows firstRow threeOk
     rows-wide k = simp (k, and-false (ruleOk (r .cone .rule)), or-true (not (coneOk (r .cone))))
 
     rows-3D : (r .cone .kind ≡ 3 → ⊥) → rows lengths numbers ≡ correctionRows r serial out a b numbers
-    unfolding three.rowsOf correctionRows
+    unfolding blocks.rowsOf correctionRows
     rows-3D k =
         let ok = ruleOk (r .cone .rule) && threeOk (r .cone .kind) (α r) in
         simp (ne-eqb _ _ k, cone-3D (r .cone) k, or-false (not ok), record-3D r k)

@@ -1,6 +1,6 @@
 // The public entries that take a scaling record, but for update_scaling. A call takes its cone from the record, so no second cone can
-// disagree. What each does is chosen by the cone's kind before anything else: record_three judges, computes and writes for kinds 1 and 2,
-// record_wide for kind 3.
+// disagree. What each does is chosen by the cone's kind before anything else: record_blocks and record_three judge, compute and write for
+// kinds 1 and 2, record_wide for kind 3.
 ghost use mathlib.Core.Path.{_≡_};
 ghost use Rattle.record_entries.specs.Entries.{gradientPrimalOf, barrierPrimalOf, computeBarrierOf, getHsOf, mulHsOf};
 ghost use Rattle.record_entries.specs.Entries.{higherCorrectionOf, combinedDsShiftOf};
@@ -65,7 +65,7 @@ pub fn get_hs(scaling: Scaling, serial: u32, block: &mut [f64]) -> u32
     }
     let exps = scaling.cone.exps;
     let three = scaling.three;
-    record_three::get_hs(
+    record_blocks::get_hs(
         kind,
         scaling.cone.rule,
         exps[0],
@@ -85,7 +85,7 @@ pub fn mul_hs(scaling: Scaling, serial: u32, y: &mut [f64], x: &[f64]) -> u32
     }
     let exps = scaling.cone.exps;
     let three = scaling.three;
-    record_three::mul_hs(
+    record_blocks::mul_hs(
         kind,
         scaling.cone.rule,
         exps[0],

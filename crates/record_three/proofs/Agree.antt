@@ -10,8 +10,6 @@ use Rattle.judges.proofs.Outcomes.{one}
 use Rattle.record_three.proofs.gradient_primal.Reads as gradient-primal
 use Rattle.record_three.proofs.barrier_primal.Reads as barrier-primal
 use Rattle.record_three.proofs.compute_barrier.Reads as compute-barrier
-use Rattle.record_three.proofs.get_hs.Reads as get-hs
-use Rattle.record_three.proofs.mul_hs.Reads as mul-hs
 use Rattle.record_three.proofs.higher_correction.Reads as higher-correction
 use Rattle.record_three.proofs.combined_ds_shift.Reads as combined-ds-shift
 
@@ -23,12 +21,6 @@ barrier-primal-agrees κs a x y s t p q = p ∙ sym q
 
 pub compute-barrier-agrees : OneAnswer compute-barrier.Post
 compute-barrier-agrees κs a x y s t p q = p ∙ sym q
-
-pub get-hs-agrees : OneOutcome get-hs.Post {A = List Float} (λ κs s. now (s .1 .1 .1 .1 .1 .1 .0))
-get-hs-agrees κs a x y s t p q = one {A = ℕ} (p ∙ sym q)
-
-pub mul-hs-agrees : OneOutcome mul-hs.Post {A = List Float} (λ κs s. now (s .1 .1 .1 .1 .1 .1 .0))
-mul-hs-agrees κs a x y s t p q = one {A = ℕ} (p ∙ sym q)
 
 pub higher-correction-agrees : OneOutcome higher-correction.Post {A = List Float} (λ κs s. now (s .1 .1 .1 .1 .1 .1 .0))
 higher-correction-agrees κs a x y s t p q = one {A = ℕ} (p ∙ sym q)

@@ -1,34 +1,21 @@
--- What each entry over a record answers and leaves for kinds 1 and 2, by what it takes of the record. Definitions only; that they are the
--- entries' own for these kinds is proved in record_entries.
+-- What each entry over a record answers and leaves for kinds 1 and 2, by what it takes of the record; the scaling matrix and the rows are in
+-- record_blocks. Definitions only; that they are the entries' own for these kinds is proved in record_entries.
 use Prim.Native.Nat.{ℕ}
-use mathlib.Core.Bool.{Bool, true, false, cond, not, _||_, _&&_}
+use mathlib.Core.Bool.{Bool, false, cond, _||_, _&&_}
 use mathlib.Core.List.{List}
 use lib.Ieee.{Float}
 use lib.Ieee.Scale.{finite}
-use Rattle.algebra.specs.Packed.{mulOf}
 use Rattle.cone.specs.declared.Three.{Three}
 use Rattle.cone.specs.declared.Number.{Number}
 use Rattle.cone.specs.declared.Rounds.{Rounds}
-use Rattle.judges.specs.Judges.{ruleOk, threeOk, threeFinite, allFinite, sidesFinite}
+use Rattle.judges.specs.Judges.{allFinite, sidesFinite}
 use Rattle.cone.specs.Points.{threeOf}
-use Rattle.table.specs.Table.{firstRow, settle}
+use Rattle.table.specs.Table.{settle}
 use Rattle.judges.specs.Refusals.{otherLength, Lent, refuse, refuseNumber, refuseRounds, publishOf, judgedOf, withRounds}
 use Rattle.kinds.specs.declared.three.Gradient.{Gradient}
 use Rattle.kinds.specs.declared.three.Valued.{Valued}
 use Rattle.kinds.specs.Three as three
-
--- The table, by what is wrong with the call's lengths and its record, and whether its own numbers are finite.
-unfoldable pub rowsOf : ℕ → ℕ → Float → Three → Bool → Bool → Bool → Bool → ℕ
-rowsOf kind rule α t lengths unscaled serial finite =
-    firstRow (record {
-      cone = not (ruleOk rule && threeOk kind α);
-      length = lengths;
-      number = not (finite && threeFinite t);
-      setting = false;
-      spent = false;
-      unscaled = unscaled;
-      serial = serial;
-    })
+use Rattle.record_blocks.specs.Blocks.{rowsOf}
 
 -- ---- the primal side
 
@@ -60,20 +47,6 @@ computeBarrierOf kind rule α t z s dz ds step =
     settle (rowsOf kind rule α t lengths false false (sidesFinite dz ds z s && finite step))
     (judged (three.computeBarrierOf kind α (threeOf z) (threeOf s) (threeOf dz) (threeOf ds) step))
     refuseNumber
-
--- ---- the scaling matrix, of a record that was never scaled or not, and has another serial than the caller's or not
-
--- 000, 001 get_Hs
-unfoldable pub getHsOf : ℕ → ℕ → Float → Bool → Bool → Three → List Float → Lent ℕ
-getHsOf kind rule α unscaled serial t block =
-    settle (rowsOf kind rule α t (otherLength 6 block) unscaled serial true) (publishOf block (t .hs)) (refuse block)
-
--- 000, 001 mul_Hs
-unfoldable pub mulHsOf : ℕ → ℕ → Float → Bool → Bool → Three → List Float → List Float → Lent ℕ
-mulHsOf kind rule α unscaled serial t y x =
-    settle (rowsOf kind rule α t (otherLength 3 y || otherLength 3 x) unscaled serial (allFinite x))
-    (publishOf y (mulOf (t .hs) (threeOf x)))
-    (refuse y)
 
 -- ---- kinds 1 and 2 alone: another kind is no cone here
 

@@ -1,7 +1,8 @@
 -- A call that its rows refuse leaves with their number, one that they let through with the finished barrier. Assumes nothing.
 use mathlib.Core.Path.{_∙_, ap}
 use Rattle.table.proofs.Settled.{refused, through}
-use Rattle.record_three.specs.Entries.{rowsOf, barrierPrimalOf}
+use Rattle.record_blocks.specs.Blocks.{rowsOf}
+use Rattle.record_three.specs.Entries.{barrierPrimalOf}
 use borrow.Author.Needs.{needs}
 use Rattle.record_three.proofs.barrier_primal.Statement.{statement}
 use Rattle.record_three.proofs.barrier_primal.Tie as tie

@@ -1,7 +1,8 @@
 -- A call that its rows refuse leaves with their number, one that they let through with the finished barrier. Assumes nothing.
 use mathlib.Core.Path.{_∙_, ap}
 use Rattle.table.proofs.Settled.{both, refused, through}
-use Rattle.record_three.specs.Entries.{rowsOf, computeBarrierOf}
+use Rattle.record_blocks.specs.Blocks.{rowsOf}
+use Rattle.record_three.specs.Entries.{computeBarrierOf}
 use borrow.Author.Needs.{needs}
 use Rattle.record_three.proofs.compute_barrier.Statement.{statement}
 use Rattle.record_three.proofs.compute_barrier.Tie as tie

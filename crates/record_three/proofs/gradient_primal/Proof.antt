@@ -14,8 +14,9 @@ use Rattle.table.proofs.Settled.{refused, through}
 use Rattle.judges.proofs.Outcomes.{with-count}
 use Rattle.judges.proofs.Lengths.{same-2}
 use Rattle.kinds.specs.declared.three.Gradient.{Gradient}
-use Rattle.record_three.specs.Entries.{rowsOf, published, gradientPrimalOf}
-use Rattle.record_three.proofs.Judging.{lengths-right}
+use Rattle.record_blocks.specs.Blocks.{rowsOf}
+use Rattle.record_three.specs.Entries.{published, gradientPrimalOf}
+use Rattle.record_blocks.proofs.Judging.{lengths-right}
 use borrow.Author.Needs.{needs}
 use Rattle.record_three.proofs.gradient_primal.Statement.{statement}
 use Rattle.record_three.proofs.gradient_primal.Tie as tie

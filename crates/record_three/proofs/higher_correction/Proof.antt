@@ -4,8 +4,9 @@ use native.Mathlib.Omega.{arith}
 use lib.ListN.{length}
 use Rattle.table.proofs.Settled.{both, refused, through}
 use Rattle.judges.proofs.Lengths.{same-3}
-use Rattle.record_three.specs.Entries.{rowsOf, higherCorrectionOf}
-use Rattle.record_three.proofs.Judging.{lengths-right}
+use Rattle.record_blocks.specs.Blocks.{rowsOf}
+use Rattle.record_three.specs.Entries.{higherCorrectionOf}
+use Rattle.record_blocks.proofs.Judging.{lengths-right}
 use borrow.Author.Needs.{needs}
 use Rattle.record_three.proofs.higher_correction.Statement.{statement}
 use Rattle.record_three.proofs.higher_correction.Tie as tie

@@ -4,11 +4,11 @@ use native.Mathlib.Omega.{arith}
 use lib.ListN.{length}
 use Rattle.table.proofs.Settled.{refused, through}
 use Rattle.judges.proofs.Lengths.{same-2}
-use Rattle.record_three.specs.Entries.{rowsOf, mulHsOf}
-use Rattle.record_three.proofs.Judging.{lengths-right}
+use Rattle.record_blocks.specs.Blocks.{rowsOf, mulHsOf}
+use Rattle.record_blocks.proofs.Judging.{lengths-right}
 use borrow.Author.Needs.{needs}
-use Rattle.record_three.proofs.mul_hs.Statement.{statement}
-use Rattle.record_three.proofs.mul_hs.Tie as tie
+use Rattle.record_blocks.proofs.mul_hs.Statement.{statement}
+use Rattle.record_blocks.proofs.mul_hs.Tie as tie
 
 returns : tie.Need-returns
 unfolding mulHsOf

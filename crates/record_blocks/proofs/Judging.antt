@@ -5,7 +5,7 @@ use Prim.Native.Nat.{ℕ}
 use lib.Ieee.{Float}
 use Rattle.cone.specs.declared.Three.{Three}
 use Rattle.table.proofs.Settled.{no-fault}
-use Rattle.record_three.specs.Entries.{rowsOf}
+use Rattle.record_blocks.specs.Blocks.{rowsOf}
 
 pub lengths-right
     : (kind rule : ℕ) (α : Float) (t : Three) (lengths unscaled serial finite : Bool) {k : ℕ}

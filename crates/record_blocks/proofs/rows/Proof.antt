@@ -1,8 +1,8 @@
 -- `rows` asks the table of its definition. Assumes nothing.
-use Rattle.record_three.specs.Entries.{rowsOf}
+use Rattle.record_blocks.specs.Blocks.{rowsOf}
 use borrow.Author.Needs.{needs}
-use Rattle.record_three.proofs.rows.Statement.{statement}
-use Rattle.record_three.proofs.rows.Tie as tie
+use Rattle.record_blocks.proofs.rows.Statement.{statement}
+use Rattle.record_blocks.proofs.rows.Tie as tie
 
 returns : tie.Need-returns
 unfolding rowsOf

@@ -223,7 +223,7 @@ fn of_the_grid(random: &mut Random, i: usize) -> Plan {
 }
 
 // The limits of what is refused, one at a time.
-const LIMITS: u64 = 19;
+const LIMITS: u64 = 23;
 
 fn at_a_limit(random: &mut Random, i: usize) -> Plan {
     let count = match i {
@@ -251,8 +251,16 @@ fn at_a_limit(random: &mut Random, i: usize) -> Plan {
         15 => plan.settings[0] = 0.0,
         16 => plan.settings[1] = 1.0,
         17 => plan.settings[2] = f64::MIN_POSITIVE / 2.0,
+        18 => plan.cones[0].rule = 0,
+        19 => plan.cones[count - 1].rule = 3,
+        20 => plan.cones[at].rule = u32::MAX,
+        // a bad rule and no length that adds up: 1
+        21 => {
+            plan.cones[at].rule = 257;
+            plan.q.truncate(last);
+        }
         // every row at once: only the first counts
-        18 => {
+        22 => {
             plan.cones[count - 1].kind = 0;
             plan.q.truncate(last);
             plan.dq[0] = f64::NAN;

@@ -30,7 +30,7 @@ static uint64_t pattern(double x)
 
 int main(void)
 {
-    Cone cone = { 1, 0, 0, { 0 } };
+    Cone cone = { .kind = SPINDLE_EXPONENTIAL, .rule = SPINDLE_RULE_2 };
     char job[8];
     int primal;
     while (scanf("%7s %d", job, &primal) == 2) {

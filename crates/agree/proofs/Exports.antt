@@ -14,6 +14,7 @@ use Rattle.judges.proofs.Outcomes.{one, two}
 use Rattle.trace_entries.proofs.Agree.{left}
 use Rattle.replayed.proofs.Agree.{noted-alike}
 use Rattle.rescued.proofs.Agree.{saved-alike}
+use Rattle.thinned.proofs.Agree.{left-alike}
 use Rattle.spindle.proofs.spindle_sqrt.Reads as sqrt
 use Rattle.spindle.proofs.spindle_log.Reads as log
 use Rattle.spindle.proofs.spindle_exp.Reads as exp
@@ -46,6 +47,8 @@ use Rattle.spindle.proofs.spindle_trace_open.Reads as trace-open
 use Rattle.spindle.proofs.spindle_trace_record.Reads as trace-record
 use Rattle.spindle.proofs.spindle_replay.Reads as replay
 use Rattle.spindle.proofs.spindle_rescue.Reads as rescue
+use Rattle.spindle.proofs.spindle_thin.Reads as thin
+use Rattle.spindle.proofs.spindle_thin_in_place.Reads as thin-in-place
 
 pub sqrt-agrees : OneAnswer sqrt.Post
 sqrt-agrees κs a x y s t p q = p ∙ sym q
@@ -144,3 +147,9 @@ replay-agrees κs a x y s t p q = noted-alike (p ∙ sym q)
 
 pub rescue-agrees : OneOutcome rescue.Post {A = List ℕ} (λ κs s. now (s .1 .0))
 rescue-agrees κs a x y s t p q = saved-alike (p ∙ sym q)
+
+pub thin-agrees : OneOutcome thin.Post {A = List ℕ} (λ κs s. now (s .1 .0))
+thin-agrees κs a x y s t p q = left-alike (p ∙ sym q)
+
+pub thin-in-place-agrees : OneOutcome thin-in-place.Post {A = List ℕ} (λ κs s. now (s .0))
+thin-in-place-agrees κs a x y s t p q = left-alike (p ∙ sym q)

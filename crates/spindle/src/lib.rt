@@ -16,6 +16,7 @@ ghost use Rattle.trace_entries.specs.Opened.{openedOf};
 ghost use Rattle.recorded.specs.Recorded.{recordedIn};
 ghost use Rattle.replayed.specs.Replay.{Noted, replayOf};
 ghost use Rattle.rescued.specs.Rescue.{rescueOf};
+ghost use Rattle.thinned.specs.Thin.{thinOf, thinInPlaceOf};
 use cone::Cone;
 use cone::DualGrad;
 use cone::Found;
@@ -30,6 +31,7 @@ use recorded::Recorded;
 use replayed::Replayed;
 use rescued::Rescued;
 use table_root::Root;
+use thinned::Thinned;
 use trace_entries::Opened;
 use trace_entries::Written;
 use verdict::Verdict;
@@ -361,4 +363,20 @@ pub extern "C" fn spindle_rescue(input: &[u8], output: &mut [u8], edition: u32) 
     ensures { λ r. ⌜ record { answer = r; output = now (output .exit) } ≡ rescueOf (now (input .entry)) (now (output .entry)) edition ⌝ }
 {
     rescued::rescue(input, output, edition)
+}
+
+// ---- 02, Order 13: a trace thinned
+
+#[no_mangle]
+pub extern "C" fn spindle_thin(trace: &[u8], output: &mut [u8]) -> Thinned
+    ensures { λ r. ⌜ record { answer = r; output = now (output .exit) } ≡ thinOf (now (trace .entry)) (now (output .entry)) ⌝ }
+{
+    thinned::thin(trace, output)
+}
+
+#[no_mangle]
+pub extern "C" fn spindle_thin_in_place(trace: &mut [u8]) -> Thinned
+    ensures { λ r. ⌜ record { answer = r; output = now (trace .exit) } ≡ thinInPlaceOf (now (trace .entry)) ⌝ }
+{
+    thinned::thin_in_place(trace)
 }

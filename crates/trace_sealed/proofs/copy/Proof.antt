@@ -2,11 +2,11 @@
 -- Assumes nothing.
 use mathlib.Core.Path.{_≡_, refl, sym, ap, _∙_}
 use mathlib.Core.List.{List}
-use Prim.Native.Nat.{ℕ, _+_, _-_, _≤_, _<_}
+use Prim.Native.Nat.{ℕ, _+_, _-_, _≤_}
 use native.Mathlib.Omega.{arith}
-use native.Mathlib.Numerals.{add-one}
-use lib.ListN.{length, drop, getD, set, length-set, drop-of-length-le}
-use lib.Seq.{sets, drop-cons}
+use lib.ListN.{length, drop, length-set, drop-of-length-le}
+use lib.Seq.{sets}
+use Rattle.trace_sealed.proofs.Copying.{copied}
 use Rattle.trace_sealed.proofs.copy.Statement.{statement}
 use Rattle.trace_sealed.proofs.copy.Tie as tie
 
@@ -16,12 +16,6 @@ Inv-loop out₀ place bytes i₀ i-end out i =
 
 abbrev μ-loop : tie.MeasureT-loop
 μ-loop out₀ place bytes i₀ i-end out i = length bytes - i
-
--- byte i goes out
-copied : (out bytes : List ℕ) (place i : ℕ) → i < length bytes
-    → sets (set out (place + i) (getD bytes i 0)) (place + (i + 1)) (drop (i + 1) bytes) ≡ sets out (place + i) (drop i bytes)
-copied out bytes place i h =
-    let next : place + (i + 1) ≡ place + i + 1 = omega arith in rw (next, drop-cons bytes i 0 h, add-one i, add-one (place + i))
 
 started : (out bytes : List ℕ) (place : ℕ) → sets out (place + 0) bytes ≡ sets out place bytes
 started out bytes place = let z : place + 0 ≡ place = omega arith in rw z

@@ -1,0 +1,2 @@
+-- The theorems of specs/Replays (Replays).
+pub mod Replays

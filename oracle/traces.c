@@ -1,4 +1,4 @@
-/* The calls on traces a second time, in C, from the words of document 02's Orders 1, 2, 7, 8 and 9 alone: tests/traces holds the library to it, and the Rust crate can be
+/* The calls on traces a second time, in C, from the words of document 02's Orders 1, 2, 7, 8, 9 and 13 alone: tests/traces holds the library to it, and the Rust crate can be
    tested over it and standin.c on any machine (tools/rust-tests --standin). It shares nothing with the library but spindle.h. It goes the slow way: it reads
    every number of every record, one behind the other, and lays a new record out beside the trace before it asks for its length. */
 #include "spindle.h"
@@ -292,5 +292,62 @@ Rescued spindle_rescue(const uint8_t *input, size_t n, uint8_t *output, size_t r
     for (uint32_t i = 0; i < kept; i++) put(&out, 8, begins[i]);
     put_trailer(&out, end, kept, edition);
     Rescued r = { 0, kept, n - end, out.at, false };
+    return r;
+}
+
+/* ---- thin: "write one in which a record byte-equal to an earlier kept record is dropped, the others in their old order, offsets and trailer new, edition
+   kept". Each record is compared with every kept one before it, and nothing else is kept of them than where they begin and end. */
+typedef struct { Opened opened; uint32_t kept; size_t length; uint64_t begins[MOST], ends[MOST]; } Thin;
+
+static void first_of_each(const uint8_t *trace, size_t n, Thin *t)
+{
+    t->opened = spindle_trace_open(trace, n);
+    t->kept = 0;
+    t->length = TRAILER;
+    In in = { trace, 0, n, false };
+    for (uint32_t i = 0; t->opened.code == 0 && i < t->opened.records; i++) {
+        Recorded one;
+        size_t at = in.at;
+        record(&in, t->opened.edition, &one);
+        uint32_t k = 0;
+        while (k < t->kept && (t->ends[k] - t->begins[k] != in.at - at || memcmp(trace + t->begins[k], trace + at, in.at - at))) k++;
+        if (k < t->kept) continue;
+        t->begins[k] = at;
+        t->ends[k] = in.at;
+        t->kept++;
+        t->length += in.at - at + 8;
+    }
+}
+/* `to` may be where the records stand: each goes down, or stays */
+static Thinned written_down(const uint8_t *trace, uint8_t *to, Thin *t)
+{
+    Out out = { to, 0 };
+    for (uint32_t k = 0; k < t->kept; k++) {
+        size_t length = t->ends[k] - t->begins[k], at = out.at;
+        memmove(to + at, trace + t->begins[k], length);
+        out.at += length;
+        t->begins[k] = at;
+    }
+    size_t end = out.at;
+    for (uint32_t k = 0; k < t->kept; k++) put(&out, 8, t->begins[k]);
+    put_trailer(&out, end, t->kept, t->opened.edition);
+    Thinned r = { 0, t->kept, t->opened.records - t->kept, out.at };
+    return r;
+}
+Thinned spindle_thin(const uint8_t *trace, size_t n, uint8_t *output, size_t room)
+{
+    static Thin t;
+    first_of_each(trace, n, &t);
+    Thinned refused = { t.opened.code ? 9 : 8, 0, 0, 0 };
+    return t.opened.code || room < t.length ? refused : written_down(trace, output, &t);
+}
+/* "inside one buffer, where the freed tail bytes are set to zero" */
+Thinned spindle_thin_in_place(uint8_t *trace, size_t n)
+{
+    static Thin t;
+    first_of_each(trace, n, &t);
+    if (t.opened.code) return (Thinned){ 9, 0, 0, 0 };
+    Thinned r = written_down(trace, trace, &t);
+    memset(trace + r.length, 0, n - r.length);
     return r;
 }

@@ -1,5 +1,5 @@
 #!/usr/bin/env python3
-"""A second reading and writing of traces, made from the words of document 02's Orders 1, 7, 8 and 9 alone, to hold libspindle.a to.
+"""A second reading and writing of traces, made from the words of document 02's Orders 1, 7, 8, 9 and 13 alone, to hold libspindle.a to.
 
 usage: layout.py rows FILE      writes FILE, some hundred rows of calls for `traces play`, and prints what it must print
        layout.py strings FILE   writes FILE, byte strings for `traces judge`, and prints what it must print of each of them, and of small traces also
@@ -126,6 +126,17 @@ def rescued(data, line):
             pass
         count, saved, dropped = len(records), trace_bytes(records, edition), len(data) - place
     return "%d %d %d %d %d %s" % (count, dropped, right, saved[-8], len(saved), told(saved + b"\xa5" * 8))
+
+
+def thinned(data, judged):
+    """The words behind those: records kept and dropped, and the whole output; or 9, of data that is judged so."""
+    if judged == "9":
+        return "9"
+    list_at, count, edition, _ = struct.unpack("<QII4s", data[-20:])
+    offsets = [*struct.unpack_from("<%dQ" % count, data, list_at), list_at]
+    kept = list(dict.fromkeys(data[at:end] for at, end in zip(offsets, offsets[1:])))
+    new = trace_bytes(kept, edition)
+    return "%d %d %d %s" % (len(kept), count - len(kept), len(new), told(new + b"\xa5" * 8))
 
 
 def record_bytes(call, edition):
@@ -257,6 +268,9 @@ def small_traces(rng):
             yield trace_bytes([first, third], edition)
         if edition != 2:
             yield trace_bytes([second, fourth], edition)
+    # equal records, of which every change of a byte makes two that differ in one
+    third = one_record(rng, 3, 3, 1, 1, 2, 1)
+    yield trace_bytes([third, third], 3)
     # trailers whose numbers make the length only where a sum wraps, or point nowhere
     yield struct.pack("<QII4s", 2**64 - 8, 1, 1, b"BACK")
     yield struct.pack("<QII4s", 2**64 - 8 * 4096, 4096, 1, b"BACK")
@@ -286,6 +300,8 @@ def near_traces(rng):
 def near_traces_of(rng, edition):
     one, two = one_record(rng, edition, 1, 0, 0, 1, 0), one_record(rng, edition, 3, 32, 32, 1, 1)
     yield trace_bytes([two, one], edition)
+    for again in ([two, two], [two, one, two, one], [one, one, one], [one, two, two, one, two]):
+        yield trace_bytes(again, edition)
     for stray in (b"\0", b"\0" * 8, b"STEP", one[:-8], one):
         yield closed(stray, [], edition)
         yield closed(stray + one, [len(stray)], edition)
@@ -304,9 +320,9 @@ def near_traces_of(rng, edition):
         yield closed(b"STEP" + struct.pack("<I", len(body) + 8) + body, [0], edition)
 
 
-def print_both(data):
+def print_all(data):
     line = judge(data)
-    print(line, "rescued", rescued(data, line))
+    print(line, "rescued", rescued(data, line), "thinned", thinned(data, line))
 
 
 def strings(path):
@@ -314,16 +330,16 @@ def strings(path):
     with open(path, "wb") as out:
         for data in near_traces(rng):
             out.write(struct.pack("<2Q", len(data), 0) + data)
-            print_both(data)
+            print_all(data)
         for data in small_traces(rng):
             out.write(struct.pack("<2Q", len(data), 1) + data)
-            print_both(data)
+            print_all(data)
             for n in range(len(data)):
-                print_both(data[:n])
-            print_both(data + b"\0")
+                print_all(data[:n])
+            print_all(data + b"\0")
             for i in range(len(data)):
                 for by in range(1, 256):
-                    print_both(data[:i] + bytes([data[i] ^ by]) + data[i + 1 :])
+                    print_all(data[:i] + bytes([data[i] ^ by]) + data[i + 1 :])
 
 
 def main(words):

@@ -23,7 +23,7 @@ static void expect(int ok, const char *what)
 static Settings by_default(uint32_t edition) { return edition == 1 ? (Settings){1.0, 0.8, 0.0001} : spindle_house_settings(1.0); }
 
 /* how many bytes stand between a record's dim2 and its exponents: edition 3 has the rule there */
-static size_t rule_bytes(uint32_t edition) { return edition < 3 ? 0 : 4; }
+static inline size_t rule_bytes(uint32_t edition) { return edition < 3 ? 0 : 4; }
 
 static const Cone cones[3] = {{1, 0, 0, SPINDLE_RULE_1, {0}}, {2, 0, 0, SPINDLE_RULE_1, {0.3}}, {3, 2, 3, SPINDLE_RULE_1, {0.25, 0.75}}};
 

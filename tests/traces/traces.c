@@ -2,7 +2,7 @@
    traces calls        records of the three kinds written and read back, every refusal, the limit of 4,096 records, and bytes that must not move
    traces play FILE    plays the rows of calls of FILE, and prints each answer and what the whole buffer then holds
    traces judge FILE   opens each byte string of FILE, where it asks for them also all truncations and all single-byte changes of it, reads the records and
-                       rescues it: a line for each
+                       rescues and thins it: a line for each
    traces measure      4,096 records of 64 numbers appended, read and rescued, with the times; and the stack of each call
    Exit status 1: something did not hold; 2: bad usage or a bad file. */
 #include <inttypes.h>
@@ -412,7 +412,7 @@ static void save(const uint8_t *bytes, size_t n)
     if (r.code == 9) {
         int left = r.kept == 0 && r.dropped == 0 && r.length == 0 && !r.right;
         for (size_t i = 0; i < sizeof output; i++) left &= output[i] == CANARY;
-        printf(" rescued 9%s\n", left ? "" : " (and something told or left)");
+        printf(" rescued 9%s", left ? "" : " (and something told or left)");
         return;
     }
     uint64_t told = 0;
@@ -421,14 +421,39 @@ static void save(const uint8_t *bytes, size_t n)
     uint8_t first = output[0] = 0x5A;
     Rescued no = spindle_rescue(bytes, n, output, r.length - 1, given);
     int refused = no.code == 8 && no.kept == 0 && no.dropped == 0 && no.length == 0 && !no.right && output[0] == first;
-    printf("%s\n", r.code == 0 && refused ? "" : " (refused, or taken without room)");
+    printf("%s", r.code == 0 && refused ? "" : " (refused, or taken without room)");
+}
+/* what a thinning reports and leaves, that a byte less of room is refused, and that it is the same within one buffer, the rest of which is cleared */
+static void drop(const uint8_t *bytes, size_t n)
+{
+    static uint8_t output[8192], place[8192];
+    memset(output, CANARY, sizeof output);
+    memcpy(place, bytes, n);
+    Thinned r = spindle_thin(bytes, n, output, sizeof output), in = spindle_thin_in_place(place, n);
+    int held = in.code == r.code && in.kept == r.kept && in.dropped == r.dropped && in.length == r.length;
+    if (r.code) {
+        held &= r.code == 9 && r.kept == 0 && r.dropped == 0 && r.length == 0 && !memcmp(place, bytes, n) && spindle_thin(bytes, n, output, 0).code == 9;
+        for (size_t i = 0; i < sizeof output; i++) held &= output[i] == CANARY;
+        printf(" thinned 9%s\n", held ? "" : " (and something told or left)");
+        return;
+    }
+    uint64_t told = 0;
+    for (uint64_t i = 0; i < r.length + 8; i++) told = more(told, output[i]);
+    printf(" thinned %" PRIu32 " %" PRIu32 " %" PRIu64 " %" PRIx64, r.kept, r.dropped, r.length, told);
+    held &= !memcmp(place, output, r.length);
+    for (size_t i = r.length; i < n; i++) held &= place[i] == 0;
+    uint8_t first = output[0] = 0x5A;
+    Thinned no = spindle_thin(bytes, n, output, r.length - 1);
+    held &= no.code == 8 && no.kept == 0 && no.dropped == 0 && no.length == 0 && output[0] == first;
+    printf("%s\n", held ? "" : " (taken without room, or not the same in place)");
 }
 
 /* A string is its length, 1 if it is to be cut and changed, too, and its bytes. */
-static void both(const uint8_t *bytes, size_t n)
+static void all(const uint8_t *bytes, size_t n)
 {
     judge(bytes, n);
     save(bytes, n);
+    drop(bytes, n);
 }
 static void judge_all(void)
 {
@@ -437,14 +462,14 @@ static void judge_all(void)
         uint64_t changed = next();
         uint8_t *b = malloc(n + 1);
         if (fread(b, 1, n, file) != n) early();
-        both(b, n);
-        for (uint64_t m = 0; changed && m < n; m++) both(b, m);
+        all(b, n);
+        for (uint64_t m = 0; changed && m < n; m++) all(b, m);
         b[n] = 0;
-        if (changed) both(b, n + 1);
+        if (changed) all(b, n + 1);
         for (uint64_t i = 0; changed && i < n; i++) {
             for (int by = 1; by < 256; by++) {
                 b[i] ^= (uint8_t)by;
-                both(b, n);
+                all(b, n);
                 b[i] ^= (uint8_t)by;
             }
         }
@@ -491,7 +516,7 @@ static void fill(void)
 
 /* ---- the stack of a call, arguments and answer included: a painted one of its own */
 
-enum { STACK = 1 << 17, CALLS = 5 };
+enum { STACK = 1 << 17, CALLS = 7 };
 static uint8_t painted[STACK] __attribute__((aligned(64)));
 static ucontext_t outside, inside;
 static int chosen;
@@ -504,10 +529,12 @@ __attribute__((noinline)) static void append_once(void) { written = append(wides
 __attribute__((noinline)) static void open_once(void) { opened = spindle_trace_open(trace, used); }
 __attribute__((noinline)) static void record_once(void) { if (spindle_trace_record(trace, used, 0).code) failures++; }
 __attribute__((noinline)) static void rescue_once(void) { if (spindle_rescue(trace, used, old, sizeof old, SPINDLE_NEWEST_EDITION).code) failures++; }
+__attribute__((noinline)) static void thin_once(void) { if (spindle_thin(trace, used, old, sizeof old).code) failures++; }
+__attribute__((noinline)) static void thin_in_place_once(void) { if (spindle_thin_in_place(trace, used).code) failures++; }
 
 static void chosen_call(void)
 {
-    static void (*const once[CALLS])(void) = {create_once, append_once, open_once, record_once, rescue_once};
+    static void (*const once[CALLS])(void) = {create_once, append_once, open_once, record_once, rescue_once, thin_once, thin_in_place_once};
     if (chosen < CALLS) once[chosen]();
 }
 static size_t stack_of(int call)
@@ -533,7 +560,8 @@ static void stacks(void)
         used = written.length;
     }
     expect(written.code == 0 && opened.code == 0 && opened.records == 1, "the measured calls");
-    printf("stack bytes of a call: create %zu, append %zu, open %zu, record %zu, rescue %zu\n", bytes[0], bytes[1], bytes[2], bytes[3], bytes[4]);
+    printf("stack bytes of a call: create %zu, append %zu, open %zu, record %zu, rescue %zu, thin %zu, thin in place %zu\n", bytes[0], bytes[1], bytes[2],
+           bytes[3], bytes[4], bytes[5], bytes[6]);
 }
 
 int main(int argc, char **argv)

@@ -90,6 +90,14 @@ pub struct Rescued {
 
 const _: () = assert!(core::mem::size_of::<Root>() == 16);
 
+#[repr(C)]
+pub struct Thinned {
+    pub code: u32,
+    pub kept: u32,
+    pub dropped: u32,
+    pub length: u64,
+}
+
 type In = *const f64;
 type Out = *mut f64;
 
@@ -147,4 +155,6 @@ extern "C" {
     pub fn spindle_trace_record(trace: *const u8, n: usize, i: u32) -> Recorded;
     pub fn spindle_replay(trace: *const u8, n: usize, at: *mut u64, nat: usize) -> Replayed;
     pub fn spindle_rescue(input: *const u8, n: usize, output: *mut u8, room: usize, edition: u32) -> Rescued;
+    pub fn spindle_thin(trace: *const u8, n: usize, output: *mut u8, room: usize) -> Thinned;
+    pub fn spindle_thin_in_place(trace: *mut u8, n: usize) -> Thinned;
 }

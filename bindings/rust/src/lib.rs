@@ -18,7 +18,8 @@
 //! A [`Plan`] searches the one step that all cones of a list can take.
 //!
 //! A [`Recorder`] makes the same searches and keeps each in a trace, bytes that a [`Trace`] reads again, and replays: every search is run
-//! once more and compared with its record. What a host that lost power left of one, [`rescue`] makes a trace again.
+//! once more and compared with its record. What a host that lost power left of one, [`rescue`] makes a trace again; [`thin`] and [`thin_in_place`] drop the
+//! records of one that are equal to an earlier one.
 //!
 //! A call that is refused changes nothing that it was lent: slices keep their contents, a record stays as it was. The numbers of a
 //! [`Refusal`] are those of the library's scope document. No call allocates, and none panics.
@@ -36,7 +37,7 @@ mod plan;
 mod trace;
 
 pub use plan::{Parts, Plan, MOST_CONES};
-pub use trace::{rescue, Recorded, Recorder, Records, Replay, Rescue, Trace, TraceBuffer, MOST_RECORDS, NEWEST_EDITION};
+pub use trace::{rescue, thin, thin_in_place, Recorded, Recorder, Records, Replay, Rescue, Thin, Trace, TraceBuffer, MOST_RECORDS, NEWEST_EDITION};
 
 /// The version of this crate, which is that of the library and its C header.
 pub const VERSION: &str = env!("CARGO_PKG_VERSION");
@@ -59,7 +60,8 @@ pub enum Refusal {
     OutOfRange,
     /// 7: the finished answer holds a NaN or an infinity.
     AnswerNotFinite,
-    /// 8: a trace has no room for what would be written, or 4,096 records already; a replay has no room for its offsets, a rescue for its trace.
+    /// 8: a trace has no room for what would be written, or 4,096 records already; a replay has no room for its offsets, a rescue or a thinning
+    /// for its trace.
     NoRoom,
     /// 9: the bytes are no trace, a record breaks a trace's layout, or an edition is not known, or has no place for a cone's rule. It comes before 8.
     BadTrace,

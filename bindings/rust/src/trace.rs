@@ -217,6 +217,57 @@ pub struct Rescue<'a> {
     pub right: bool,
 }
 
+/// Writes a trace to `output` without the records that are equal to an earlier one in all their bytes: the first of each kind, in their old order, and the
+/// edition as it was. Thinning it again drops none.
+///
+/// [`Refusal::NoRoom`] where `output` is too short; as many bytes as `trace` has are always enough. Then nothing was written; behind the new trace it is left
+/// alone.
+///
+/// ```
+/// # use spindle::{thin, Cone, Recorder, Trace};
+/// # let mut bytes = [0; 800];
+/// # let mut recorder = Recorder::create(&mut bytes)?;
+/// # let (mut dual, mut primal) = ([0.0; 3], [0.0; 3]);
+/// # let (dz, ds, z, s) = ([0.5, -2.0, 0.25], [0.25, -4.0, 0.5], [-1.0, 0.5, 1.0], [-1.0, 0.5, 1.0]);
+/// // the same search three times
+/// for _ in 0..3 {
+///     recorder.step_length(&Cone::exponential(), &dz, &ds, &z, &s, &mut dual, &mut primal, 1.0)?;
+/// }
+/// let mut output = [0; 800];
+/// let thinned = thin(recorder.trace(), &mut output)?;
+/// assert_eq!((thinned.trace.len(), thinned.dropped), (1, 2));
+/// # Ok::<(), spindle::Refusal>(())
+/// ```
+pub fn thin<'b>(trace: Trace<'_>, output: &'b mut [u8]) -> Result<Thin<'b>, Refusal> {
+    let bytes = trace.bytes();
+    let out = unsafe { face::spindle_thin(bytes.as_ptr(), bytes.len(), output.as_mut_ptr(), output.len()) };
+    thinned(out, output)
+}
+
+/// Thins a trace inside its buffer, as [`thin`] does into another one: the new trace stands at the front, and all bytes behind it are zero.
+///
+/// [`Refusal::BadTrace`] where `bytes` are no trace. Then they are as they were.
+pub fn thin_in_place(bytes: &mut [u8]) -> Result<Thin<'_>, Refusal> {
+    let out = unsafe { face::spindle_thin_in_place(bytes.as_mut_ptr(), bytes.len()) };
+    thinned(out, bytes)
+}
+
+fn thinned(out: face::Thinned, bytes: &mut [u8]) -> Result<Thin<'_>, Refusal> {
+    Refusal::check(out.code)?;
+    let bytes: &[u8] = bytes;
+    let trace = Trace::open(bytes.get(..out.length as usize).unwrap_or(bytes))?;
+    Ok(Thin { trace, dropped: out.dropped as usize })
+}
+
+/// What [`thin`] or [`thin_in_place`] made: the new trace, whose records are those that were kept.
+#[derive(Clone, Copy, Debug)]
+pub struct Thin<'a> {
+    /// The new trace.
+    pub trace: Trace<'a>,
+    /// How many records of the old one are not in it.
+    pub dropped: usize,
+}
+
 /// A record of a trace: what a step search was given, and what it answered. Numbers that a search would refuse may stand in it.
 #[derive(Clone, Copy)]
 #[repr(C)]

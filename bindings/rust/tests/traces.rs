@@ -1,5 +1,5 @@
 //! Traces: what a recorder searched is what a trace reads, for every kind and both ways to give settings; every refusal, and bytes that stay.
-use spindle::{rescue, Cone, Found, Recorded, Recorder, Refusal, Rule, Settings, Trace, TraceBuffer, MOST_RECORDS, NEWEST_EDITION};
+use spindle::{rescue, thin, thin_in_place, Cone, Found, Recorded, Recorder, Refusal, Rule, Settings, Trace, TraceBuffer, MOST_RECORDS, NEWEST_EDITION};
 
 /// A cone with directions and points for a search.
 struct Search {
@@ -446,4 +446,54 @@ fn a_rescue_needs_room_and_an_edition() {
     broken.splice(end - 30..end, []);
     let mut output = vec![7; 4000];
     assert_eq!(rescue(&broken, &mut output, NEWEST_EDITION).unwrap().trace.edition(), 1);
+}
+
+/// The six records of a trace, again in this order.
+fn again<'b>(bytes: &[u8], order: &[usize], buffer: &'b mut [u8]) -> TraceBuffer<'b> {
+    let trace = Trace::open(bytes).unwrap();
+    let mut to = TraceBuffer::create(buffer).unwrap();
+    for &i in order {
+        to.append(&trace.get(i).unwrap()).unwrap();
+    }
+    to
+}
+
+#[test]
+fn equal_records_are_dropped_and_the_first_stay_in_their_order() {
+    let bytes = bytes_of_all();
+    let (mut buffer, mut other) = (vec![0; 8000], vec![0; 8000]);
+    let many = again(&bytes, &[3, 0, 3, 5, 0, 0, 1, 5, 3], &mut buffer);
+    let few = again(&bytes, &[3, 0, 5, 1], &mut other);
+    let mut output = vec![7; few.bytes().len() + 2];
+    let thinned = thin(many.trace(), &mut output).unwrap();
+    assert_eq!((thinned.trace.bytes(), thinned.trace.len(), thinned.dropped), (few.bytes(), 4, 5));
+    assert_eq!(output[few.bytes().len()..], [7, 7]);
+    // thinning the result again drops none
+    let mut once_more = vec![7; few.bytes().len()];
+    let thinned = thin(few.trace(), &mut once_more).unwrap();
+    assert_eq!((thinned.trace.bytes(), thinned.dropped), (few.bytes(), 0));
+    // inside one buffer, whose freed bytes are cleared
+    let mut place = many.bytes().to_vec();
+    let thinned = thin_in_place(&mut place).unwrap();
+    assert_eq!((thinned.trace.bytes(), thinned.trace.len(), thinned.dropped), (few.bytes(), 4, 5));
+    assert!(place[few.bytes().len()..].iter().all(|&byte| byte == 0));
+}
+
+#[test]
+fn a_thinning_needs_room_or_a_trace() {
+    let bytes = bytes_of_all();
+    let mut output = vec![7; bytes.len() - 1];
+    assert_eq!(thin(Trace::open(&bytes).unwrap(), &mut output).map(|t| t.dropped), Err(Refusal::NoRoom));
+    assert!(output.iter().all(|&byte| byte == 7));
+    let mut broken = bytes[..bytes.len() - 1].to_vec();
+    assert_eq!(thin_in_place(&mut broken).map(|t| t.dropped), Err(Refusal::BadTrace));
+    assert_eq!(broken, bytes[..bytes.len() - 1]);
+    assert_eq!(thin_in_place(&mut []).map(|t| t.dropped), Err(Refusal::BadTrace));
+    // an edition stays as it was
+    for edition in 1..=3u8 {
+        let mut old = vec![0; 4000];
+        let used = empty(&mut old, edition);
+        let thinned = thin_in_place(&mut old[..used]).unwrap();
+        assert_eq!((thinned.trace.edition(), thinned.trace.is_empty(), thinned.dropped), (u32::from(edition), true, 0));
+    }
 }

@@ -15,6 +15,8 @@ use Rattle.trace_entries.proofs.Agree.{left}
 use Rattle.replayed.proofs.Agree.{noted-alike}
 use Rattle.rescued.proofs.Agree.{saved-alike}
 use Rattle.thinned.proofs.Agree.{left-alike}
+use Rattle.sheet_rows.proofs.Agree.{held-alike}
+use Rattle.sheet_text.proofs.Agree.{told-alike}
 use Rattle.spindle.proofs.spindle_sqrt.Reads as sqrt
 use Rattle.spindle.proofs.spindle_log.Reads as log
 use Rattle.spindle.proofs.spindle_exp.Reads as exp
@@ -49,6 +51,9 @@ use Rattle.spindle.proofs.spindle_replay.Reads as replay
 use Rattle.spindle.proofs.spindle_rescue.Reads as rescue
 use Rattle.spindle.proofs.spindle_thin.Reads as thin
 use Rattle.spindle.proofs.spindle_thin_in_place.Reads as thin-in-place
+use Rattle.spindle.proofs.spindle_sheet_add.Reads as sheet-add
+use Rattle.spindle.proofs.spindle_sheet_join.Reads as sheet-join
+use Rattle.spindle.proofs.spindle_sheet_text.Reads as sheet-text
 
 pub sqrt-agrees : OneAnswer sqrt.Post
 sqrt-agrees κs a x y s t p q = p ∙ sym q
@@ -153,3 +158,12 @@ thin-agrees κs a x y s t p q = left-alike (p ∙ sym q)
 
 pub thin-in-place-agrees : OneOutcome thin-in-place.Post {A = List ℕ} (λ κs s. now (s .0))
 thin-in-place-agrees κs a x y s t p q = left-alike (p ∙ sym q)
+
+pub sheet-add-agrees : OneOutcome sheet-add.Post {A = List ℕ × List ℕ × List ℕ} (λ κs s. (now (s .1 .0), now (s .1 .1 .0), now (s .1 .1 .1 .0)))
+sheet-add-agrees κs a x y s t p q = held-alike (p ∙ sym q)
+
+pub sheet-join-agrees : OneOutcome sheet-join.Post {A = List ℕ × List ℕ × List ℕ} (λ κs s. (now (s .1 .0), now (s .1 .1 .0), now (s .1 .1 .1 .0)))
+sheet-join-agrees κs a x y s t p q = held-alike (p ∙ sym q)
+
+pub sheet-text-agrees : OneOutcome sheet-text.Post {A = List ℕ} (λ κs s. now (s .0))
+sheet-text-agrees κs a x y s t p q = told-alike (p ∙ sym q)

@@ -17,6 +17,8 @@ ghost use Rattle.recorded.specs.Recorded.{recordedIn};
 ghost use Rattle.replayed.specs.Replay.{Noted, replayOf};
 ghost use Rattle.rescued.specs.Rescue.{rescueOf};
 ghost use Rattle.thinned.specs.Thin.{thinOf, thinInPlaceOf};
+ghost use Rattle.sheet_rows.specs.Rows.{joinOf, addOf};
+ghost use Rattle.sheet_text.specs.Printed.{printOf};
 use cone::Cone;
 use cone::DualGrad;
 use cone::Found;
@@ -30,6 +32,8 @@ use cone::YesNo;
 use recorded::Recorded;
 use replayed::Replayed;
 use rescued::Rescued;
+use sheet_rows::Totals;
+use sheet_text::Printed;
 use table_root::Root;
 use thinned::Thinned;
 use trace_entries::Opened;
@@ -379,4 +383,63 @@ pub extern "C" fn spindle_thin_in_place(trace: &mut [u8]) -> Thinned
     ensures { λ r. ⌜ record { answer = r; output = now (trace .exit) } ≡ thinInPlaceOf (now (trace .entry)) ⌝ }
 {
     thinned::thin_in_place(trace)
+}
+
+// ---- 02, Order 14: a sheet in lent rows
+
+#[no_mangle]
+pub extern "C" fn spindle_sheet_add(
+    sheet: Totals,
+    dual: &mut [u64],
+    primal: &mut [u64],
+    skipped: &mut [u8],
+    file: &[u8],
+) -> Totals
+    ensures { λ r. ⌜ record { totals = r; dual = now (dual .exit); primal = now (primal .exit); skipped = now (skipped .exit) }
+        ≡ addOf (record { totals = sheet; dual = now (dual .entry); primal = now (primal .entry); skipped = now (skipped .entry) })
+        (now (file .entry)) ⌝ }
+{
+    sheet_rows::add(sheet, dual, primal, skipped, file)
+}
+
+#[no_mangle]
+pub extern "C" fn spindle_sheet_join(
+    sheet: Totals,
+    dual: &mut [u64],
+    primal: &mut [u64],
+    skipped: &mut [u8],
+    second: Totals,
+    dual2: &[u64],
+    primal2: &[u64],
+    skipped2: &[u8],
+) -> Totals
+    ensures { λ r. ⌜ record { totals = r; dual = now (dual .exit); primal = now (primal .exit); skipped = now (skipped .exit) }
+        ≡ joinOf (record { totals = sheet; dual = now (dual .entry); primal = now (primal .entry); skipped = now (skipped .entry) })
+        (record { totals = second; dual = now (dual2 .entry); primal = now (primal2 .entry); skipped = now (skipped2 .entry) }) ⌝ }
+{
+    sheet_rows::join(
+        sheet,
+        dual,
+        primal,
+        skipped,
+        second,
+        dual2,
+        primal2,
+        skipped2,
+    )
+}
+
+#[no_mangle]
+pub extern "C" fn spindle_sheet_text(
+    text: &mut [u8],
+    sheet: Totals,
+    dual: &[u64],
+    primal: &[u64],
+    skipped: &[u8],
+) -> Printed
+    ensures { λ r. ⌜ record { answer = r; text = now (text .exit) }
+        ≡ printOf (now (text .entry))
+        (record { totals = sheet; dual = now (dual .entry); primal = now (primal .entry); skipped = now (skipped .entry) }) ⌝ }
+{
+    sheet_text::put_sheet(text, sheet, dual, primal, skipped)
 }

@@ -1,0 +1,129 @@
+// sheet FILE ..: the monthly sheet of traces, files numbered from 1 as given. 02, Order 14. It reads, calls and writes; what it prints is `sheetText` of the crate
+// sheet_text of `sheetOf` of the crate sheet_counts. A file that cannot be read is said in one line, and then no sheet is printed. Where there are many files, a line on
+// standard error tells how far it is. One file at a time, the rows and the text lie on the stack.
+ghost use mathlib.Core.Path.{_≡_};
+ghost use lib.ListN.{length};
+use libc::STDERR_FILENO;
+use libc::STDOUT_FILENO;
+use sheet_counts::Largest;
+use sheet_rows::Totals;
+use sheet_rows::add;
+use sheet_text::put_sheet;
+use trace_file::read_argument;
+use words::front;
+
+// 02, Order 14: "At most 1,000 files"
+const MOST_FILES: usize = 1000;
+
+// After so many files it tells how far it is.
+const MANY: usize = 100;
+
+// One byte more than a file may have, so that a larger one shows. The `ensures` gives the length alone, which lending the array needs.
+fn file_room() -> [u8; 65537]
+    ensures { λ r. ⌜ length r ≡ 65537 ⌝ }
+{
+    [0; 65537]
+}
+
+fn count_room() -> [u64; 2048]
+    ensures { λ r. ⌜ length r ≡ 2048 ⌝ }
+{
+    [0; 2048]
+}
+
+fn flag_room() -> [u8; 1000]
+    ensures { λ r. ⌜ length r ≡ 1000 ⌝ }
+{
+    [0; 1000]
+}
+
+// Room for every text.
+fn text_room() -> [u8; 326464]
+    ensures { λ r. ⌜ length r ≡ 326464 ⌝ }
+{
+    [0; 326464]
+}
+
+// The sheet of no files.
+fn nothing() -> Totals {
+    let none = Largest {
+        size: 0,
+        file: 0,
+        at: 0,
+    };
+    Totals {
+        code: 0,
+        files: 0,
+        records: 0,
+        dual: none,
+        primal: none,
+    }
+}
+
+// How far it is, where files are many and some are left.
+fn tell(done: usize, files: usize) {
+    if done % MANY == 0 && done < files {
+        io::write_all(STDERR_FILENO, b"sheet: ");
+        io::print_decimal(STDERR_FILENO, done as u64);
+        io::write_all(STDERR_FILENO, b" of ");
+        io::print_decimal(STDERR_FILENO, files as u64);
+        io::write_all(STDERR_FILENO, b" files\n");
+    }
+}
+
+// What was counted, and whether every file was read.
+struct Counted {
+    done: bool,
+    totals: Totals,
+}
+
+// The files one after the other, each into the same room.
+fn count_files(
+    files: usize,
+    file: &mut [u8],
+    dual: &mut [u64],
+    primal: &mut [u64],
+    skipped: &mut [u8],
+) -> Counted {
+    let mut totals = nothing();
+    for i in 0..files {
+        let got = read_argument(i + 1, b"FILE", file);
+        if !got.done {
+            return Counted {
+                done: false,
+                totals,
+            };
+        }
+        totals = add(totals, dual, primal, skipped, front(file, got.count));
+        tell(i + 1, files);
+    }
+    Counted { done: true, totals }
+}
+
+fn print(sheet: Totals, dual: &[u64], primal: &[u64], skipped: &[u8]) {
+    let mut text = text_room();
+    let printed = put_sheet(&mut text, sheet, dual, primal, skipped);
+    io::write_all(STDOUT_FILENO, front(&text, printed.length as usize));
+}
+
+fn main() {
+    let count = os::arg_count();
+    if count < 2 {
+        io::write_all(STDERR_FILENO, b"usage: sheet FILE ..\n");
+        return;
+    }
+    let files = count - 1;
+    if MOST_FILES < files {
+        io::write_all(STDERR_FILENO, b"sheet: at most 1,000 files\n");
+        return;
+    }
+    let mut file = file_room();
+    let mut dual = count_room();
+    let mut primal = count_room();
+    let mut skipped = flag_room();
+    let counted = count_files(files, &mut file, &mut dual, &mut primal, &mut skipped);
+    let sheet = counted.totals;
+    if counted.done {
+        print(sheet, &dual, &primal, &skipped);
+    }
+}

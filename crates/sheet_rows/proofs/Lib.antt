@@ -1,0 +1,5 @@
+-- Sums of rows that have room (Summing), what adding two sheets leaves (Joining), files added one by one (Sums), and that any two outcomes agree (Agree).
+pub mod Summing
+pub mod Joining
+pub mod Sums
+pub mod Agree

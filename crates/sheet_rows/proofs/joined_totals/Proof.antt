@@ -1,0 +1,46 @@
+-- `joined_totals` meets its contract: no sum is too large, and the calls are the definition's. Assumes nothing.
+use mathlib.Core.Path.{_≡_, ap, _∙_}
+use Prim.Native.Nat.{ℕ}
+use native.Mathlib.Omega.{arith}
+use borrow.Author.Needs.{needs}
+use Rattle.sheet_counts.specs.declared.Largest.{Largest}
+use Rattle.sheet_counts.specs.Counts.{largerOf}
+use Rattle.sheet_rows.specs.declared.Totals.{Totals}
+use Rattle.sheet_rows.specs.Added.{joinedTotals}
+use Rattle.sheet_rows.proofs.joined_totals.Statement.{statement}
+use Rattle.sheet_rows.proofs.joined_totals.Tie as tie
+
+-- the places of the code: the primal and the dual largest, and the start
+abbrev primal-told : tie.After-struct-known3 → tie.After-larger-of2
+primal-told c = c .before .before .before
+
+abbrev dual-told : tie.After-larger-of2 → tie.After-larger-of
+dual-told c = c .before .before
+
+abbrev started : tie.After-larger-of → tie.Start
+started c = c .before .before .before .before .before .before
+
+with-largest : {f r : ℕ} {d e p q : Largest} → d ≡ e → p ≡ q → _≡_ {A = Totals}
+    (record { code = 0; files = f; records = r; dual = d; primal = p })
+    (record { code = 0; files = f; records = r; dual = e; primal = q })
+with-largest h k = rw (h, k)
+
+add-records : tie.Need-add-t12
+add-records c = omega (arith, started (dual-told (primal-told c)) .pre .records)
+
+returns : tie.Need-returns
+unfolding joinedTotals
+returns c =
+    let q = primal-told c in
+    let p = dual-told q in
+    let a = started p .args in
+    with-largest (p .larger-of .ensures ∙ ap (largerOf (a .sheet .dual)) (p .before .moved-up .ensures))
+    (q .larger-of2 .ensures ∙ ap (largerOf (a .sheet .primal)) (q .before .moved-up2 .ensures))
+
+pub joined-totals-spec : {M : Type 1} → statement M
+joined-totals-spec =
+    tie.close
+    (tie.spec
+    (λ c κs. search needs) (λ c κs. search needs) (λ c κs. search needs) (λ c κs. search needs) (λ c. search needs)
+    add-records
+    returns)

@@ -1,0 +1,76 @@
+-- `one_file` meets its contract: a file above the limit or a broken one leaves the rows as they were, which are fresh; of another both sides are counted.
+-- Assumes nothing.
+use mathlib.Core.Path.{_≡_, ap, _∙_}
+use mathlib.Core.Bool.{true, false}
+use mathlib.Core.List.{List}
+use Prim.Native.Nat.{ℕ}
+use native.Mathlib.Omega.{arith}
+use denote.Ref.{now}
+use borrow.Author.Needs.{needs}
+use Rattle.words.specs.Words.{AllBelow}
+use Rattle.words.proofs.Words.{below-of-places}
+use Rattle.trace.specs.declared.Opened.{Opened}
+use Rattle.sheet_counts.specs.Counts.{countsOf}
+use Rattle.sheet_trace.proofs.Parts.{too-large, broken, no-part, no-counts, entries-are, whole-part}
+use Rattle.sheet_trace.proofs.one_file.Statement.{statement}
+use Rattle.sheet_trace.proofs.one_file.Tie as tie
+
+-- the places of the code: the file that is not too large, and the call's own
+abbrev given : tie.Else1 → tie.Start
+given c = c .before .before .before .before
+
+returns : tie.Need-returns
+returns c =
+    let s = c .before .before .before .before .before in
+    let skipped = too-large (now (s .args .bytes)) (c .before .if1 .taken) in (
+      c .nothing .ensures ∙ no-part (now (s .args .bytes)) skipped,
+      no-counts (now (s .args .bytes)) skipped false (now (s .args .dual)) (s .pre .0),
+      no-counts (now (s .args .bytes)) skipped true (now (s .args .primal)) (s .pre .1),
+    )
+
+returns-2 : tie.Need-returns-2
+returns-2 c =
+    let s = given (c .before .before .before .before) in
+    let is = c .before .before .before .«open» .ensures in
+    let skipped =
+    broken (now (s .args .bytes)) (λ on. c .before .if2 .taken (ap (λ (x : Opened). x .code) is ∙ on)) in (
+      c .nothing2 .ensures ∙ no-part (now (s .args .bytes)) skipped,
+      no-counts (now (s .args .bytes)) skipped false (now (s .args .dual)) (s .pre .0),
+      no-counts (now (s .args .bytes)) skipped true (now (s .args .primal)) (s .pre .1),
+    )
+
+-- a good trace
+abbrev dual-counted : tie.After-primal-largest → tie.After-tally-side
+dual-counted c = c .before .before .before .before .before .before .before .before
+
+abbrev opening : tie.After-tally-side → tie.After-open
+opening c = c .before .before .before .before
+
+returns-3 : tie.Need-returns-3
+returns-3 c =
+    let d = dual-counted c in
+    let q = c .before .before .before .before in
+    let o = opening d in
+    let s = given (o .before) in
+    let bs = now (s .args .bytes) in
+    let bytes : AllBelow 256 bs = below-of-places 256 bs (λ i h. omega (arith, o .before .before .before .before .shared-slice-known .given i)) in
+    let few = o .before .if1 .left in
+    let on = d .before .before .if2 .left in
+    let is = o .«open» .ensures in
+    let same = entries-are bs bytes few (o .«open» .result) is on in (
+      whole-part bs bytes few (o .«open» .result) is on (d .tally-side .result) (q .tally-side2 .result)
+          (d .tally-side .ensures .0) (q .tally-side2 .ensures .0),
+      d .tally-side .ensures .1 ∙ ap countsOf (same false),
+      q .tally-side2 .ensures .1 ∙ ap countsOf (same true),
+    )
+
+pub one-file-spec : {M : Type 1} → statement M
+one-file-spec =
+    tie.close
+    (tie.spec
+    (λ c κs. search needs)
+    returns
+    (λ c κs. search needs) (λ c κs. search needs)
+    returns-2
+    (λ c κs. search needs) (λ c κs. search needs) (λ c. search needs) (λ c. search needs)
+    returns-3)

@@ -3,7 +3,7 @@
 #
 #   sh build.sh                   all of that
 #   sh build.sh --archive         the archive alone; where it is fresh, nothing
-#   sh build.sh --programs        the programs over traces alone, each proved, as target/bin/NAME: replay, rescue, thin
+#   sh build.sh --programs        the programs over traces alone, each proved, as target/bin/NAME: replay, rescue, thin, sheet
 #   sh build.sh --fresh           builds nothing: status 0 if the archive is there and fresh, 1 if it is not
 #   sh build.sh --install PREFIX  the header, the archive, spindle.pc for pkg-config, the programs and the licence, below the folder PREFIX
 #   sh build.sh --help            this text
@@ -15,7 +15,7 @@ from=$PWD
 cd "$(dirname "$0")"
 
 # The programs that are installed beside the library: crates with a main, built as target/bin/NAME.
-programs='replay rescue thin'
+programs='replay rescue thin sheet'
 
 die() { echo "build: $*" >&2; exit 1; }
 usage() { echo "build: $* (try sh build.sh --help)" >&2; exit 2; }

@@ -1,7 +1,9 @@
-/* The calls on traces a second time, in C, from the words of document 02's Orders 1, 2, 7, 8, 9 and 13 alone: tests/traces holds the library to it, and the Rust crate can be
+/* The calls on traces a second time, in C, from the words of document 02's Orders 1, 2, 7, 8, 9, 13 and 14 alone: tests/traces holds the library to it, and the Rust crate can be
    tested over it and standin.c on any machine (tools/rust-tests --standin). It shares nothing with the library but spindle.h. It goes the slow way: it reads
    every number of every record, one behind the other, and lays a new record out beside the trace before it asks for its length. */
 #include "spindle.h"
+#include <inttypes.h>
+#include <stdio.h>
 #include <string.h>
 
 #define MOST 4096     /* "At most 4,096 records" */
@@ -350,4 +352,92 @@ Thinned spindle_thin_in_place(uint8_t *trace, size_t n)
     Thinned r = written_down(trace, trace, &t);
     memset(trace + r.length, 0, n - r.length);
     return r;
+}
+
+/* ---- Order 14: the sheet, by spindle_trace_open and spindle_trace_record, and exponents by halving and doubling */
+
+static int place_of(double step)
+{
+    int e = 0;
+    if (step == 0) return 0;
+    if (step < 0x1p-1022) return 1;
+    for (; step >= 2; e++) step /= 2;
+    for (; step < 1; e--) step *= 2;
+    return e + 1024;
+}
+static void larger(Largest *kept, uint64_t tests, uint64_t file, uint64_t at)
+{
+    if (tests + 1 > kept->size) *kept = (Largest){ tests + 1, file, at }; /* "the first record that has it" */
+}
+static bool rows_fit(const Totals *t, size_t nd, size_t np, size_t ns)
+{
+    return nd == SPINDLE_SHEET_PLACES && np == SPINDLE_SHEET_PLACES && t->files <= ns;
+}
+
+Totals spindle_sheet_join(Totals sheet, uint64_t *dual, size_t nd, uint64_t *primal, size_t np, uint8_t *skipped, size_t ns,
+                          Totals second, const uint64_t *dual2, size_t nd2, const uint64_t *primal2, size_t np2, const uint8_t *skipped2, size_t ns2)
+{
+    static const Totals refused_2 = { .code = 2 }, refused_8 = { .code = 8 }, refused_9 = { .code = 9 };
+    if (!rows_fit(&sheet, nd, np, ns) || !rows_fit(&second, nd2, np2, ns2)) return refused_2;
+    if (second.dual.file > second.files || second.primal.file > second.files) return refused_9;
+    uint64_t files = (uint64_t)sheet.files + second.files;
+    if (files > SPINDLE_SHEET_FILES || files > ns || sheet.records + second.records < sheet.records) return refused_8;
+    for (size_t k = 0; k < nd; k++)
+        if (dual[k] + dual2[k] < dual[k] || primal[k] + primal2[k] < primal[k]) return refused_8;
+    for (size_t k = 0; k < nd; k++) {
+        dual[k] += dual2[k];
+        primal[k] += primal2[k];
+    }
+    memcpy(skipped + sheet.files, skipped2, second.files);
+    Totals t = { 0, (uint32_t)files, sheet.records + second.records, sheet.dual, sheet.primal };
+    if (second.dual.size) larger(&t.dual, second.dual.size - 1, second.dual.file + sheet.files, second.dual.at);
+    if (second.primal.size) larger(&t.primal, second.primal.size - 1, second.primal.file + sheet.files, second.primal.at);
+    return t;
+}
+
+Totals spindle_sheet_add(Totals sheet, uint64_t *dual, size_t nd, uint64_t *primal, size_t np, uint8_t *skipped, size_t ns, const uint8_t *file, size_t n)
+{
+    static uint64_t duals[SPINDLE_SHEET_PLACES], primals[SPINDLE_SHEET_PLACES];
+    memset(duals, 0, sizeof duals);
+    memset(primals, 0, sizeof primals);
+    Opened o = spindle_trace_open(file, n);
+    uint8_t flag = o.code != 0 || n > 65536;
+    Totals one = { .files = 1, .records = flag ? 0 : o.records };
+    for (uint32_t i = 0; i < one.records; i++) {
+        Recorded r = spindle_trace_record(file, n, i);
+        duals[place_of(r.steps.dual_step)]++;
+        primals[place_of(r.steps.primal_step)]++;
+        larger(&one.dual, r.steps.dual_count, 1, r.at);
+        larger(&one.primal, r.steps.primal_count, 1, r.at);
+    }
+    return spindle_sheet_join(sheet, dual, nd, primal, np, skipped, ns, one, duals, SPINDLE_SHEET_PLACES, primals, SPINDLE_SHEET_PLACES, &flag, 1);
+}
+
+static size_t side_lines(char *to, const char *name, uint64_t records, const uint64_t *row, Largest most)
+{
+    char *at = to;
+    at += sprintf(at, "%s records %" PRIu64 "\n%s zero %" PRIu64 "\n", name, records, name, row[0]);
+    for (int k = SPINDLE_SHEET_PLACES - 1; k > 1; k--)
+        if (row[k]) at += sprintf(at, "%s exp %d %" PRIu64 "\n", name, k - 1024, row[k]);
+    at += sprintf(at, "%s subnormal %" PRIu64 "\n", name, row[1]);
+    if (most.size) at += sprintf(at, "%s most %" PRIu64 " file %" PRIu64 " at %" PRIu64 "\n", name, most.size - 1, most.file, most.at);
+    return (size_t)(at - to);
+}
+
+Printed spindle_sheet_text(uint8_t *text, size_t room, Totals sheet, const uint64_t *dual, size_t nd, const uint64_t *primal, size_t np,
+                           const uint8_t *skipped, size_t ns)
+{
+    static const Printed refused_2 = { 2, 0 }, refused_8 = { 8, 0 }, refused_9 = { 9, 0 };
+    static char lines[SPINDLE_SHEET_TEXT];
+    if (!rows_fit(&sheet, nd, np, ns)) return refused_2;
+    if (sheet.files > SPINDLE_SHEET_FILES) return refused_9;
+    if (room < SPINDLE_SHEET_TEXT) return refused_8;
+    size_t n = 0;
+    for (uint32_t i = 0; i < sheet.files; i++)
+        if (skipped[i]) n += (size_t)sprintf(lines + n, "skipped file %" PRIu32 "\n", i + 1);
+    n += side_lines(lines + n, "dual", sheet.records, dual, sheet.dual);
+    n += side_lines(lines + n, "primal", sheet.records, primal, sheet.primal);
+    memcpy(text, lines, n);
+    Printed p = { 0, n };
+    return p;
 }

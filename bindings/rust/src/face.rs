@@ -98,6 +98,30 @@ pub struct Thinned {
     pub length: u64,
 }
 
+#[derive(Clone, Copy)]
+#[repr(C)]
+pub struct Largest {
+    pub size: u64,
+    pub file: u64,
+    pub at: u64,
+}
+
+#[derive(Clone, Copy)]
+#[repr(C)]
+pub struct Totals {
+    pub code: u32,
+    pub files: u32,
+    pub records: u64,
+    pub dual: Largest,
+    pub primal: Largest,
+}
+
+#[repr(C)]
+pub struct Printed {
+    pub code: u32,
+    pub length: u64,
+}
+
 type In = *const f64;
 type Out = *mut f64;
 
@@ -157,4 +181,14 @@ extern "C" {
     pub fn spindle_rescue(input: *const u8, n: usize, output: *mut u8, room: usize, edition: u32) -> Rescued;
     pub fn spindle_thin(trace: *const u8, n: usize, output: *mut u8, room: usize) -> Thinned;
     pub fn spindle_thin_in_place(trace: *mut u8, n: usize) -> Thinned;
+    pub fn spindle_sheet_add(
+        sheet: Totals, dual: *mut u64, nd: usize, primal: *mut u64, np: usize, skipped: *mut u8, ns: usize, file: *const u8, n: usize,
+    ) -> Totals;
+    pub fn spindle_sheet_join(
+        sheet: Totals, dual: *mut u64, nd: usize, primal: *mut u64, np: usize, skipped: *mut u8, ns: usize, second: Totals, dual2: *const u64,
+        nd2: usize, primal2: *const u64, np2: usize, skipped2: *const u8, ns2: usize,
+    ) -> Totals;
+    pub fn spindle_sheet_text(
+        text: *mut u8, room: usize, sheet: Totals, dual: *const u64, nd: usize, primal: *const u64, np: usize, skipped: *const u8, ns: usize,
+    ) -> Printed;
 }

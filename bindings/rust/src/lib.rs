@@ -19,7 +19,7 @@
 //!
 //! A [`Recorder`] makes the same searches and keeps each in a trace, bytes that a [`Trace`] reads again, and replays: every search is run
 //! once more and compared with its record. What a host that lost power left of one, [`rescue`] makes a trace again; [`thin`] and [`thin_in_place`] drop the
-//! records of one that are equal to an earlier one.
+//! records of one that are equal to an earlier one. A [`Sheet`] counts over many of them.
 //!
 //! A call that is refused changes nothing that it was lent: slices keep their contents, a record stays as it was. The numbers of a
 //! [`Refusal`] are those of the library's scope document. No call allocates, and none panics.
@@ -34,9 +34,11 @@
 
 mod face;
 mod plan;
+mod sheet;
 mod trace;
 
 pub use plan::{Parts, Plan, MOST_CONES};
+pub use sheet::{Most, Sheet, Side, MOST_FILES, SHEET_TEXT};
 pub use trace::{rescue, thin, thin_in_place, Recorded, Recorder, Records, Replay, Rescue, Thin, Trace, TraceBuffer, MOST_RECORDS, NEWEST_EDITION};
 
 /// The version of this crate, which is that of the library and its C header.
@@ -61,7 +63,7 @@ pub enum Refusal {
     /// 7: the finished answer holds a NaN or an infinity.
     AnswerNotFinite,
     /// 8: a trace has no room for what would be written, or 4,096 records already; a replay has no room for its offsets, a rescue or a thinning
-    /// for its trace.
+    /// for its trace, a sheet for another file.
     NoRoom,
     /// 9: the bytes are no trace, a record breaks a trace's layout, or an edition is not known, or has no place for a cone's rule. It comes before 8.
     BadTrace,

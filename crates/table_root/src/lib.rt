@@ -2,7 +2,7 @@
 // every bit on all 2^64 inputs."
 //
 // The table gives 1 over the root of m / 2^52 to seven bits, and one of Newton's steps for it makes them fourteen; it is never above. Times m it is a
-// first root, never above either. Each correction step adds the rest, times that number, halved: the rest falls by 2^14 and stays above zero, so that
+// first root, never above either. Each correction step adds the rest, times that number, halved: the rest falls by 2^14 and is never below zero, so that
 // no number here has a sign and none is above 64 bits.
 ghost use mathlib.Core.Path.{_≡_};
 ghost use Prim.Native.Nat.{_*_, _^_, _<_, _≤_};
@@ -98,7 +98,7 @@ fn root_of(n: Normal) -> Root
     }
 }
 
-// The square root, for every double, and its correction steps: none where the answer is x itself or NaN.
+// The square root, for every double, and its correction steps: none at a zero, at +infinity, and where the answer is NaN.
 pub fn sqrt(x: f64) -> Root
     ensures { λ r. ⌜ r ≡ tableSqrtOf x ⌝ }
 {

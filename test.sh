@@ -57,6 +57,7 @@ outside() {
 
     say "the exponential cone's answers against the exact points (a short run of tests/certain/run)"
     tests/certain/run --short
+    tests/certain/run --wrong
 
     say "traces written and read, against two other readings of their layout (tests/traces/run)"
     tests/traces/run

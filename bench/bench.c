@@ -638,9 +638,13 @@ static Plan *stack_plan;
 static Scaling *stack_records;
 static Outputs stack_out;
 
+/* ENTRIES is the common step of the plan's one cone, which no round of the plan calls */
 static void one_call(void)
 {
-    if (stack_entry >= 0) port_entry(stack_records, stack_entry, &stack_plan->in, &stack_out);
+    static double point[64];
+    size_t n = stack_plan->at[1];
+    if (stack_entry == ENTRIES) spindle_common_step(stack_plan->cone, 1, true, stack_plan->unit, n, stack_plan->unit, n, point, n, stack_plan->in.settings);
+    else if (stack_entry >= 0) port_entry(stack_records, stack_entry, &stack_plan->in, &stack_out);
 }
 
 static size_t stack_of(int entry)
@@ -664,7 +668,7 @@ static void stacks(void)
            sizeof(Scaling), sizeof(Updated), sizeof(DualGrad), sizeof(Steps), sizeof(Found));
     printf("\nStack bytes of a call, with its arguments and its answer    3 numbers   64 numbers\n");
     Cone cones[2] = { power(0.5), generalized(32, 32) };
-    size_t bytes[2][ENTRIES];
+    size_t bytes[2][ENTRIES + 1];
     for (int c = 0; c < 2; c++) {
         Plan p = planned(&cones[c], 1);
         moved(&p);
@@ -672,10 +676,10 @@ static void stacks(void)
         stack_records = fresh_records(&p);
         stack_out = made_outputs(&p);
         size_t empty = stack_of(-1);
-        for (int entry = 0; entry < ENTRIES; entry++) bytes[c][entry] = stack_of(entry) - empty;
+        for (int entry = 0; entry <= ENTRIES; entry++) bytes[c][entry] = stack_of(entry) - empty;
     }
-    for (int entry = 0; entry < ENTRIES; entry++) {
-        printf("  %-46s", entry_names[entry]);
+    for (int entry = 0; entry <= ENTRIES; entry++) {
+        printf("  %-46s", entry < ENTRIES ? entry_names[entry] : "common_step");
         for (int c = 0; c < 2; c++) {
             int width = c ? 13 : 21;
             if (entry == (c ? SHIFT : GRADIENT)) printf("%*s", width, "-");

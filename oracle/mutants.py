@@ -91,6 +91,7 @@ def wrong_traces(work, only):
     if not listed:
         stop(f"no wrong port of traces has '{only}' in its name")
     tests = os.path.join(root, "tests/traces")
+    programs = ("traces", "replay", "rescue", "thin", "sheet")
     told = {}
 
     def run(*command):
@@ -102,10 +103,26 @@ def wrong_traces(work, only):
             told[what] = run("python3", os.path.join(tests, "layout.py"), what, os.path.join(work, what)).stdout
         return told[what]
 
+    def rows_of_files():
+        """The rows of files of the sheet's test, each with the text that sheet.py says."""
+        if "sheet" not in told:
+            folder = os.path.join(work, "rows-of-files")
+            run("python3", os.path.join(tests, "sheet.py"), "cases", folder)
+            told["sheet"] = []
+            for name in sorted(os.listdir(folder)):
+                if not name.endswith(".text"):
+                    one = os.path.join(folder, name)
+                    with open(one + ".text", "rb") as text:
+                        told["sheet"].append((name, [os.path.join(one, file) for file in sorted(os.listdir(one))], text.read()))
+        return told["sheet"]
+
     def refused():
-        for program in ("traces", "replay", "rescue"):
+        for program in programs:
             if run(os.path.join(work, program), "calls").returncode:
                 return f"{program} calls"
+        for name, files, text in rows_of_files():
+            if run(os.path.join(work, "sheet"), "text", *files).stdout != text:
+                return f"sheet {name}"
         for what, job in (("rows", "play"), ("strings", "judge")):
             wanted = expected(what)
             if run(os.path.join(work, "traces"), job, os.path.join(work, what)).stdout != wanted:
@@ -120,7 +137,7 @@ def wrong_traces(work, only):
             stop(f"this stands {whole.count(old)} times in traces.c: {old}")
         with open(changed, "w", encoding="utf-8") as out:
             out.write(whole.replace(old, new) if old else whole)
-        for program in ("traces", "replay", "rescue"):
+        for program in programs:
             command = ["cc", "-O2", "-ffp-contract=off", "-w", "-I" + os.path.join(root, "include"), "-o", os.path.join(work, program)]
             if run(*command, os.path.join(tests, program + ".c"), changed, os.path.join(here, "standin.c"), "-lm").returncode:
                 stop(f"the wrong port could not be built: {name}")

@@ -118,7 +118,7 @@ def anywhere(rng):
     return primal, tuple(rng.choice([0.0, -0.0]) if rng.random() < 0.05 else rng.choice([-1, 1, 1]) * sized(rng, -500, 500) for _ in range(3))
 
 
-# Beyond the sizes: s3/s2 is below the least double's half and more, and is rounded to it. Its logarithm is a third too large, and a yes lies outside.
+# Beyond the sizes: s3/s2 is 0.7 of the least double, and is rounded up to it. Its logarithm is 0.36 too large, and a yes lies outside.
 BEYOND = (-744.6 * 2.0**600, 2.0**600, 1.4 * 2.0**-475)
 
 
@@ -144,6 +144,7 @@ def judge(calls_file, answers_file):
     names = {NO: "no on the residue", YES: "yes", UNDECIDED: "undecided"}
     counts = {(name, side): 0 for name in names.values() for side in (-1, 0, 1)}
     other = {"no on a sign": 0, "out of range": 0, "step zero": 0, "point inside": 0}
+    met = {(what, primal): 0 for what in ("yes", "no on the residue", "point inside") for primal in (False, True)}
     wrong = asked = told = 0
     beyond = False
     with open(calls_file) as c, open(answers_file) as a:
@@ -164,6 +165,8 @@ def judge(calls_file, answers_file):
             else:
                 sign = exact_sign(primal, point)
                 counts[names[verdict], sign] += 1
+                if verdict != UNDECIDED:
+                    met[names[verdict], primal] += 1
                 failed |= verdict == YES and sign != 1 or verdict == NO and sign != -1
                 asked += 1
                 if asked % 16 == 0:
@@ -179,6 +182,7 @@ def judge(calls_file, answers_file):
                 other["out of range"] += 1
             else:
                 other["point inside"] += 1
+                met["point inside", primal] += 1
                 failed |= not signs(primal, point) or exact_sign(primal, point) != 1
         if failed:
             wrong += 1
@@ -186,13 +190,17 @@ def judge(calls_file, answers_file):
     print(f"{'':22}{'exactly inside':>16}{'on the wall':>13}{'outside':>10}")
     for name in names.values():
         print(f"{name:22}{counts[name, 1]:16}{counts[name, 0]:13}{counts[name, -1]:10}")
-    print("; ".join(f"{name}: {count}" for name, count in other.items()) + f"; signs asked of Python's logarithm, too: {told}")
+    print("; ".join(f"{name}: {count}" for name, count in other.items()) + f"; signs that Python's logarithm told, too: {told}")
     if not beyond:
         wrong += 1
         print("certain: the point beyond the sizes should have been a yes, and lie outside")
     if not (counts["undecided", 1] and counts["undecided", -1]):
         wrong += 1
         print("certain: no undecided point on one of the sides: the points are not near enough to the wall")
+    for (what, primal), count in met.items():
+        if not count:
+            wrong += 1
+            print(f"certain: no {what} on the {'primal' if primal else 'dual'} side: nothing was held to it")
     held = "certain: a yes lies inside, a no on the residue outside, the point of a step inside; beyond the sizes one yes lies outside"
     print("certain: FAILED" if wrong else held)
     return 1 if wrong else 0

@@ -516,7 +516,7 @@ static void fill(void)
 
 /* ---- the stack of a call, arguments and answer included: a painted one of its own */
 
-enum { STACK = 1 << 17, CALLS = 7 };
+enum { STACK = 1 << 17, CALLS = 11 };
 static uint8_t painted[STACK] __attribute__((aligned(64)));
 static ucontext_t outside, inside;
 static int chosen;
@@ -531,10 +531,28 @@ __attribute__((noinline)) static void record_once(void) { if (spindle_trace_reco
 __attribute__((noinline)) static void rescue_once(void) { if (spindle_rescue(trace, used, old, sizeof old, SPINDLE_NEWEST_EDITION).code) failures++; }
 __attribute__((noinline)) static void thin_once(void) { if (spindle_thin(trace, used, old, sizeof old).code) failures++; }
 __attribute__((noinline)) static void thin_in_place_once(void) { if (spindle_thin_in_place(trace, used).code) failures++; }
+static uint64_t places[4][SPINDLE_SHEET_PLACES], differing[4096];
+static uint8_t flags[2][SPINDLE_SHEET_FILES], lines[SPINDLE_SHEET_TEXT];
+static Totals sheet;
+__attribute__((noinline)) static void replay_once(void) { if (spindle_replay(trace, used, differing, 4096).code) failures++; }
+__attribute__((noinline)) static void add_once(void)
+{
+    sheet = spindle_sheet_add((Totals){0}, places[0], SPINDLE_SHEET_PLACES, places[1], SPINDLE_SHEET_PLACES, flags[0], SPINDLE_SHEET_FILES, trace, used);
+}
+__attribute__((noinline)) static void join_once(void)
+{
+    sheet = spindle_sheet_join(sheet, places[0], SPINDLE_SHEET_PLACES, places[1], SPINDLE_SHEET_PLACES, flags[0], SPINDLE_SHEET_FILES,
+                               (Totals){0}, places[2], SPINDLE_SHEET_PLACES, places[3], SPINDLE_SHEET_PLACES, flags[1], SPINDLE_SHEET_FILES);
+}
+__attribute__((noinline)) static void text_once(void)
+{
+    if (spindle_sheet_text(lines, sizeof lines, sheet, places[0], SPINDLE_SHEET_PLACES, places[1], SPINDLE_SHEET_PLACES, flags[0], SPINDLE_SHEET_FILES).code) failures++;
+}
 
 static void chosen_call(void)
 {
-    static void (*const once[CALLS])(void) = {create_once, append_once, open_once, record_once, rescue_once, thin_once, thin_in_place_once};
+    static void (*const once[CALLS])(void) = {create_once, append_once, open_once, record_once, rescue_once, thin_once, thin_in_place_once,
+                                                  replay_once, add_once, join_once, text_once};
     if (chosen < CALLS) once[chosen]();
 }
 static size_t stack_of(int call)
@@ -559,9 +577,9 @@ static void stacks(void)
         bytes[call] = stack_of(call) - empty;
         used = written.length;
     }
-    expect(written.code == 0 && opened.code == 0 && opened.records == 1, "the measured calls");
-    printf("stack bytes of a call: create %zu, append %zu, open %zu, record %zu, rescue %zu, thin %zu, thin in place %zu\n", bytes[0], bytes[1], bytes[2],
-           bytes[3], bytes[4], bytes[5], bytes[6]);
+    expect(written.code == 0 && opened.code == 0 && opened.records == 1 && sheet.code == 0 && sheet.records == 1, "the measured calls");
+    printf("stack bytes of a call: create %zu, append %zu, open %zu, record %zu, rescue %zu, thin %zu, thin in place %zu, replay %zu, sheet add %zu, join %zu, text %zu\n",
+           bytes[0], bytes[1], bytes[2], bytes[3], bytes[4], bytes[5], bytes[6], bytes[7], bytes[8], bytes[9], bytes[10]);
 }
 
 int main(int argc, char **argv)

@@ -24,7 +24,8 @@
 //! A call that is refused changes nothing that it was lent: slices keep their contents, a record stays as it was. The numbers of a
 //! [`Refusal`] are those of the library's scope document. No call allocates, and none panics.
 //!
-//! The library is x86-64 alone. Structs pass by value: a call with a [`Scaling`] copies its 2,744 bytes, and takes up to 23 KB of stack, as bench/run measured it in 0.1.0.
+//! The library is x86-64 alone. Structs pass by value: a call with a [`Scaling`] copies its 2,744 bytes, and takes up to 25 KB of stack, as bench/run says;
+//! [`thin`] and [`thin_in_place`] take 66 KB, [`Trace::replay`] 42, [`rescue`] and [`Sheet::add`] 33.
 //!
 //! Why the calls are safe to make: the library takes every number, length and code and answers all of them; a lent slice is the pointer and
 //! length of a Rust slice, read or written within that length alone; and the borrows keep the slices of one call from overlapping, which is
@@ -48,7 +49,8 @@ pub const VERSION: &str = env!("CARGO_PKG_VERSION");
 #[derive(Clone, Copy, Debug, PartialEq, Eq, Hash)]
 #[non_exhaustive]
 pub enum Refusal {
-    /// 1: the cone's kind, rule, exponents, dims or exponent sum, or a generalized cone in a correction or combined shift.
+    /// 1: the cone's kind, rule, exponents, dims or exponent sum, or a generalized cone in a correction or combined shift; a plan of no cones or of more
+    /// than 1,024.
     BadCone,
     /// 2: a lent slice has another length than needed.
     BadLength,
@@ -65,7 +67,8 @@ pub enum Refusal {
     /// 8: a trace has no room for what would be written, or 4,096 records already; a replay has no room for its offsets, a rescue or a thinning
     /// for its trace, a sheet for another file.
     NoRoom,
-    /// 9: the bytes are no trace, a record breaks a trace's layout, or an edition is not known, or has no place for a cone's rule. It comes before 8.
+    /// 9: the bytes are no trace, a record breaks a trace's layout, or an edition is not known, or has no place for a cone's rule; a sheet that no files
+    /// can have. It comes before 8.
     BadTrace,
     /// 10: the record has another serial than the call expects: it is of another round. It comes after 5.
     OtherSerial,
@@ -97,15 +100,15 @@ impl Refusal {
     /// One sentence on what was wrong.
     pub fn sentence(self) -> &'static str {
         match self {
-            Refusal::BadCone => "bad cone: its kind, its rule, an exponent, a dim or the exponent sum is not allowed",
+            Refusal::BadCone => "bad cone: its kind, its rule, an exponent, a dim or the exponent sum is not allowed; or a plan of no cones or more than 1,024",
             Refusal::BadLength => "a lent slice has another length than needed",
             Refusal::NotFinite => "an input number is NaN or infinite",
             Refusal::BadSettings => "the search start, step, smallest step or the strategy is not allowed",
             Refusal::NeverScaled => "the record was never scaled",
             Refusal::OutOfRange => "the point lies where the formula has no value",
             Refusal::AnswerNotFinite => "the finished answer holds a NaN or an infinity",
-            Refusal::NoRoom => "no room for what the trace would become or for the offsets, or 4,096 records already",
-            Refusal::BadTrace => "the bytes are no trace, the record breaks a trace's layout, or the edition is not known",
+            Refusal::NoRoom => "no room for what the trace, the sheet or its text would become or for the offsets; or 4,096 records or 1,000 files already",
+            Refusal::BadTrace => "the bytes are no trace, the record breaks a trace's layout, the edition is not known, or the sheet is one that no files can have",
             Refusal::OtherSerial => "the record has another serial than the call expects",
             Refusal::NoSerialLeft => "the record has the last serial: make a fresh one",
             Refusal::Unknown(_) => "a number that this crate does not know",
@@ -183,8 +186,8 @@ impl Default for Strategy {
 /// The margins are those of document 02's Order 5: with l the logarithm of the residue, 2^-40·(s2·(1+|l|)+|s1|) for the exponential cone and
 /// 2^-40·(|z2|+|z1|·(1+|l|)) for its dual; 2^-30·(e+q) for both power cones, whose residue is e-q.
 ///
-/// Of the exponential cone, where each coordinate is zero or from 2^-500 to 2^500 in size, a yes says that the point itself lies inside, with no
-/// rounding at all, and a no that no sign has caused says that it lies outside (document 02's Order 12). Undecided promises nothing.
+/// Of the exponential cone, where each coordinate is zero or from 2^-500 to 2^500 in size, a yes says that the point itself lies inside, with
+/// document 01's L for the logarithm and no rounding at all, and a no that no sign has caused says that it lies outside (document 02's Order 12). Undecided promises nothing.
 #[derive(Clone, Copy, Debug, PartialEq, Eq, Hash)]
 pub enum Answer {
     /// The residue is below minus its margin, or a coordinate has the wrong sign.
@@ -214,7 +217,8 @@ impl Answer {
 /// What a search found.
 #[derive(Clone, Copy, Debug, PartialEq)]
 pub struct Found {
-    /// The first allowed trial whose point passed, its test's answer being [`Answer::Yes`]; 0 exactly if none did.
+    /// The first allowed trial whose point passed, its test's answer being [`Answer::Yes`]; 0 exactly if none did. Where it is not 0, a point of an
+    /// exponential cone with coordinates of the sizes that [`Answer`] names lies exactly inside.
     pub step: f64,
     /// How many points were tested; of a [`Plan`], how many cones.
     pub tests: u32,
@@ -646,7 +650,7 @@ pub mod kernels {
     pub struct Root {
         /// The root.
         pub root: f64,
-        /// 3 or 4 at a positive number, never more; 0 where the root is the number itself or NaN.
+        /// 3 or 4 at a positive number, never more; 0 at a zero, at +infinity and where the root is NaN.
         pub steps: u32,
     }
 

@@ -1,4 +1,4 @@
-//! Traces of step searches: document 02's Orders 1, 2, 7, 8 and 9. A [`Trace`] reads bytes, a [`TraceBuffer`] writes into them, a [`Recorder`] searches and writes.
+//! Traces of step searches: document 02's Orders 1, 2, 7, 8, 9 and 13. A [`Trace`] reads bytes, a [`TraceBuffer`] writes into them, a [`Recorder`] searches and writes.
 use crate::{face, Cone, Found, Refusal, Rule, Settings};
 
 /// The most records that a trace can hold.

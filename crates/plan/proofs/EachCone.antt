@@ -24,7 +24,7 @@ use Rattle.plan.proofs.Plans.{tests-most, pass-on, pass-ends, tests-on,
 module _ (primal : Bool) where
   all-if-each : (cs : List Cone) (p : List Float) → ((i : ℕ) → i < length cs → partPasses cs primal p i ≡ true)
       → allPass cs primal p ≡ true
-  unfolding allPass partPasses
+  unfolding allPass partOf
   all-if-each [] p h = refl
   all-if-each (c ∷ cs) p h =
       pass-on c cs primal p (h 0 (zero-lt-suc (length cs)))
@@ -44,7 +44,7 @@ module _ (primal : Bool) where
 
   each-if-all : (cs : List Cone) (p : List Float) → allPass cs primal p ≡ true
       → (i : ℕ) → i < length cs → partPasses cs primal p i ≡ true
-  unfolding partPasses
+  unfolding partOf
   each-if-all [] p e i l = absurd (not-suc-le-zero l)
   each-if-all (c ∷ cs) p e zero l = first-passes c cs p e
   each-if-all (c ∷ cs) p e (suc i) l = each-if-all cs (drop (numelOf c) p) (rest-passes c cs p e) i (le-of-suc-le-suc l)
@@ -57,7 +57,7 @@ module _ (primal : Bool) where
 
   tests-to-first : (cs : List Cone) (p : List Float) (i : ℕ) → i < length cs → partPasses cs primal p i ≡ false
       → ((j : ℕ) → j < i → partPasses cs primal p j ≡ true) → testsOf cs primal p ≡ suc i
-  unfolding partPasses
+  unfolding partOf
   tests-to-first [] p i l e h = absurd (not-suc-le-zero l)
   tests-to-first (c ∷ cs) p zero l e h = tests-end c cs primal p e
   tests-to-first (c ∷ cs) p (suc i) l e h =

@@ -3,24 +3,27 @@ use Prim.Native.Nat.{ℕ, zero, suc, _<_}
 use mathlib.Core.Path.{_≡_}
 use mathlib.Core.Bool.{Bool, true, false}
 use mathlib.Core.List.{List, [], _∷_}
-use lib.ListN.{length, take, drop}
+use lib.ListN.{length, take, drop, getD}
 use lib.Ieee.{Float}
 use Rattle.cone.specs.declared.Cone.{Cone}
 use Rattle.cone.specs.Codes.{numelOf}
+use Rattle.cone.specs.Fresh.{emptyCone}
 use Rattle.search.specs.Points.{trialPoint}
 use Rattle.plan.specs.Plans.{conePasses, allPass, testsOf}
 
--- cone i's part of a point
+-- cone i of the list, counted from 0
+abbrev pub coneAt : List Cone → ℕ → Cone
+coneAt cs i = getD cs i emptyCone
+
+-- its part of a point
 unfoldable pub partOf : List Cone → ℕ → List Float → List Float
 partOf [] i p = []
 partOf (c ∷ cs) zero p = take (numelOf c) p
 partOf (c ∷ cs) (suc i) p = partOf cs i (drop (numelOf c) p)
 
--- whether cone i passes on its part; a cone that is not there does
-unfoldable pub partPasses : List Cone → Bool → List Float → ℕ → Bool
-partPasses [] primal p i = true
-partPasses (c ∷ cs) primal p zero = conePasses c primal (take (numelOf c) p)
-partPasses (c ∷ cs) primal p (suc i) = partPasses cs primal (drop (numelOf c) p) i
+-- whether cone i passes on its part
+abbrev pub partPasses : List Cone → Bool → List Float → ℕ → Bool
+partPasses cs primal p i = conePasses (coneAt cs i) primal (partOf cs i p)
 
 -- cone i is the first that fails
 pub record FirstFailing (cs : List Cone) (primal : Bool) (p : List Float) (i : ℕ) : Type 0 where

@@ -105,7 +105,7 @@ in-row-one (mulHs r serial y x) c rule ok ok' = rw (ok, ok')
 in-row-one (higherCorrection r serial η ds v) c rule ok ok' = rw (ok, ok')
 in-row-one (combinedDsShift r serial out stepz steps σμ) c rule ok ok' = rw (ok, ok')
 
-not-taken : (c : Cone) → ruleOk (c .rule) ≡ false → coneOk c ≡ false
+pub not-taken : (c : Cone) → ruleOk (c .rule) ≡ false → coneOk c ≡ false
 unfolding coneOk
 not-taken c bad = rw bad
 

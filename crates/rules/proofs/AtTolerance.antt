@@ -1,4 +1,4 @@
--- The sums at rule 2's tolerance and beside it, computed. Assumes nothing.
+-- The sums at both tolerances and beside them, computed. Assumes nothing.
 use mathlib.Core.Path.{refl}
 use lib.Count.{trailingZeros}
 use lib.Ieee.{add, sub, neg, lt, le, eq, ofBits, ofFields, round, size, units, odd, span, climb, sum}
@@ -12,10 +12,8 @@ pub at-tolerance : AtTolerance
 unfolding coneOk coneOkWithin wideOk allOf toleranceOf sumOf iter pow2 add sub sum neg lt le eq ofBits ofFields round size units odd span
     climb trailingZeros
 at-tolerance = record {
-  above = refl;
-  below = refl;
-  next-above = refl;
-  next-below = refl;
-  next-above-1 = refl;
-  next-below-1 = refl;
+  of-rule-1 = record { above = refl; below = refl; next-above = refl; next-below = refl };
+  of-rule-2 = record { above = refl; below = refl; next-above = refl; next-below = refl };
+  between-above = refl;
+  between-below = refl;
 }

@@ -1,15 +1,19 @@
 -- 02, Order 9: "Every cone that rule 2 takes, rule 1 takes as well, with equal answers but for the rule number carried; prove that once over
--- both tolerances." Statements, of the calls themselves; proofs/Tolerances, proofs/Answers and proofs/AtTolerance have the proofs.
-use Prim.Native.Nat.{ℕ}
+-- both tolerances." Statements, of the calls themselves; proofs/Tolerances, proofs/Answers, proofs/PlanAnswers and proofs/AtTolerance have the proofs.
+use Prim.Native.Nat.{ℕ, _<_}
 use mathlib.Core.Path.{_≡_}
-use mathlib.Core.Bool.{true, false}
-use mathlib.Core.List.{List, _∷_}
+use mathlib.Core.Bool.{Bool, true, false}
+use mathlib.Core.List.{List, _∷_, map}
 use lib.Ieee.{Float}
-use lib.ListN.{replicate}
+use lib.ListN.{length, replicate}
 use Rattle.double.specs.Operators.{_≼_, _⊕_, _⊖_}
 use Rattle.double.specs.Numbers.{pow2, #0, #½}
 use Rattle.cone.specs.declared.Cone.{Cone}
+use Rattle.cone.specs.declared.Settings.{Settings}
 use Rattle.judges.specs.Judges.{rule1, rule2, ruleOk, toleranceOf, coneOkWithin, coneOk}
+use Rattle.plan.specs.Plans.{planOk}
+use Rattle.plan.specs.EachCone.{coneAt}
+use Rattle.plan_entries.specs.Entries.{commonStepOf}
 use Rattle.rules.specs.Entries.{Entry, call, codeOf, under, carrying}
 
 -- ---- the cones
@@ -36,17 +40,44 @@ pub record Answers : Type 0 where
   -- "another rule number gives 1", whatever the kind and the other arguments
   pub another : (e : Entry) (c : Cone) → ruleOk (c .rule) ≡ false → codeOf (call e c) ≡ 1
 
+-- ---- the same of Order 10's common step, which takes a list of cones
+
+-- the list with all its cones under a rule
+abbrev pub allUnder : ℕ → List Cone → List Cone
+allUnder rule cs = map (under rule) cs
+
+-- one answer and one point for both lists, whatever the call's other arguments, refused ones too
+abbrev pub OneStep : List Cone → List Cone → Type 0
+OneStep cs ds =
+    (primal : Bool) (dq q point : List Float) (s : Settings) → commonStepOf cs primal dq q point s ≡ commonStepOf ds primal dq q point s
+
+pub record PlanAnswers : Type 0 where
+  -- a list that is taken, whichever rule each cone has, is taken with all of them under rule 1
+  pub takes : (cs : List Cone) → planOk cs ≡ true → planOk (allUnder rule1 cs) ≡ true
+  -- the rules are looked at in row 1 alone: two lists that differ in nothing else, and are both taken
+  pub in-row-one : (cs ds : List Cone) → allUnder rule1 cs ≡ allUnder rule1 ds → planOk cs ≡ true → planOk ds ≡ true → OneStep cs ds
+  -- "with equal answers"; no rule is carried here
+  pub equal : (cs : List Cone) → planOk (allUnder rule2 cs) ≡ true → OneStep (allUnder rule2 cs) (allUnder rule1 cs)
+  -- "another rule number gives 1", wherever it stands in the list
+  pub another : (cs : List Cone) (i : ℕ) → i < length cs → ruleOk (coneAt cs i .rule) ≡ false
+      → (primal : Bool) (dq q point : List Float) (s : Settings) → commonStepOf cs primal dq q point s .answer .code ≡ 1
+
 -- ---- at the tolerance
 
 -- generalized, with the exponents ½ and α and one tail place
 abbrev pub halfAnd : Float → ℕ → Cone
 halfAnd α rule = record { kind = 3; dim1 = 2; dim2 = 1; rule = rule; exps = #½ ∷ α ∷ replicate 30 #0 }
 
--- 01: "its computed exponent sum more than" the tolerance from 1 is bad: exactly the tolerance is taken, and the next sum is not, but under rule 1
+-- 01: "its computed exponent sum more than" the tolerance from 1 is bad: exactly the tolerance is taken, and the next sum is not
+pub record Border (rule : ℕ) (tolerance : Float) : Type 0 where
+  pub above : coneOk (halfAnd (#½ ⊕ tolerance) rule) ≡ true
+  pub below : coneOk (halfAnd (#½ ⊖ tolerance) rule) ≡ true
+  pub next-above : coneOk (halfAnd (#½ ⊕ tolerance ⊕ pow2 52) rule) ≡ false
+  pub next-below : coneOk (halfAnd (#½ ⊖ tolerance ⊖ pow2 53) rule) ≡ false
+
 pub record AtTolerance : Type 0 where
-  pub above : coneOk (halfAnd (#½ ⊕ pow2 50) rule2) ≡ true
-  pub below : coneOk (halfAnd (#½ ⊖ pow2 50) rule2) ≡ true
-  pub next-above : coneOk (halfAnd (#½ ⊕ pow2 50 ⊕ pow2 52) rule2) ≡ false
-  pub next-below : coneOk (halfAnd (#½ ⊖ pow2 50 ⊖ pow2 53) rule2) ≡ false
-  pub next-above-1 : coneOk (halfAnd (#½ ⊕ pow2 50 ⊕ pow2 52) rule1) ≡ true
-  pub next-below-1 : coneOk (halfAnd (#½ ⊖ pow2 50 ⊖ pow2 53) rule1) ≡ true
+  pub of-rule-1 : Border rule1 (pow2 40)
+  pub of-rule-2 : Border rule2 (pow2 50)
+  -- the sums that rule 2 refuses there, rule 1 takes
+  pub between-above : coneOk (halfAnd (#½ ⊕ pow2 50 ⊕ pow2 52) rule1) ≡ true
+  pub between-below : coneOk (halfAnd (#½ ⊖ pow2 50 ⊖ pow2 53) rule1) ≡ true

@@ -47,7 +47,7 @@ passed-or-zero P (suc f) false true α n e h = absurd (h refl)
 passed-or-zero P (suc f) false false α n e h =
     let β = α ⊗ P .how .step in passed-or-zero P f (passesAt P β) (cutAfter P β) β (suc n) refl h
 
-searched : (P : Problem) → (searchOf P .step ≡ #0 → ⊥) → Passed P (searchOf P)
+pub searched : (P : Problem) → (searchOf P .step ≡ #0 → ⊥) → Passed P (searchOf P)
 unfolding searchOf scan
 searched P h = let α = P .how .start in passed-or-zero P (bound (P .how)) (passesAt P α) (cutAfter P α) α 0 refl h
 
@@ -60,7 +60,7 @@ place-double (x ∷ q) α [] i = nan-fits binary64
 place-double (x ∷ q) α (d ∷ dq) zero = add-fits binary64 x (α ⊗ d)
 place-double (x ∷ q) α (d ∷ dq) (suc i) = place-double q α dq i
 
-point-of : (q : List Float) (α : Float) (dq p : List Float) → p ≡ trialPoint q dq α → AllInRange p → PointAt p
+pub point-of : (q : List Float) (α : Float) (dq p : List Float) → p ≡ trialPoint q dq α → AllInRange p → PointAt p
 point-of q α dq p e r = record {
   first-double = double 0;
   second-double = double 1;
@@ -75,7 +75,7 @@ point-of q α dq p e r = record {
 
 -- ---- the exponential cone
 
-yes-of : (a : Answer) → isYes a ≡ true → a ≡ Yes
+pub yes-of : (a : Answer) → isYes a ≡ true → a ≡ Yes
 yes-of No e = absurd (false-not-true e)
 yes-of Yes e = refl
 yes-of Undecided e = absurd (false-not-true e)

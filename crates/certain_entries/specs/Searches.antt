@@ -1,15 +1,19 @@
--- Order 12 of the searches: a step other than zero hands back a point that lies exactly inside. Of the definitions that the contracts of both calls name.
--- Definitions only; proofs/Searches proves it. A refused call has the step +0.
+-- Order 12 of the searches: a step other than zero hands back a point that lies exactly inside. Of the definitions that the contracts of the three calls
+-- name. Definitions only; proofs/Searches and proofs/CommonStep prove it. A refused call has the step +0.
+use Prim.Native.Nat.{ℕ, _<_}
 use mathlib.Core.Path.{_≡_}
 use mathlib.Core.Bool.{Bool, true, false}
 use mathlib.Core.List.{List}
 use lib.Ieee.{Float}
+use lib.ListN.{length}
 use Rattle.double.specs.Numbers.{#0}
 use Rattle.cone.specs.declared.Cone.{Cone}
 use Rattle.cone.specs.declared.Settings.{Settings}
 use Rattle.cone.specs.declared.Steps.{Steps}
 use Rattle.judges.specs.Refusals.{LentTwo}
 use Rattle.search_entries.specs.Entries.{backtrackSearchOf, stepLengthOf}
+use Rattle.plan.specs.EachCone.{coneAt, partOf}
+use Rattle.plan_entries.specs.Entries.{commonStepOf}
 use Rattle.certain_entries.specs.Points.{AllInRange, ExactlyInside}
 
 -- a step with the point that is handed back beside it
@@ -32,3 +36,10 @@ abbrev pub StepLengthCertain : Type 0
 StepLengthCertain =
     (c : Cone) → c .kind ≡ 1 → (dz ds z s dualPoint primalPoint : List Float) (settings : Settings)
     → BothCertain (stepLengthOf c dz ds z s dualPoint primalPoint settings)
+
+-- Order 10's common step: each cone of the list that is of kind 1, on its part of the point, whatever the others are
+abbrev pub CommonStepCertain : Type 0
+CommonStepCertain =
+    (cs : List Cone) (i : ℕ) → i < length cs → coneAt cs i .kind ≡ 1 → (primal : Bool) (dq q point : List Float) (s : Settings)
+    → let l = commonStepOf cs primal dq q point s in
+    StepCertain primal (l .answer .step) (partOf cs i (l .slice))

@@ -72,7 +72,7 @@ point-long : (c : tie.After-put-trial Inv-loop μ-loop)
 point-long c =
     let h = c .before .before in
     let a = S h .args in
-    ap length (c .put-trial .ensures) ∙ length-point (now (a .q)) (now (a .dq)) (h .loop .alpha) (S h .pre .searchable .dq-length)
+    ap length (c .put-trial .ensures) ∙ length-point (now (a .q)) (now (a .dq)) _ (S h .pre .searchable .dq-length)
 
 -- the point was tested: by the definition's tests
 abbrev written : tie.After-test-cones Inv-loop μ-loop → tie.After-put-trial Inv-loop μ-loop

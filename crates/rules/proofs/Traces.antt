@@ -1,28 +1,49 @@
--- An append looks at the rule in one test, which edition 3 passes; and the bytes of a record are as many under every rule. Assumes nothing.
-use Prim.Native.Nat.{ℕ, zero, suc, _+_}
+-- An edition without a rule is read with 1 in its place. An append looks at the rule in one test, which edition 3 passes; and the bytes of a record are as
+-- many under every rule. Assumes nothing.
+use Prim.Native.Nat.{ℕ, zero, suc, _+_, _<_}
 use mathlib.Core.Path.{_≡_, refl, sym, ap, _∙_}
 use mathlib.Core.Bool.{Bool, true, false, not, _&&_}
-use mathlib.Core.List.{List}
-use lib.ListN.{length, take}
-use borrow.Author.Tests.{eq-eqb, ne-eqb}
+use mathlib.Core.List.{List, []}
+use lib.ListN.{length, take, drop, getD}
+use borrow.Author.Tests.{eq-eqb, ne-eqb, lt-ltb}
 use Rattle.arith.proofs.Branches.{false-not-true}
 use Rattle.table.specs.Table.{settle, traceRow}
 use Rattle.words.specs.Words.{AllBelow}
 use Rattle.words.specs.Runs.{runsSize}
-use Rattle.trace_layout.specs.Records.{Record, runsFor}
-use Rattle.trace_layout.specs.Traces.{countAt, editionAt}
+use Rattle.trace_layout.specs.Records.{Record, runsFor, ruleAt, sizeAt, recordAt}
+use Rattle.trace_layout.specs.Traces.{listAt, countAt, editionAt, recordsIn, recordsOf}
+use Rattle.trace_layout.proofs.Fields.{rule-of}
 use Rattle.trace_writer.specs.Entries.{recordOf}
+use Rattle.trace_writer.proofs.Bits.{no-rule}
 use Rattle.trace_entries.specs.Given.{dim1Of, dim2Of, entryOf, usedExps, canLay}
 use Rattle.trace_entries.specs.Writing.{refuse, leave, goodFront, longer, appendRows, appendOf}
 use Rattle.trace_entries.proofs.Judged.{can-lay, free, longer-length}
 use Rattle.recorded.specs.declared.Recorded.{Recorded}
-use Rattle.recorded.specs.Recorded.{recordedIn}
+use Rattle.recorded.specs.Recorded.{coneOf, recordedOf, recordedIn}
 use Rattle.trace_kept.specs.Appended.{traceIn}
 use Rattle.trace_kept.specs.Kept.{keptOf}
 use Rattle.trace_kept.specs.Made.{Call, handed, called}
 use Rattle.trace_kept.proofs.Appended.{exponent-places}
 use Rattle.trace_kept.proofs.Kept.{append-kept}
-use Rattle.rules.specs.Traces.{callUnder, PassedIn, Appends}
+use Rattle.rules.specs.Traces.{OldUnderRule1, callUnder, PassedIn, Appends}
+
+-- ---- a record of editions 1 and 2
+
+module _ (e : ℕ) (not-3 : e ≡ 3 → ⊥) where
+  under-1 : (t : List ℕ) → recordAt e t .rule ≡ 1
+  unfolding ruleAt
+  under-1 t = rule-of e t ∙ rw (no-rule e not-3)
+
+  each-under-1 : (n : ℕ) (t : List ℕ) (i : ℕ) → getD (recordsIn e n t) i (recordAt e []) .rule ≡ 1
+  unfolding recordsIn
+  each-under-1 zero t i = under-1 []
+  each-under-1 (suc n) t zero = under-1 t
+  each-under-1 (suc n) t (suc i) = each-under-1 n (drop (sizeAt e t) t) i
+
+pub old-under-rule-1 : OldUnderRule1
+unfolding recordedIn recordedOf coneOf recordsOf
+old-under-rule-1 bs i good not-3 here =
+    rw (good, lt-ltb i (countAt bs) here) (each-under-1 (editionAt bs) not-3 (countAt bs) (take (listAt bs) bs) i)
 
 -- ---- the rule is read back
 

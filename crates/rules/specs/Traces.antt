@@ -1,16 +1,22 @@
 -- 02, Order 9: "New traces are edition 3, with the rule (u32) after dim2 ..; cones from editions 1 and 2 are under rule 1"; "in a trace it is no
--- layout fault". What that says of an append. Statements; proofs/Traces has the proofs.
-use Prim.Native.Nat.{ℕ}
+-- layout fault". What that says of a record that is read and of an append. Statements; proofs/Traces has the proofs.
+use Prim.Native.Nat.{ℕ, _<_}
 use mathlib.Core.Path.{_≡_}
+use mathlib.Core.Bool.{true}
 use mathlib.Core.List.{List}
 use lib.ListN.{take}
 use Rattle.words.specs.Words.{AllBelow}
-use Rattle.trace_layout.specs.Traces.{countAt, editionAt}
+use Rattle.trace_layout.specs.Traces.{countAt, editionAt, goodTrace}
 use Rattle.trace_entries.specs.Values.{Passed}
 use Rattle.recorded.specs.Recorded.{recordedIn}
 use Rattle.trace_kept.specs.Appended.{traceIn}
 use Rattle.trace_kept.specs.Made.{Call, called}
 use Rattle.rules.specs.Entries.{under}
+
+-- "cones from editions 1 and 2 are under rule 1": every record of a good trace of an edition other than 3
+abbrev pub OldUnderRule1 : Type 0
+OldUnderRule1 =
+    (bs : List ℕ) (i : ℕ) → goodTrace bs ≡ true → (editionAt bs ≡ 3 → ⊥) → i < countAt bs → recordedIn bs i .cone .rule ≡ 1
 
 -- the call of `append` with its cone under a rule
 abbrev pub callUnder : ℕ → Call → Call

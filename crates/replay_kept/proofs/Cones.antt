@@ -19,7 +19,7 @@ use Rattle.kinds.specs.Answers.{answerIn, powAnswer, genpowAnswer}
 use Rattle.kinds.specs.Passes.{passesIn}
 use Rattle.kinds.proofs.EachKind.{cone, each-kind}
 use Rattle.trace_layout.specs.Records.{exponents}
-use Rattle.trace_entries.specs.Given.{dim1Of, dim2Of, usedExps}
+use Rattle.trace_places.specs.Given.{dim1Of, dim2Of, usedExps}
 use Rattle.recorded.specs.Recorded.{padded}
 
 -- as `keptOf` has it

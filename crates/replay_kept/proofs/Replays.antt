@@ -14,7 +14,7 @@ use Rattle.cone.specs.Codes.{numelOf}
 use Rattle.judges.proofs.Lengths.{numel-at-most}
 use Rattle.search_entries.specs.Entries.{stepLengthOf}
 use Rattle.trace_layout.specs.Records.{Record, sizeIn}
-use Rattle.trace_entries.specs.Given.{givenOf}
+use Rattle.trace_places.specs.Given.{givenOf}
 use Rattle.trace_entries.specs.Values.{Passed}
 use Rattle.recorded.specs.Defaults.{defaultOf}
 use Rattle.recorded.specs.Recorded.{padded, valuesOf, coneOf, settingsOf, stepsOf, recordedOf}

@@ -14,7 +14,7 @@ use Rattle.words.specs.Words.{AllBelow}
 use Rattle.search_entries.specs.Entries.{stepLengthOf}
 use Rattle.trace_layout.specs.Records.{Record}
 use Rattle.trace_layout.specs.Traces.{editionAt, recordsOf}
-use Rattle.trace_entries.specs.Given.{givenOf}
+use Rattle.trace_places.specs.Given.{givenOf}
 use Rattle.trace_entries.specs.Writing.{appendOf}
 use Rattle.trace_entries.specs.Values.{Passed}
 use Rattle.recorded.specs.Defaults.{defaultOf}

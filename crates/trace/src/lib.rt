@@ -43,3 +43,28 @@ pub struct Opened {
     pub count: u32,
     pub list: u64,
 }
+
+// The numbers of a record beside its vectors: of a double, its bits.
+pub struct Entry {
+    pub kind: u32,
+    pub dim1: u32,
+    pub dim2: u32,
+    pub rule: u32,
+    pub start: u64,
+    pub flag: u32,
+    pub step: u64,
+    pub smallest: u64,
+    pub dualstep: u64,
+    pub dualcount: u32,
+    pub primalstep: u64,
+    pub primalcount: u32,
+}
+
+// Where a record goes: the number of a refusal, or 0; the trace's edition, count of records and list; the record's length.
+pub struct Place {
+    pub code: u32,
+    pub edition: u32,
+    pub count: u32,
+    pub list: usize,
+    pub size: usize,
+}

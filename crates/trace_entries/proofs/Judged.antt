@@ -6,7 +6,7 @@ use Prim.Native.Nat.{ℕ, _+_, _*_, _≤_, _<_}
 use lib.Dec.{eqb, leb, ltb}
 use lib.Ieee.{Float}
 use lib.ListN.{length, take, drop}
-use borrow.Author.Tests.{leb-true, leb-false, le-leb, ltb-true, eqb-true, not-false}
+use borrow.Author.Tests.{leb-true, ltb-true, eqb-true, not-false}
 use native.Mathlib.Omega.{arith}
 use Rattle.arith.proofs.Branches.{and-left, and-right}
 use Rattle.words.specs.Words.{AllBelow}
@@ -17,31 +17,15 @@ use Rattle.trace.specs.Opening.{openOf}
 use Rattle.trace_layout.proofs.Growing.{old-count, old-length, grown-length, grown-stored}
 use Rattle.table.specs.Table.{traceRow}
 use Rattle.table.proofs.Settled.{trace-row-off}
-use Rattle.trace_writer.specs.declared.Entry.{Entry}
-use Rattle.trace_writer.specs.declared.Place.{Place}
-use Rattle.trace_writer.specs.Entries.{recordOf, entryBytes, insertOf}
+use Rattle.trace.specs.declared.Entry.{Entry}
+use Rattle.trace.specs.declared.Place.{Place}
+use Rattle.trace.specs.Entries.{recordOf}
+use Rattle.trace_writer.specs.Entries.{entryBytes, insertOf}
 use Rattle.trace_writer.proofs.Bits.{length-bitsOf}
 use Rattle.trace_writer.proofs.Parts.{entry-is-record, length-entry}
-use Rattle.trace_entries.specs.Given.{canLay}
+use Rattle.trace_places.specs.Given.{canLay}
 use Rattle.trace_entries.specs.Writing.{goodFront, longer, appendRows}
-use Rattle.trace_entries.specs.Places.{openFront, entryOk, hasRoom, placeWith, placeFor}
-
--- ---- tests that say the same
-
-leb-same : (x : Bool) (a b c d : ℕ) → leb a b ≡ x → (a ≤ b → c ≤ d) → (c ≤ d → a ≤ b) → x ≡ leb c d
-leb-same true a b c d h to back = sym (le-leb c d (to (leb-true a b h)))
-leb-same false a b c d h to back = sym (not-le (leb c d) refl)
-  where
-    not-le : (t : Bool) → leb c d ≡ t → leb c d ≡ false
-    not-le true e = let f = back (leb-true c d e) in absurd (omega (arith, leb-false a b h))
-    not-le false e = e
-
-pub leb-moved : (a b c d : ℕ) → (a ≤ b → c ≤ d) → (c ≤ d → a ≤ b) → leb a b ≡ leb c d
-leb-moved a b c d to back = leb-same (leb a b) a b c d refl to back
-
-pub and-off : (a b : Bool) → b ≡ false → false ≡ (a && b)
-and-off true b e = sym e
-and-off false b e = refl
+use Rattle.trace_places.specs.Places.{openFront, entryOk, hasRoom, placeWith, placeFor}
 
 -- ---- the trace at the front
 

@@ -1,5 +1,3 @@
 pub mod Opened
-pub mod Given
 pub mod Writing
-pub mod Places
 pub mod Values

@@ -12,7 +12,7 @@ use Rattle.table.specs.Table.{traceRow, settle}
 use Rattle.trace_layout.specs.Records.{Record}
 use Rattle.trace_layout.specs.Traces.{newestEdition, mostRecords, traceOf, editionAt, goodTrace, recordsOf}
 use Rattle.trace_entries.specs.declared.Written.{Written}
-use Rattle.trace_entries.specs.Given.{givenOf, canLay}
+use Rattle.trace_places.specs.Given.{givenOf, canLay}
 
 -- a call's answer, and the bytes of the slice that it was lent
 pub record Left : Type 0 where

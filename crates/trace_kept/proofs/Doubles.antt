@@ -7,7 +7,7 @@ use lib.Ieee.{Float, binary64, fits, ofBits}
 use lib.ListN.{take}
 use Rattle.double.proofs.RoundTrips.{pattern-lt, double-back}
 use Rattle.words.specs.Words.{AllBelow}
-use Rattle.trace_writer.specs.Entries.{bitsOf}
+use Rattle.trace.specs.Entries.{bitsOf}
 use Rattle.trace_entries.specs.Values.{Doubles}
 
 pub doubles-take : (n : ℕ) (xs : List Float) → Doubles xs → Doubles (take n xs)

@@ -16,8 +16,8 @@ use Rattle.cone.specs.declared.Steps.{Steps}
 use Rattle.trace_layout.specs.Records.{Record, exponents, settingsIn, recordAt}
 use Rattle.trace_layout.specs.Traces.{listAt, countAt, editionAt, offsetAt, goodTrace, recordsOf}
 use Rattle.trace_layout.proofs.Appending.{single}
-use Rattle.trace_writer.specs.Entries.{recordOf}
-use Rattle.trace_entries.specs.Given.{dim1Of, entryOf, usedExps, givenOf}
+use Rattle.trace.specs.Entries.{recordOf}
+use Rattle.trace_places.specs.Given.{dim1Of, entryOf, usedExps, givenOf}
 use Rattle.trace_entries.specs.Writing.{appendOf}
 use Rattle.trace_entries.specs.Values.{Passed}
 use Rattle.recorded.specs.Defaults.{defaultOf}

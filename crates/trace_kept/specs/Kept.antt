@@ -7,7 +7,7 @@ use lib.Ieee.{Float}
 use Rattle.cone.specs.declared.Cone.{Cone}
 use Rattle.cone.specs.declared.Settings.{Settings}
 use Rattle.cone.specs.declared.Steps.{Steps}
-use Rattle.trace_entries.specs.Given.{dim1Of, dim2Of, usedExps}
+use Rattle.trace_places.specs.Given.{dim1Of, dim2Of, usedExps}
 use Rattle.recorded.specs.declared.Recorded.{Recorded}
 use Rattle.recorded.specs.Defaults.{defaultOf}
 use Rattle.recorded.specs.Recorded.{padded}

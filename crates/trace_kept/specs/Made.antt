@@ -12,7 +12,7 @@ use Rattle.cone.specs.declared.Steps.{Steps}
 use Rattle.words.specs.Words.{AllBelow}
 use Rattle.trace_layout.specs.Records.{Record}
 use Rattle.trace_layout.specs.Traces.{goodTrace, recordsOf}
-use Rattle.trace_entries.specs.Given.{givenOf}
+use Rattle.trace_places.specs.Given.{givenOf}
 use Rattle.trace_entries.specs.Writing.{Left, createOf, appendOf}
 use Rattle.trace_entries.specs.Values.{Passed}
 

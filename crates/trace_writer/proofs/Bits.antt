@@ -9,7 +9,8 @@ use Rattle.words.specs.Words.{rowBytes}
 use Rattle.words.proofs.Words.{length-rowBytes}
 use borrow.Author.Tests.{eq-eqb, ne-eqb}
 use Rattle.trace_layout.specs.Records.{rulesIn, settingsIn}
-use Rattle.trace_writer.specs.Entries.{bitsOf, vectorBytes}
+use Rattle.trace.specs.Entries.{bitsOf}
+use Rattle.trace_writer.specs.Entries.{vectorBytes}
 
 pub length-bitsOf : (row : List Float) → length (bitsOf row) ≡ length row
 length-bitsOf [] = refl

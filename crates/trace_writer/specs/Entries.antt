@@ -1,19 +1,16 @@
--- What is handed to the writer, as a record. Definitions only.
+-- What the writer puts down. Definitions only.
 use Prim.Native.Nat.{ℕ, _+_, _*_}
-use mathlib.Core.List.{List, [], _∷_, _++_, map}
+use mathlib.Core.List.{List, [], _∷_, _++_}
 use lib.ListN.{take, drop, replicate}
 use lib.Seq.{sets}
-use lib.Ieee.{Float, binary64, toBits}
+use lib.Ieee.{Float}
 use Rattle.words.specs.Words.{le, rowBytes}
-use Rattle.trace_layout.specs.Records.{Record, stepMark, rulesIn, settingsIn, runsFor}
+use Rattle.trace_layout.specs.Records.{stepMark, rulesIn, runsFor}
 use Rattle.words.specs.Runs.{runsSize}
 use Rattle.trace_layout.specs.Traces.{trailerOf}
-use Rattle.trace_writer.specs.declared.Entry.{Entry}
-use Rattle.trace_writer.specs.declared.Place.{Place}
-
--- a vector as numbers: the bits of each double
-abbrev pub bitsOf : List Float → List ℕ
-bitsOf xs = map (toBits binary64) xs
+use Rattle.trace.specs.declared.Entry.{Entry}
+use Rattle.trace.specs.declared.Place.{Place}
+use Rattle.trace.specs.Entries.{bitsOf, settingsRow}
 
 -- "the four bytes `STEP`, whole record length, kind, dim1, dim2"
 abbrev pub headRow : ℕ → Entry → List ℕ
@@ -21,10 +18,6 @@ headRow size x = stepMark ∷ size ∷ x .kind ∷ x .dim1 ∷ x .dim2 ∷ []
 
 abbrev pub ruleRow : ℕ → ℕ → List ℕ
 ruleRow edition rule = replicate (rulesIn edition) rule
-
--- the settings that follow the flag
-abbrev pub settingsRow : Entry → List ℕ
-settingsRow x = take (settingsIn (x .flag)) (x .step ∷ x .smallest ∷ [])
 
 abbrev pub searchBytes : Entry → List ℕ
 searchBytes x = le 8 (x .start) ++ (le 4 (x .flag) ++ rowBytes 8 (settingsRow x))
@@ -39,26 +32,6 @@ resultBytes x = answerBytes (x .dualstep) (x .dualcount) ++ answerBytes (x .prim
 -- "dz, ds, z, s"
 unfoldable pub vectorBytes : List Float → List Float → List Float → List Float → List ℕ
 vectorBytes dz ds z s = ((rowBytes 8 (bitsOf dz) ++ rowBytes 8 (bitsOf ds)) ++ rowBytes 8 (bitsOf z)) ++ rowBytes 8 (bitsOf s)
-
-unfoldable pub recordOf : Entry → List Float → List Float → List Float → List Float → List Float → Record
-recordOf x exps dz ds z s = record {
-  kind = x .kind;
-  dim1 = x .dim1;
-  dim2 = x .dim2;
-  rule = x .rule;
-  exps = bitsOf exps;
-  start = x .start;
-  flag = x .flag;
-  settings = settingsRow x;
-  dz = bitsOf dz;
-  ds = bitsOf ds;
-  z = bitsOf z;
-  s = bitsOf s;
-  dualstep = x .dualstep;
-  dualcount = x .dualcount;
-  primalstep = x .primalstep;
-  primalcount = x .primalcount;
-}
 
 -- the record's bytes as the writer puts them down, part by part
 unfoldable pub entryBytes : ℕ → Entry → List Float → List Float → List Float → List Float → List Float → List ℕ

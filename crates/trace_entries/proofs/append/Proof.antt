@@ -14,12 +14,13 @@ use Rattle.trace_layout.specs.Traces.{editionAt, countAt, listAt}
 use Rattle.words.specs.Runs.{runsSize}
 use Rattle.trace_layout.proofs.Records.{bounds, exponents-most}
 use Rattle.table.proofs.Settled.{refused, done}
-use Rattle.trace_writer.specs.declared.Entry.{Entry}
-use Rattle.trace_writer.specs.declared.Place.{Place}
-use Rattle.trace_writer.specs.Entries.{entryBytes, recordOf, insertOf}
-use Rattle.trace_entries.specs.Given.{entryOf, givenOf}
+use Rattle.trace.specs.declared.Entry.{Entry}
+use Rattle.trace.specs.declared.Place.{Place}
+use Rattle.trace.specs.Entries.{recordOf}
+use Rattle.trace_writer.specs.Entries.{entryBytes, insertOf}
+use Rattle.trace_places.specs.Given.{entryOf, givenOf}
 use Rattle.trace_entries.specs.Writing.{leave, longer, appendRows, appendOf}
-use Rattle.trace_entries.specs.Places.{placeFor}
+use Rattle.trace_places.specs.Places.{placeFor}
 use Rattle.trace_entries.specs.Values.{Passed}
 use Rattle.trace_entries.proofs.Passing.{fits-true, elements-fit}
 use Rattle.trace_entries.proofs.Judged.{Free, free, same-code, longer-stored, longer-length, entry-size, place-edition, place-count}

@@ -9,7 +9,8 @@ use Rattle.words.specs.Words.{rowBytes}
 use Rattle.words.specs.Runs.{runsSize}
 use Rattle.words.proofs.Stores.{wrote-after}
 use Rattle.trace_layout.specs.Records.{rulesIn, settingsIn, runsFor}
-use Rattle.trace_writer.specs.Entries.{bitsOf, headRow, ruleRow, searchBytes, resultBytes, vectorBytes, entryBytes}
+use Rattle.trace.specs.Entries.{bitsOf}
+use Rattle.trace_writer.specs.Entries.{headRow, ruleRow, searchBytes, resultBytes, vectorBytes, entryBytes}
 use Rattle.trace_writer.proofs.Bits.{length-row, length-vectors}
 use Rattle.trace_writer.proofs.Parts.{length-head, length-rule, length-search, length-entry}
 use borrow.Author.Needs.{needs}

@@ -9,7 +9,7 @@ use lib.Seq.{sets, length-sets}
 use Rattle.words.specs.Words.{le, rowBytes}
 use Rattle.words.proofs.Stores.{row-turn, row-begun, row-done}
 use Rattle.trace_writer.proofs.Bits.{length-bitsOf, bits-at}
-use Rattle.trace_writer.specs.Entries.{bitsOf}
+use Rattle.trace.specs.Entries.{bitsOf}
 use Rattle.trace_writer.proofs.write.put_row.Statement.{statement}
 use Rattle.trace_writer.proofs.write.put_row.Tie as tie
 

@@ -5,7 +5,8 @@ use native.Mathlib.Omega.{arith}
 use lib.ListN.{length, length-append}
 use Rattle.words.specs.Words.{rowBytes}
 use Rattle.words.proofs.Stores.{wrote-after}
-use Rattle.trace_writer.specs.Entries.{bitsOf, vectorBytes}
+use Rattle.trace.specs.Entries.{bitsOf}
+use Rattle.trace_writer.specs.Entries.{vectorBytes}
 use Rattle.trace_writer.proofs.Bits.{length-row, length-vectors}
 use borrow.Author.Needs.{needs}
 use Rattle.trace_writer.proofs.write.put_vectors.Statement.{statement}

@@ -1,7 +1,7 @@
 -- `dim` meets its contract: one test, each way. Assumes nothing.
 use borrow.Author.Tests.{eq-eqb, ne-eqb}
-use Rattle.trace_entries.proofs.dim.Statement.{statement}
-use Rattle.trace_entries.proofs.dim.Tie as tie
+use Rattle.trace_places.proofs.dim.Statement.{statement}
+use Rattle.trace_places.proofs.dim.Tie as tie
 
 returns : tie.Need-returns
 returns c = rw (eq-eqb _ _ (c .if1 .taken))

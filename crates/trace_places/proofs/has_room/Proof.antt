@@ -1,14 +1,14 @@
 -- `has_room` meets its contract: where no room is left for an entry the sum does not fit; else the test of the sum is moved to the other side. Assumes nothing.
-use Rattle.trace_entries.proofs.Judged.{and-off, leb-moved}
-use Rattle.trace_entries.specs.Places.{hasRoom}
+use Rattle.trace_places.proofs.Room.{and-off, leb-moved}
+use Rattle.trace_places.specs.Places.{hasRoom}
 use lib.Dec.{ltb}
 use mathlib.Core.Bool.{Bool, _&&_}
 use mathlib.Core.Path.{ap}
 use Prim.Native.Nat.{_+_, _-_, _<_}
 use borrow.Author.Tests.{lt-leb}
 use native.Mathlib.Omega.{arith}
-use Rattle.trace_entries.proofs.has_room.Statement.{statement}
-use Rattle.trace_entries.proofs.has_room.Tie as tie
+use Rattle.trace_places.proofs.has_room.Statement.{statement}
+use Rattle.trace_places.proofs.has_room.Tie as tie
 
 returns : tie.Need-returns
 unfolding hasRoom

@@ -9,8 +9,8 @@ use Rattle.cone.specs.declared.Cone.{Cone}
 use Rattle.cone.specs.declared.Settings.{Settings}
 use Rattle.cone.specs.declared.Steps.{Steps}
 use Rattle.trace_layout.specs.Records.{Record, exponents, shapeOk, stepOk}
-use Rattle.trace_writer.specs.declared.Entry.{Entry}
-use Rattle.trace_writer.specs.Entries.{recordOf}
+use Rattle.trace.specs.declared.Entry.{Entry}
+use Rattle.trace.specs.Entries.{recordOf}
 
 -- 02: "kind, dim1, dim2 (u32 each; 3 and 0 for kinds 1 and 2)", whatever the cone holds there
 abbrev pub dim1Of : Cone → ℕ

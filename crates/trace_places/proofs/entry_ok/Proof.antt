@@ -1,8 +1,8 @@
 -- `entry_ok` meets its contract: one row of tests, with what its three calls answer. Assumes nothing.
-use Rattle.trace_entries.specs.Places.{entryOk}
+use Rattle.trace_places.specs.Places.{entryOk}
 use borrow.Author.Needs.{needs}
-use Rattle.trace_entries.proofs.entry_ok.Statement.{statement}
-use Rattle.trace_entries.proofs.entry_ok.Tie as tie
+use Rattle.trace_places.proofs.entry_ok.Statement.{statement}
+use Rattle.trace_places.proofs.entry_ok.Tie as tie
 
 returns : tie.Need-returns
 unfolding entryOk

@@ -10,8 +10,8 @@ use Rattle.trace.specs.declared.Opened.{Opened}
 use Rattle.trace_layout.specs.Records.{shapeOk, stepOk, runsFor}
 use Rattle.trace_layout.specs.Traces.{mostRecords}
 use Rattle.trace.specs.Opening.{openOf}
-use Rattle.trace_writer.specs.declared.Entry.{Entry}
-use Rattle.trace_writer.specs.declared.Place.{Place}
+use Rattle.trace.specs.declared.Entry.{Entry}
+use Rattle.trace.specs.declared.Place.{Place}
 
 unfoldable pub openFront : List ℕ → ℕ → Opened
 openFront bs used = cond (leb used (length bs)) (openOf (take used bs)) (record { code = 9; edition = 0; count = 0; list = 0 })

@@ -1,9 +1,9 @@
 -- `open_front` meets its contract: a front that fits is judged, one that does not is refused. Assumes nothing.
 use borrow.Author.Tests.{le-leb, lt-leb}
-use Rattle.trace_entries.specs.Places.{openFront}
+use Rattle.trace_places.specs.Places.{openFront}
 use borrow.Author.Needs.{needs}
-use Rattle.trace_entries.proofs.open_front.Statement.{statement}
-use Rattle.trace_entries.proofs.open_front.Tie as tie
+use Rattle.trace_places.proofs.open_front.Statement.{statement}
+use Rattle.trace_places.proofs.open_front.Tie as tie
 
 returns : tie.Need-returns
 unfolding openFront

@@ -1,8 +1,8 @@
 -- `place_for` puts together what its calls answer. Assumes nothing.
-use Rattle.trace_entries.specs.Places.{placeWith}
+use Rattle.trace_places.specs.Places.{placeWith}
 use borrow.Author.Needs.{needs}
-use Rattle.trace_entries.proofs.place_for.Statement.{statement}
-use Rattle.trace_entries.proofs.place_for.Tie as tie
+use Rattle.trace_places.proofs.place_for.Statement.{statement}
+use Rattle.trace_places.proofs.place_for.Tie as tie
 
 returns : tie.Need-returns
 unfolding placeWith

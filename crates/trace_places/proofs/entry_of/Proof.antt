@@ -1,8 +1,8 @@
 -- `entry_of` meets its contract: each call's answer is put in its field. Assumes nothing.
-use Rattle.trace_entries.specs.Given.{entryOf}
+use Rattle.trace_places.specs.Given.{entryOf}
 use borrow.Author.Needs.{needs}
-use Rattle.trace_entries.proofs.entry_of.Statement.{statement}
-use Rattle.trace_entries.proofs.entry_of.Tie as tie
+use Rattle.trace_places.proofs.entry_of.Statement.{statement}
+use Rattle.trace_places.proofs.entry_of.Tie as tie
 
 returns : tie.Need-returns
 unfolding entryOf

@@ -1,0 +1,3 @@
+-- Tests of room that say the same (Room).
+pub mod Room
+pub mod Agree

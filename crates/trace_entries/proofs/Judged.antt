@@ -20,9 +20,10 @@ use Rattle.table.proofs.Settled.{trace-row-off}
 use Rattle.trace.specs.declared.Entry.{Entry}
 use Rattle.trace.specs.declared.Place.{Place}
 use Rattle.trace.specs.Entries.{recordOf}
-use Rattle.trace_writer.specs.Entries.{entryBytes, insertOf}
-use Rattle.trace_writer.proofs.Bits.{length-bitsOf}
-use Rattle.trace_writer.proofs.Parts.{entry-is-record, length-entry}
+use Rattle.record_writer.specs.Parts.{entryBytes}
+use Rattle.trace_writer.specs.Entries.{insertOf}
+use Rattle.record_writer.proofs.Bits.{length-bitsOf}
+use Rattle.record_writer.proofs.Parts.{entry-is-record, length-entry}
 use Rattle.trace_places.specs.Given.{canLay}
 use Rattle.trace_entries.specs.Writing.{goodFront, longer, appendRows}
 use Rattle.trace_places.specs.Places.{openFront, entryOk, hasRoom, placeWith, placeFor}

@@ -26,7 +26,7 @@ use Rattle.cone.specs.declared.Steps.{Steps}
 use Rattle.table.specs.Table.{settle}
 use Rattle.trace.specs.declared.Entry.{Entry}
 use Rattle.trace.specs.Entries.{settingsRow, recordOf}
-use Rattle.trace_writer.proofs.Bits.{length-bitsOf}
+use Rattle.record_writer.proofs.Bits.{length-bitsOf}
 use Rattle.trace_places.specs.Given.{dim1Of, dim2Of, entryOf, usedExps, givenOf, canLay}
 use Rattle.trace_entries.specs.Writing.{Left, refuse, leave, longer, appendRows, appendOf}
 use Rattle.trace_entries.specs.Values.{Passed}

@@ -4,12 +4,8 @@ use mathlib.Core.List.{List}
 use Prim.Native.Nat.{ℕ}
 use denote.Ref.{now}
 use Rattle.arith.specs.Outcomes.{OneOutcome}
-use Rattle.trace_writer.proofs.write.put_record.Reads as put-record
 use Rattle.trace_writer.proofs.write.put_trailer.Reads as put-trailer
 use Rattle.trace_writer.proofs.write.insert.Reads as insert
-
-pub put-record-agrees : OneOutcome put-record.Post {A = List ℕ} (λ κs s. now (s .0))
-put-record-agrees κs a x y s t p q = (refl, p ∙ sym q)
 
 pub put-trailer-agrees : OneOutcome put-trailer.Post {A = List ℕ} (λ κs s. now (s .0))
 put-trailer-agrees κs a x y s t p q = (refl, p ∙ sym q)

@@ -17,7 +17,8 @@ use Rattle.table.proofs.Settled.{refused, done}
 use Rattle.trace.specs.declared.Entry.{Entry}
 use Rattle.trace.specs.declared.Place.{Place}
 use Rattle.trace.specs.Entries.{recordOf}
-use Rattle.trace_writer.specs.Entries.{entryBytes, insertOf}
+use Rattle.record_writer.specs.Parts.{entryBytes}
+use Rattle.trace_writer.specs.Entries.{insertOf}
 use Rattle.trace_places.specs.Given.{entryOf, givenOf}
 use Rattle.trace_entries.specs.Writing.{leave, longer, appendRows, appendOf}
 use Rattle.trace_places.specs.Places.{placeFor}

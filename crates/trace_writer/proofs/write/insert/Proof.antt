@@ -1,5 +1,6 @@
 -- `insert` meets its contract: three stores, one after the other. Assumes nothing.
-use Rattle.trace_writer.specs.Entries.{entryBytes, endBytes, insertOf}
+use Rattle.record_writer.specs.Parts.{entryBytes}
+use Rattle.trace_writer.specs.Entries.{endBytes, insertOf}
 use lib.Seq.{sets}
 use Prim.Native.Nat.{ℕ, _+_, _*_}
 use mathlib.Core.List.{List}

@@ -1,11 +1,11 @@
 -- `put_results` meets its contract: the primal answer behind the dual one. Assumes nothing.
 use mathlib.Core.Path.{refl}
 use Rattle.words.specs.Words.{le}
-use Rattle.trace_writer.specs.Entries.{answerBytes}
+use Rattle.record_writer.specs.Parts.{answerBytes}
 use Rattle.words.proofs.Stores.{wrote-after}
 use borrow.Author.Needs.{needs}
-use Rattle.trace_writer.proofs.write.put_results.Statement.{statement}
-use Rattle.trace_writer.proofs.write.put_results.Tie as tie
+use Rattle.record_writer.proofs.put_results.Statement.{statement}
+use Rattle.record_writer.proofs.put_results.Tie as tie
 
 returns : tie.Need-returns
 unfolding le

@@ -8,10 +8,10 @@ use lib.ListN.{length, drop}
 use lib.Seq.{sets, length-sets}
 use Rattle.words.specs.Words.{le, rowBytes}
 use Rattle.words.proofs.Stores.{row-turn, row-begun, row-done}
-use Rattle.trace_writer.proofs.Bits.{length-bitsOf, bits-at}
+use Rattle.record_writer.proofs.Bits.{length-bitsOf, bits-at}
 use Rattle.trace.specs.Entries.{bitsOf}
-use Rattle.trace_writer.proofs.write.put_row.Statement.{statement}
-use Rattle.trace_writer.proofs.write.put_row.Tie as tie
+use Rattle.record_writer.proofs.put_row.Statement.{statement}
+use Rattle.record_writer.proofs.put_row.Tie as tie
 
 abbrev Inv-loop : tie.InvT-loop
 Inv-loop bytes₀ place row i₀ i-end bytes i =

@@ -3,8 +3,8 @@ use mathlib.Core.Path.{refl}
 use Rattle.words.specs.Words.{le}
 use Rattle.words.proofs.Stores.{wrote-after}
 use borrow.Author.Needs.{needs}
-use Rattle.trace_writer.proofs.write.put_answer.Statement.{statement}
-use Rattle.trace_writer.proofs.write.put_answer.Tie as tie
+use Rattle.record_writer.proofs.put_answer.Statement.{statement}
+use Rattle.record_writer.proofs.put_answer.Tie as tie
 
 returns : tie.Need-returns
 unfolding le

@@ -1,10 +1,10 @@
 -- `put_rule` meets its contract: edition 3 has one rule, the others none. Assumes nothing.
 use native.Mathlib.Omega.{arith}
 use Rattle.words.specs.Words.{le, rowBytes}
-use Rattle.trace_writer.proofs.Bits.{one-rule, no-rule}
+use Rattle.record_writer.proofs.Bits.{one-rule, no-rule}
 use borrow.Author.Needs.{needs}
-use Rattle.trace_writer.proofs.write.put_rule.Statement.{statement}
-use Rattle.trace_writer.proofs.write.put_rule.Tie as tie
+use Rattle.record_writer.proofs.put_rule.Statement.{statement}
+use Rattle.record_writer.proofs.put_rule.Tie as tie
 
 put-requires : tie.Need-put-requires
 put-requires c κs = omega (arith, one-rule _ (c .before .if1 .taken), c .before .before .before .pre)

@@ -10,12 +10,12 @@ use Rattle.words.specs.Runs.{runsSize}
 use Rattle.words.proofs.Stores.{wrote-after}
 use Rattle.trace_layout.specs.Records.{rulesIn, settingsIn, runsFor}
 use Rattle.trace.specs.Entries.{bitsOf}
-use Rattle.trace_writer.specs.Entries.{headRow, ruleRow, searchBytes, resultBytes, vectorBytes, entryBytes}
-use Rattle.trace_writer.proofs.Bits.{length-row, length-vectors}
-use Rattle.trace_writer.proofs.Parts.{length-head, length-rule, length-search, length-entry}
+use Rattle.record_writer.specs.Parts.{headRow, ruleRow, searchBytes, resultBytes, vectorBytes, entryBytes}
+use Rattle.record_writer.proofs.Bits.{length-row, length-vectors}
+use Rattle.record_writer.proofs.Parts.{length-head, length-rule, length-search, length-entry}
 use borrow.Author.Needs.{needs}
-use Rattle.trace_writer.proofs.write.put_record.Statement.{statement}
-use Rattle.trace_writer.proofs.write.put_record.Tie as tie
+use Rattle.record_writer.proofs.put_record.Statement.{statement}
+use Rattle.record_writer.proofs.put_record.Tie as tie
 
 -- ---- the places of the code, from the last part back to the start
 

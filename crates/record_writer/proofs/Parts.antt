@@ -11,10 +11,10 @@ use Rattle.words.specs.Runs.{runsSize, runsBytes}
 use Rattle.trace_layout.specs.Records.{rulesIn, settingsIn, bytesOf, runsFor, rowsIn}
 use Rattle.words.proofs.Words.{length-le, length-rowBytes}
 use Rattle.trace_layout.proofs.Records.{settings-most}
-use Rattle.trace_writer.proofs.Bits.{length-row, length-vectors}
+use Rattle.record_writer.proofs.Bits.{length-row, length-vectors}
 use Rattle.trace.specs.declared.Entry.{Entry}
 use Rattle.trace.specs.Entries.{bitsOf, settingsRow, recordOf}
-use Rattle.trace_writer.specs.Entries.{headRow, ruleRow, searchBytes, resultBytes, vectorBytes, entryBytes}
+use Rattle.record_writer.specs.Parts.{headRow, ruleRow, searchBytes, resultBytes, vectorBytes, entryBytes}
 
 grouped-six : (a b c d f g : List ℕ) → ((((a ++ b) ++ c) ++ d) ++ f) ++ g ≡ a ++ (b ++ (c ++ (d ++ (f ++ g))))
 grouped-six a b c d f g = simp append-assoc

@@ -4,10 +4,10 @@ use mathlib.Core.List.{_∷_, [], _++_}
 use native.Mathlib.Omega.{arith}
 use Rattle.words.specs.Words.{le, rowBytes}
 use Rattle.words.proofs.Stores.{wrote-after}
-use Rattle.trace_writer.proofs.Bits.{two-settings, no-settings}
+use Rattle.record_writer.proofs.Bits.{two-settings, no-settings}
 use borrow.Author.Needs.{needs}
-use Rattle.trace_writer.proofs.write.put_search.Statement.{statement}
-use Rattle.trace_writer.proofs.write.put_search.Tie as tie
+use Rattle.record_writer.proofs.put_search.Statement.{statement}
+use Rattle.record_writer.proofs.put_search.Tie as tie
 
 -- the places of the code: the flag, the start and the call's own
 abbrev flag-put : tie.After-struct-known2 → tie.After-put2

@@ -6,11 +6,11 @@ use lib.ListN.{length, length-append}
 use Rattle.words.specs.Words.{rowBytes}
 use Rattle.words.proofs.Stores.{wrote-after}
 use Rattle.trace.specs.Entries.{bitsOf}
-use Rattle.trace_writer.specs.Entries.{vectorBytes}
-use Rattle.trace_writer.proofs.Bits.{length-row, length-vectors}
+use Rattle.record_writer.specs.Parts.{vectorBytes}
+use Rattle.record_writer.proofs.Bits.{length-row, length-vectors}
 use borrow.Author.Needs.{needs}
-use Rattle.trace_writer.proofs.write.put_vectors.Statement.{statement}
-use Rattle.trace_writer.proofs.write.put_vectors.Tie as tie
+use Rattle.record_writer.proofs.put_vectors.Statement.{statement}
+use Rattle.record_writer.proofs.put_vectors.Tie as tie
 
 -- the places of the code, from the last row back to the start
 abbrev third-row : tie.After-put-row4 → tie.After-put-row3

@@ -10,7 +10,7 @@ use Rattle.words.proofs.Words.{length-rowBytes}
 use borrow.Author.Tests.{eq-eqb, ne-eqb}
 use Rattle.trace_layout.specs.Records.{rulesIn, settingsIn}
 use Rattle.trace.specs.Entries.{bitsOf}
-use Rattle.trace_writer.specs.Entries.{vectorBytes}
+use Rattle.record_writer.specs.Parts.{vectorBytes}
 
 pub length-bitsOf : (row : List Float) → length (bitsOf row) ≡ length row
 length-bitsOf [] = refl

@@ -9,15 +9,15 @@ use borrow.Author.Tests.{lt-ltb, le-ltb}
 use Rattle.arith.proofs.Branches.{and-left, false-not-true}
 use Rattle.words.specs.Words.{wordAt}
 use Rattle.trace.specs.declared.Shape.{Shape}
-use Rattle.trace.specs.declared.Opened.{Opened}
+use Rattle.trace_judge.specs.declared.Opened.{Opened}
 use Rattle.trace.specs.declared.Found.the-variants.{Record, Broken}
 use Rattle.trace_layout.specs.Records.{laidAt, recordAt}
 use Rattle.trace_layout.specs.Traces.{listAt, countAt, editionAt, offsetAt, trailerOk, walks, goodTrace}
-use Rattle.trace.specs.Opening.{openOf}
+use Rattle.trace_judge.specs.Opening.{openOf}
 use Rattle.trace.specs.Shapes.{shapeAt}
 use Rattle.trace_reader.specs.Reading.{foundFrom}
 use Rattle.trace_layout.proofs.Traces.{ends}
-use Rattle.trace.proofs.Walking.{record-is-laid, broken-is-not}
+use Rattle.trace.proofs.Shapes.{record-is-laid, broken-is-not}
 use Rattle.trace_layout.proofs.Entries.{entry-laid, entry-read}
 use Rattle.recorded.specs.Recorded.{recordedOf, refusedRecord, recordedIn}
 

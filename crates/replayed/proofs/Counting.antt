@@ -15,8 +15,8 @@ use Rattle.words.proofs.Stores.{sets-first}
 use Rattle.trace_layout.specs.Records.{Record, sizeAt, sizeIn}
 use Rattle.trace_layout.specs.Traces.{countAt, listAt, editionAt, trailerOk, walks, goodTrace, recordsIn, recordsOf}
 use Rattle.trace_layout.proofs.Traces.{ends}
-use Rattle.trace.specs.declared.Opened.{Opened}
-use Rattle.trace.specs.Opening.{openOf}
+use Rattle.trace_judge.specs.declared.Opened.{Opened}
+use Rattle.trace_judge.specs.Opening.{openOf}
 use Rattle.replayed.specs.Replay.{sameRecord, sameCount, noted, differing, differingIn, Noted, refuse, refusedWith, replayOf}
 use Rattle.replayed.proofs.Noting.{few}
 

@@ -13,7 +13,7 @@ use Rattle.arith.proofs.Branches.{and-left, and-right, false-not-true}
 use Rattle.words.specs.Words.{wordAt}
 use Rattle.words.proofs.Stores.{wrote-after}
 use Rattle.trace.specs.declared.Shape.{Shape}
-use Rattle.trace.specs.declared.Opened.{Opened}
+use Rattle.trace_judge.specs.declared.Opened.{Opened}
 use Rattle.trace.specs.declared.Found.{Found}
 use Rattle.trace.specs.declared.Found.the-variants.{Record, Broken}
 use Rattle.trace_layout.specs.Records.{kindAt, dim1At, dim2At, flagAt, laidAt, recordAt, sizeAt, sizeIn}
@@ -24,9 +24,10 @@ use Rattle.trace_layout.proofs.Traces.{ends}
 use Rattle.cone.specs.Codes.{numelOf}
 use Rattle.recorded.specs.declared.Recorded.{Recorded}
 use Rattle.recorded.specs.Recorded.{coneOf, recordedOf}
-use Rattle.trace.specs.Opening.{openOf}
+use Rattle.trace_judge.specs.Opening.{openOf}
 use Rattle.trace.specs.Shapes.{shapeAt}
-use Rattle.trace.proofs.Walking.{record-is-laid, broken-is-not, not-laid, other-entry, walked-on}
+use Rattle.trace.proofs.Shapes.{record-is-laid, broken-is-not}
+use Rattle.trace_judge.proofs.Walking.{not-laid, other-entry, walked-on}
 use Rattle.trace_reader.specs.Reading.{foundFrom, behindFound, placeAfter}
 use Rattle.recorded.proofs.Numbered.{edition-is, list-is}
 use Rattle.replayed.specs.Replay.{sameRecord, noted, differing, differingIn}

@@ -7,7 +7,7 @@ use lib.ListN.{length, take, drop}
 use Rattle.table.specs.Table.{traceRow, settle}
 use Rattle.trace_layout.specs.Records.{Record, sizeIn}
 use Rattle.trace_layout.specs.Traces.{editionAt, goodTrace, recordsIn, recordsOf}
-use Rattle.trace.specs.declared.Opened.{Opened}
+use Rattle.trace_judge.specs.declared.Opened.{Opened}
 use Rattle.recorded.specs.Recorded.{recordedOf}
 use Rattle.rerun.specs.Rerun.{agreesOf}
 use Rattle.replayed.specs.declared.Replayed.{Replayed}

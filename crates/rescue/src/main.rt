@@ -7,9 +7,9 @@ use libc::STDERR_FILENO;
 use libc::STDOUT_FILENO;
 use rescue_file::edition_of;
 use rescue_file::put_rescue;
-use trace::NEWEST_EDITION;
 use trace_file::read_argument;
 use trace_file::write_argument;
+use trace_judge::NEWEST_EDITION;
 use words::front;
 
 // One byte more than a file may have, so that a larger one shows. The `ensures` gives the length alone, which lending the array needs.

@@ -12,8 +12,8 @@ use Rattle.table.specs.Table.{traceRow}
 use Rattle.table.proofs.Settled.{refused, through, trace-row-off}
 use Rattle.words.specs.Words.{AllBelow}
 use Rattle.words.proofs.Stores.{sets-first, cut-is}
-use Rattle.trace.specs.declared.Opened.{Opened}
-use Rattle.trace.specs.Opening.{openOf}
+use Rattle.trace_judge.specs.declared.Opened.{Opened}
+use Rattle.trace_judge.specs.Opening.{openOf}
 use Rattle.trace_layout.specs.Traces.{known, recordsBytes, offsetsFrom, goodTrace}
 use Rattle.trace_layout.proofs.Traces.{length-offsets}
 use Rattle.trace_sealed.specs.Seal.{sealOf}

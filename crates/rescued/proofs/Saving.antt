@@ -12,8 +12,8 @@ use Rattle.words.specs.Words.{wordAt, AllBelow}
 use Rattle.trace_layout.specs.Traces.{backMark, known, recordsBytes, traceOf, editionAt, goodTrace, recordsOf}
 use Rattle.trace_layout.specs.Inverses.{Makes}
 use Rattle.trace_layout.proofs.Traces.{good-ends, good-is-written}
-use Rattle.trace.specs.declared.Trailer.{Trailer}
-use Rattle.trace.specs.Opening.{trailerAt}
+use Rattle.trace_judge.specs.declared.Trailer.{Trailer}
+use Rattle.trace_judge.specs.Opening.{trailerAt}
 use Rattle.trace_sealed.proofs.Sealing.{length-trace}
 use Rattle.whole_records.proofs.Whole.{whole-few, whole-laid, whole-inside}
 use Rattle.whole_records.proofs.Longest.{whole-of-good}

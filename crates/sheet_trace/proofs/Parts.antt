@@ -9,8 +9,8 @@ use lib.ListN.{length}
 use borrow.Author.Tests.{le-leb, lt-leb}
 use Rattle.words.specs.Words.{AllBelow}
 use Rattle.trace_layout.specs.Traces.{editionAt, goodTrace, recordsOf}
-use Rattle.trace.specs.declared.Opened.{Opened}
-use Rattle.trace.specs.Opening.{openOf}
+use Rattle.trace_judge.specs.declared.Opened.{Opened}
+use Rattle.trace_judge.specs.Opening.{openOf}
 use Rattle.whole_records.specs.Whole.{wholeRecords}
 use Rattle.whole_records.proofs.Longest.{whole-holds}
 use Rattle.sheet_counts.specs.declared.Largest.{Largest}

@@ -12,8 +12,8 @@ use Rattle.table.specs.Table.{traceRow}
 use Rattle.table.proofs.Settled.{refused, through, trace-row-off}
 use Rattle.words.specs.Words.{AllBelow}
 use Rattle.words.proofs.Stores.{wrote-after, sets-first, cut-is}
-use Rattle.trace.specs.declared.Opened.{Opened}
-use Rattle.trace.specs.Opening.{openOf}
+use Rattle.trace_judge.specs.declared.Opened.{Opened}
+use Rattle.trace_judge.specs.Opening.{openOf}
 use Rattle.trace_layout.specs.Records.{Record, bytesOf}
 use Rattle.trace_layout.specs.Traces.{recordsBytes, offsetsFrom, countAt, editionAt, listAt, goodTrace, recordsOf}
 use Rattle.trace_layout.proofs.Traces.{length-offsets, good-count}

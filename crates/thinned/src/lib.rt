@@ -10,7 +10,7 @@ use firsts::clear;
 use firsts::gather;
 use firsts::move_down;
 use table::trace_row;
-use trace::judge::open;
+use trace_judge::open;
 use trace_sealed::seal;
 
 // What a thinning answers: its number, the records kept and dropped, the new trace's length.

@@ -11,9 +11,6 @@ use Rattle.trace.proofs.layout.step_ok.Reads as step-ok
 use Rattle.trace.proofs.layout.shape_at.Reads as shape-at
 use Rattle.trace.proofs.layout.found_at.Reads as found-at
 use Rattle.trace.proofs.layout.record_at.Reads as record-at
-use Rattle.trace.proofs.judge.known.Reads as known
-use Rattle.trace.proofs.judge.trailer_at.Reads as trailer-at
-use Rattle.trace.proofs.judge.open.Reads as opening
 
 pub rules-in-agrees : OneAnswer rules-in.Post
 rules-in-agrees κs a x y s t p q = p ∙ sym q
@@ -44,12 +41,3 @@ found-at-agrees κs a x y s t p q = p ∙ sym q
 
 pub record-at-agrees : OneAnswer record-at.Post
 record-at-agrees κs a x y s t p q = p ∙ sym q
-
-pub known-agrees : OneAnswer known.Post
-known-agrees κs a x y s t p q = p ∙ sym q
-
-pub trailer-at-agrees : OneAnswer trailer-at.Post
-trailer-at-agrees κs a x y s t p q = p ∙ sym q
-
-pub open-agrees : OneAnswer opening.Post
-open-agrees κs a x y s t p q = p ∙ sym q

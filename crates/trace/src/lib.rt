@@ -1,17 +1,10 @@
 // A trace of step searches: records from byte 0, the list of their offsets, and a trailer that points back to the list. 02, Order 1.
-pub mod judge;
 pub mod layout;
 
 // `STEP` and `BACK`, as numbers of four bytes.
 pub const STEP_MARK: u32 = 0x50455453;
 
 pub const BACK_MARK: u32 = 0x4b434142;
-
-// 02, Order 9: "New traces are edition 3"
-pub const NEWEST_EDITION: u32 = 3;
-
-// 02: "At most 4,096 records"
-pub const MOST_RECORDS: u32 = 4096;
 
 // The numbers that a record's parts depend on, and its whole length.
 pub struct Shape {
@@ -26,22 +19,6 @@ pub struct Shape {
 pub enum Found {
     Record(Shape),
     Broken,
-}
-
-// What the last twenty bytes say.
-pub struct Trailer {
-    pub list: u64,
-    pub count: u32,
-    pub edition: u32,
-    pub mark: u32,
-}
-
-// A trace that was judged: 0 or 9, its edition and count, and where its records end.
-pub struct Opened {
-    pub code: u32,
-    pub edition: u32,
-    pub count: u32,
-    pub list: u64,
 }
 
 // The numbers of a record beside its vectors: of a double, its bits.

@@ -13,7 +13,7 @@ use Rattle.words.specs.Words.{AllBelow}
 use Rattle.words.specs.Runs.{runsSize}
 use Rattle.trace_layout.specs.Records.{Record, bytesOf, sizeIn, runsFor, exponents, shapeOk, stepOk}
 use Rattle.trace_layout.specs.Traces.{mostRecords, listAt, countAt, editionAt, goodTrace, recordsOf}
-use Rattle.trace.specs.Opening.{openOf}
+use Rattle.trace_judge.specs.Opening.{openOf}
 use Rattle.trace_layout.proofs.Growing.{old-count, old-length, grown-length, grown-stored}
 use Rattle.table.specs.Table.{traceRow}
 use Rattle.table.proofs.Settled.{trace-row-off}

@@ -1,7 +1,7 @@
 -- What opening a trace tells a caller. Definitions only.
 use Prim.Native.Nat.{ℕ}
 use mathlib.Core.List.{List}
-use Rattle.trace.specs.Opening.{openOf}
+use Rattle.trace_judge.specs.Opening.{openOf}
 use Rattle.trace_entries.specs.declared.Opened.{Opened}
 
 -- 02: "9 a trace or record that breaks the layout". Where the list stands is the reader's own

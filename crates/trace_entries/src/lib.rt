@@ -9,8 +9,8 @@ use algebra::vector::head;
 use cone::Cone;
 use cone::Settings;
 use cone::Steps;
-use trace::NEWEST_EDITION;
 use trace::layout::exponents;
+use trace_judge::NEWEST_EDITION;
 use trace_places::entry_of;
 use trace_places::place_for;
 use trace_writer::write::insert;
@@ -34,7 +34,7 @@ pub struct Opened {
 pub fn open(trace: &[u8]) -> Opened
     ensures { λ r. ⌜ r ≡ openedOf (now (trace .entry)) ⌝ }
 {
-    let opened = trace::judge::open(trace);
+    let opened = trace_judge::open(trace);
     Opened {
         code: opened.code,
         edition: opened.edition,

@@ -6,10 +6,10 @@ use lib.Dec.{eqb, leb, ltb}
 use lib.ListN.{length, take}
 use Rattle.table.specs.Table.{traceRow}
 use Rattle.words.specs.Runs.{runsSize}
-use Rattle.trace.specs.declared.Opened.{Opened}
+use Rattle.trace_judge.specs.declared.Opened.{Opened}
 use Rattle.trace_layout.specs.Records.{shapeOk, stepOk, runsFor}
 use Rattle.trace_layout.specs.Traces.{mostRecords}
-use Rattle.trace.specs.Opening.{openOf}
+use Rattle.trace_judge.specs.Opening.{openOf}
 use Rattle.trace.specs.declared.Entry.{Entry}
 use Rattle.trace.specs.declared.Place.{Place}
 

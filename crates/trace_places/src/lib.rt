@@ -11,11 +11,11 @@ use cone::Steps;
 use double::to_bits;
 use table::trace_row;
 use trace::Entry;
-use trace::MOST_RECORDS;
 use trace::Place;
 use trace::layout::shape_ok;
 use trace::layout::size_for;
 use trace::layout::step_ok;
+use trace_judge::MOST_RECORDS;
 use words::front;
 
 // A dim that is written: the cone's own for kind 3.
@@ -69,13 +69,13 @@ fn entry_ok(edition: u32, x: Entry, ndz: usize, nds: usize, nz: usize, ns: usize
 }
 
 // The trace at the front of a slice, judged.
-fn open_front(trace: &[u8], used: usize) -> trace::Opened
+fn open_front(trace: &[u8], used: usize) -> trace_judge::Opened
     ensures { λ r. ⌜ r ≡ openFront (now (trace .entry)) used ⌝ }
 {
     if used <= trace.len() {
-        return trace::judge::open(front(trace, used));
+        return trace_judge::open(front(trace, used));
     }
-    trace::Opened {
+    trace_judge::Opened {
         code: 9,
         edition: 0,
         count: 0,

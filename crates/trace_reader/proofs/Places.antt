@@ -12,7 +12,7 @@ use Rattle.trace_layout.specs.Traces.{listAt, editionAt}
 use Rattle.trace.specs.Shapes.{shapeAt}
 use Rattle.trace_reader.specs.Reading.{foundFrom, behindFound, placeAfter}
 use Rattle.trace_layout.proofs.Records.{found, size-least}
-use Rattle.trace.proofs.Walking.{record-is-laid}
+use Rattle.trace.proofs.Shapes.{record-is-laid}
 
 pub found-inside : (bs : List ℕ) (at : ℕ) (s : Shape) → foundFrom bs at ≡ Record s → at + s .size ≤ length bs
 unfolding foundFrom shapeAt

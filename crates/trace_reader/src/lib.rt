@@ -4,8 +4,8 @@
 ghost use mathlib.Core.Path.{_≡_};
 ghost use Rattle.trace_reader.specs.Reading.{foundFrom, placeAfter};
 use trace::Found;
-use trace::judge::trailer_at;
 use trace::layout::record_at;
+use trace_judge::trailer_at;
 
 pub struct Reader<'a> {
     pub trace: &'a [u8],

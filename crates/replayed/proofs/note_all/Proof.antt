@@ -7,7 +7,7 @@ use native.Mathlib.Omega.{arith}
 use lib.ListN.{length, take, drop}
 use lib.Seq.{sets}
 use borrow.Author.Needs.{needs}
-use Rattle.trace.specs.declared.Opened.{Opened}
+use Rattle.trace_judge.specs.declared.Opened.{Opened}
 use Rattle.trace.specs.declared.Found.the-variants.{Record}
 use Rattle.trace_reader.specs.Reading.{foundFrom}
 use Rattle.replayed.specs.Replay.{differingIn}

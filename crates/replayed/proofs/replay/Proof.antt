@@ -7,7 +7,7 @@ use lib.ListN.{length, take}
 use lib.Seq.{length-take-le, length-sets}
 use borrow.Author.Needs.{needs}
 use Rattle.words.proofs.Stores.{cut-is}
-use Rattle.trace.specs.declared.Opened.{Opened}
+use Rattle.trace_judge.specs.declared.Opened.{Opened}
 use Rattle.replayed.specs.declared.Replayed.{Replayed}
 use Rattle.replayed.specs.Replay.{Noted, differingIn}
 use Rattle.replayed.proofs.Counting.{found-most, found-few, refused-row, room, replayed-row}

@@ -9,8 +9,8 @@ use lib.Seq.{sets, length-take-le}
 use borrow.Author.Needs.{needs}
 use Rattle.words.specs.Words.{AllBelow}
 use Rattle.words.proofs.Words.{below-of-places}
-use Rattle.trace.specs.declared.Opened.{Opened}
-use Rattle.trace.specs.Opening.{openOf}
+use Rattle.trace_judge.specs.declared.Opened.{Opened}
+use Rattle.trace_judge.specs.Opening.{openOf}
 use Rattle.whole_records.specs.declared.Walked.{Walked}
 use Rattle.whole_records.specs.Whole.{walkedOf}
 use Rattle.rescued.specs.declared.Rescued.{Rescued}

@@ -9,7 +9,7 @@ use denote.Ref.{now}
 use borrow.Author.Needs.{needs}
 use Rattle.words.specs.Words.{AllBelow}
 use Rattle.words.proofs.Words.{below-of-places}
-use Rattle.trace.specs.declared.Opened.{Opened}
+use Rattle.trace_judge.specs.declared.Opened.{Opened}
 use Rattle.sheet_counts.specs.Counts.{countsOf}
 use Rattle.sheet_trace.proofs.Parts.{too-large, broken, no-part, no-counts, entries-are, whole-part}
 use Rattle.sheet_trace.proofs.one_file.Statement.{statement}

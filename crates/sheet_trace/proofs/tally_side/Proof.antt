@@ -11,7 +11,7 @@ use Rattle.words.specs.Words.{wordAt, AllBelow}
 use Rattle.words.proofs.Words.{below-of-places}
 use Rattle.trace.specs.declared.Shape.{Shape}
 use Rattle.trace.specs.Shapes.{shapeAt, foundAt}
-use Rattle.trace.proofs.Walking.{record-is-laid, broken-is-not}
+use Rattle.trace.proofs.Shapes.{record-is-laid, broken-is-not}
 use Rattle.trace_layout.specs.Records.{kindAt, dim1At, dim2At, flagAt, laidAt, sizeAt}
 use Rattle.trace_layout.proofs.Records.{size-least}
 use Rattle.sheet_counts.specs.declared.Largest.{Largest}

@@ -10,8 +10,8 @@ use lib.Seq.{length-take-le}
 use borrow.Author.Needs.{needs}
 use Rattle.words.specs.Words.{AllBelow}
 use Rattle.words.proofs.Words.{below-of-places}
-use Rattle.trace.specs.declared.Opened.{Opened}
-use Rattle.trace.specs.Opening.{openOf}
+use Rattle.trace_judge.specs.declared.Opened.{Opened}
+use Rattle.trace_judge.specs.Opening.{openOf}
 use Rattle.trace_layout.specs.Traces.{goodTrace}
 use Rattle.firsts.specs.declared.Chosen.{Chosen}
 use Rattle.firsts.specs.Pieces.{piecesIn}

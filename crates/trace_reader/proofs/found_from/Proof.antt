@@ -1,5 +1,5 @@
 -- `found_from` meets its contract: edition and end come from the trailer. Assumes nothing.
-use Rattle.trace.specs.Opening.{trailerAt}
+use Rattle.trace_judge.specs.Opening.{trailerAt}
 use Rattle.trace_reader.specs.Reading.{foundFrom}
 use borrow.Author.Needs.{needs}
 use Rattle.trace_reader.proofs.found_from.Statement.{statement}

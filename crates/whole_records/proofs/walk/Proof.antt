@@ -11,7 +11,7 @@ use Rattle.words.specs.Words.{AllBelow}
 use Rattle.words.proofs.Words.{below-of-places}
 use Rattle.trace.specs.declared.Shape.{Shape}
 use Rattle.trace.specs.Shapes.{shapeAt, foundAt}
-use Rattle.trace.proofs.Walking.{record-is-laid, broken-is-not}
+use Rattle.trace.proofs.Shapes.{record-is-laid, broken-is-not}
 use Rattle.trace_layout.specs.Records.{laidAt, sizeAt}
 use Rattle.whole_records.proofs.Walking.{Reached, begun, turn-inside, turned, walked, all-listed, none-laid, none-more}
 use Rattle.whole_records.proofs.walk.Statement.{statement}

@@ -3,18 +3,36 @@ ghost use mathlib.Core.Path.{_≡_};
 ghost use Prim.Native.Nat.{_+_, _*_, _-_, _≤_};
 ghost use lib.Dec.{eqb};
 ghost use Rattle.trace_layout.specs.Traces.{known, walks};
-ghost use Rattle.trace.specs.Opening.{trailerAt, trailerOkWith, goodWith, openOf};
-use super::BACK_MARK;
-use super::Found;
-use super::MOST_RECORDS;
-use super::NEWEST_EDITION;
-use super::Opened;
-use super::Trailer;
-use super::layout::found_at;
+ghost use Rattle.trace_judge.specs.Opening.{trailerAt, trailerOkWith, goodWith, openOf};
+use trace::BACK_MARK;
+use trace::Found;
+use trace::layout::found_at;
 use words::behind;
 use words::front;
 use words::u32_at;
 use words::u64_at;
+
+// 02, Order 9: "New traces are edition 3"
+pub const NEWEST_EDITION: u32 = 3;
+
+// 02: "At most 4,096 records"
+pub const MOST_RECORDS: u32 = 4096;
+
+// What the last twenty bytes say.
+pub struct Trailer {
+    pub list: u64,
+    pub count: u32,
+    pub edition: u32,
+    pub mark: u32,
+}
+
+// A trace that was judged: 0 or 9, its edition and count, and where its records end.
+pub struct Opened {
+    pub code: u32,
+    pub edition: u32,
+    pub count: u32,
+    pub list: u64,
+}
 
 pub fn known(edition: u32) -> bool
     ensures { λ r. ⌜ r ≡ known edition ⌝ }

@@ -1,8 +1,8 @@
 -- `trailer_ok` meets its contract. Assumes nothing.
-use Rattle.trace.specs.Opening.{trailerOkWith}
+use Rattle.trace_judge.specs.Opening.{trailerOkWith}
 use borrow.Author.Needs.{needs}
-use Rattle.trace.proofs.judge.trailer_ok.Statement.{statement}
-use Rattle.trace.proofs.judge.trailer_ok.Tie as tie
+use Rattle.trace_judge.proofs.trailer_ok.Statement.{statement}
+use Rattle.trace_judge.proofs.trailer_ok.Tie as tie
 
 returns : tie.Need-returns
 unfolding trailerOkWith

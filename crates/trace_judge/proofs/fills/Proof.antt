@@ -3,10 +3,10 @@ use mathlib.Core.Path.{_≡_, sym}
 use Prim.Native.Nat.{_+_, _*_}
 use native.Mathlib.Omega.{arith}
 use borrow.Author.Tests.{ne-eqb}
-use Rattle.trace.proofs.Walking.{eqb-moved}
+use Rattle.trace_judge.proofs.Walking.{eqb-moved}
 use borrow.Author.Needs.{needs}
-use Rattle.trace.proofs.judge.fills.Statement.{statement}
-use Rattle.trace.proofs.judge.fills.Tie as tie
+use Rattle.trace_judge.proofs.fills.Statement.{statement}
+use Rattle.trace_judge.proofs.fills.Tie as tie
 
 returns : tie.Need-returns
 returns c = let a = c .before .args in sym (ne-eqb (a .list + 8 * a .count + 20) (a .n) (λ e. omega arith))

@@ -1,8 +1,8 @@
 -- `known` meets its contract. Assumes nothing.
 use mathlib.Core.Path.{refl}
 use Rattle.trace_layout.specs.Traces.{known}
-use Rattle.trace.proofs.judge.known.Statement.{statement}
-use Rattle.trace.proofs.judge.known.Tie as tie
+use Rattle.trace_judge.proofs.known.Statement.{statement}
+use Rattle.trace_judge.proofs.known.Tie as tie
 
 returns : tie.Need-returns
 unfolding known

@@ -5,8 +5,8 @@ use mathlib.Core.List.{List}
 use lib.Dec.{eqb, leb}
 use lib.ListN.{length, take, drop}
 use Rattle.words.specs.Words.{wordAt}
-use Rattle.trace.specs.declared.Trailer.{Trailer}
-use Rattle.trace.specs.declared.Opened.{Opened}
+use Rattle.trace_judge.specs.declared.Trailer.{Trailer}
+use Rattle.trace_judge.specs.declared.Opened.{Opened}
 use Rattle.trace_layout.specs.Traces.{backMark, mostRecords, known, listAt, countAt, editionAt, walks, goodTrace}
 
 unfoldable pub trailerAt : List ℕ → Trailer

@@ -10,11 +10,8 @@ use lib.Seq.{drop-drop}
 use borrow.Author.Tests.{eq-eqb, ne-eqb, eqb-true, eqb-false}
 use Rattle.words.specs.Words.{wordAt}
 use Rattle.words.proofs.Runs.{word-behind}
-use Rattle.trace.specs.declared.Shape.{Shape}
-use Rattle.trace.specs.declared.Found.the-variants.{Record, Broken}
 use Rattle.trace_layout.specs.Records.{sizeAt, laidAt}
 use Rattle.trace_layout.specs.Traces.{walks}
-use Rattle.trace.specs.Shapes.{shapeAt, foundAt, pickFound}
 use Rattle.trace_layout.proofs.Records.{found}
 
 -- ---- two numbers, one of them moved
@@ -25,24 +22,6 @@ eqb-same false a b c d h to back = sym (ne-eqb c d (λ e. eqb-false a b h (back 
 
 pub eqb-moved : (a b n : ℕ) → b ≤ n → eqb a (n - b) ≡ eqb (a + b) n
 eqb-moved a b n h = eqb-same (eqb a (n - b)) a (n - b) (a + b) n refl (λ e. omega arith) (λ e. omega arith)
-
--- ---- what was found
-
-picked-record : (x : Bool) (s : Shape) (got : Shape) → pickFound x (Record s) Broken ≡ Record got → (x ≡ true) × (got ≡ s)
-picked-record true s got h = (refl, cc)
-picked-record false s got h = let z : _≡_ {A = ℕ} 0 1 = cc in absurd (omega arith)
-
-picked-broken : (x : Bool) (s : Shape) → pickFound x (Record s) Broken ≡ Broken → x ≡ false
-picked-broken true s h = let z : _≡_ {A = ℕ} 0 1 = cc in absurd (omega arith)
-picked-broken false s h = refl
-
-pub record-is-laid : (e : ℕ) (t : List ℕ) (got : Shape) → foundAt e t ≡ Record got → (laidAt e t ≡ true) × (got ≡ shapeAt e t)
-unfolding foundAt
-record-is-laid e t got h = picked-record (laidAt e t) (shapeAt e t) got h
-
-pub broken-is-not : (e : ℕ) (t : List ℕ) → foundAt e t ≡ Broken → laidAt e t ≡ false
-unfolding foundAt
-broken-is-not e t h = picked-broken (laidAt e t) (shapeAt e t) h
 
 -- ---- a turn: what is left to walk
 

@@ -1,11 +1,11 @@
 -- `good_with` meets its contract: the trailer first, then the walk. Assumes nothing.
 use borrow.Author.Tests.{not-true, not-false}
 use mathlib.Core.Path.{sym, _∙_}
-use Rattle.trace.specs.Opening.{goodWith}
-use Rattle.trace.proofs.Opening.{few-with}
+use Rattle.trace_judge.specs.Opening.{goodWith}
+use Rattle.trace_judge.proofs.Opening.{few-with}
 use borrow.Author.Needs.{needs}
-use Rattle.trace.proofs.judge.good_with.Statement.{statement}
-use Rattle.trace.proofs.judge.good_with.Tie as tie
+use Rattle.trace_judge.proofs.good_with.Statement.{statement}
+use Rattle.trace_judge.proofs.good_with.Tie as tie
 
 returns : tie.Need-returns
 unfolding goodWith

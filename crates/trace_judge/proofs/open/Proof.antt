@@ -1,8 +1,8 @@
 -- `open` meets its contract. Assumes nothing.
-use Rattle.trace.proofs.Opening.{opened, refused}
+use Rattle.trace_judge.proofs.Opening.{opened, refused}
 use borrow.Author.Needs.{needs}
-use Rattle.trace.proofs.judge.open.Statement.{statement}
-use Rattle.trace.proofs.judge.open.Tie as tie
+use Rattle.trace_judge.proofs.open.Statement.{statement}
+use Rattle.trace_judge.proofs.open.Tie as tie
 
 returns : tie.Need-returns
 returns c = opened _ _ (c .before .before .trailer-at .ensures) _ (c .before .good-with .ensures) (c .if1 .taken)

@@ -1,8 +1,8 @@
 -- `trailer_at` meets its contract: each number is read once. Assumes nothing.
-use Rattle.trace.specs.Opening.{trailerAt}
+use Rattle.trace_judge.specs.Opening.{trailerAt}
 use borrow.Author.Needs.{needs}
-use Rattle.trace.proofs.judge.trailer_at.Statement.{statement}
-use Rattle.trace.proofs.judge.trailer_at.Tie as tie
+use Rattle.trace_judge.proofs.trailer_at.Statement.{statement}
+use Rattle.trace_judge.proofs.trailer_at.Tie as tie
 
 returns : tie.Need-returns
 unfolding trailerAt

@@ -1,19 +1,20 @@
 -- `walk` meets its contract. The loop's invariant: what is left to walk decides the whole walk, and the
 -- place is in the body. The measure is the count of records left. Assumes nothing.
 use borrow.Author.Needs.{needs}
-use Rattle.trace.proofs.Walking.{record-is-laid, broken-is-not, not-laid, other-entry, walked-on, lies-inside, walked-all}
+use Rattle.trace.proofs.Shapes.{record-is-laid, broken-is-not}
+use Rattle.trace_judge.proofs.Walking.{not-laid, other-entry, walked-on, lies-inside, walked-all}
 use mathlib.Core.Path.{_≡_, sym, ap, _∙_}
 use mathlib.Core.Bool.{true}
 use mathlib.Core.List.{List}
 use Rattle.trace.specs.declared.Shape.{Shape}
 use Rattle.trace_layout.specs.Records.{laidAt, sizeAt}
 use Rattle.trace.specs.Shapes.{shapeAt, foundAt}
 use Prim.Native.Nat.{ℕ, _+_, _*_, _-_, _≤_}
 use lib.ListN.{length, drop}
 use native.Mathlib.Omega.{arith}
 use Rattle.trace_layout.specs.Traces.{walks}
-use Rattle.trace.proofs.judge.walk.Statement.{statement}
-use Rattle.trace.proofs.judge.walk.Tie as tie
+use Rattle.trace_judge.proofs.walk.Statement.{statement}
+use Rattle.trace_judge.proofs.walk.Tie as tie
 
 abbrev Inv-loop : tie.InvT-loop
 Inv-loop edition body entries count at₀ i₀ at i =

@@ -6,10 +6,10 @@ use mathlib.Core.List.{List}
 use lib.Dec.{eqb, leb}
 use borrow.Author.Tests.{leb-true}
 use Rattle.arith.proofs.Branches.{and-left, and-right}
-use Rattle.trace.specs.declared.Trailer.{Trailer}
-use Rattle.trace.specs.declared.Opened.{Opened}
+use Rattle.trace_judge.specs.declared.Trailer.{Trailer}
+use Rattle.trace_judge.specs.declared.Opened.{Opened}
 use Rattle.trace_layout.specs.Traces.{backMark, mostRecords, known, trailerOk, goodTrace}
-use Rattle.trace.specs.Opening.{trailerAt, trailerOkWith, goodWith, openOf}
+use Rattle.trace_judge.specs.Opening.{trailerAt, trailerOkWith, goodWith, openOf}
 
 pub few-with : (n : ℕ) (t : Trailer) → trailerOkWith n t ≡ true → t .count ≤ 4096
 unfolding trailerOkWith

@@ -14,7 +14,7 @@ use Rattle.trace_layout.specs.Records.{Record, runsFor, ruleAt, sizeAt, recordA
 use Rattle.trace_layout.specs.Traces.{listAt, countAt, editionAt, recordsIn, recordsOf}
 use Rattle.trace_layout.proofs.Fields.{rule-of}
 use Rattle.trace.specs.Entries.{recordOf}
-use Rattle.trace_writer.proofs.Bits.{no-rule}
+use Rattle.record_writer.proofs.Bits.{no-rule}
 use Rattle.trace_places.specs.Given.{dim1Of, dim2Of, entryOf, usedExps, canLay}
 use Rattle.trace_entries.specs.Writing.{refuse, leave, goodFront, longer, appendRows, appendOf}
 use Rattle.trace_entries.proofs.Judged.{can-lay, free, longer-length}

@@ -179,7 +179,7 @@ def checked(name, files):
 def write(folder, files, lines):
     folder.mkdir(parents=True)
     for n, data in enumerate(files, 1):
-        (folder / ("%03d" % n)).write_bytes(data)
+        (folder / ("%04d" % n)).write_bytes(data)
     folder.with_name(folder.name + ".text").write_text("".join(line + "\n" for line in lines), encoding="ascii")
 
 

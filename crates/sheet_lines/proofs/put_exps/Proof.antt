@@ -6,7 +6,7 @@ use Prim.Native.Nat.{ℕ, _+_, _*_, _-_, _≤_, _<_}
 use native.Mathlib.Omega.{arith}
 use lib.ListN.{getD}
 use Rattle.sheet_lines.specs.Text.{countLine, expLines}
-use Rattle.sheet_lines.proofs.Writing.{count-most}
+use Rattle.sheet_lines.proofs.Writing.{Wrote, count-most}
 use Rattle.sheet_lines.proofs.Lines.{Reached, begun, turned, done, exps-here, exps-none}
 use Rattle.sheet_lines.proofs.put_exps.Statement.{statement}
 use Rattle.sheet_lines.proofs.put_exps.Tie as tie
@@ -28,6 +28,7 @@ given c = c .before .before .before
 put-count-requires : tie.Need-put-count-requires Inv-loop μ-loop
 put-count-requires c κs =
     let l = c .before .before .before in
+    let field : 1 ≤ 2046 - l .loop .i = omega arith in
     omega (arith, l .loop .inv .0, l .loop .inv .1, l .loop .inv .2 .all, given l .pre .0)
 
 loop-again : tie.Need-loop-again Inv-loop μ-loop
@@ -39,11 +40,12 @@ loop-again c =
     let field = 2046 - l .i in
     let some : 0 < 2046 - l .i = omega arith in
     let fewer : 2046 - l .i - 1 ≡ 2046 - (l .i + 1) = omega arith in
-    let line = countLine (a .primal) field (getD row (field + 1) 0) in (
+    let line = countLine (a .primal) field (getD row (field + 1) 0) in
+    let wrote : Wrote (l .text) (p .put-count .last .0) (l .at) (p .put-count .result) line = p .put-count .ensures in (
       omega arith,
-      omega (arith, p .put-count .ensures .0, count-most (a .primal) field (getD row (field + 1) 0), l .inv .1),
+      omega (arith, wrote .0, count-most (a .primal) field (getD row (field + 1) 0), l .inv .1),
       turned (a .text .now) (l .text) (p .put-count .last .0) (a .place) (l .at) (p .put-count .result) (expLines (a .primal) row 2046)
-          line (expLines (a .primal) row (2046 - (l .i + 1))) (expLines (a .primal) row field) (l .inv .2) (p .put-count .ensures)
+          line (expLines (a .primal) row (2046 - (l .i + 1))) (expLines (a .primal) row field) (l .inv .2) wrote
           (p .put-count .kept .0)
           (exps-here (a .primal) row field some ∙ ap (λ (k : ℕ). line ++ expLines (a .primal) row k) fewer),
     )

@@ -5,7 +5,7 @@ use Prim.Native.Nat.{ℕ, _+_, _*_, _-_, _≤_, _<_}
 use native.Mathlib.Omega.{arith}
 use lib.ListN.{length, getD}
 use Rattle.sheet_lines.specs.Text.{flagLine, skippedLines}
-use Rattle.sheet_lines.proofs.Writing.{flag-most}
+use Rattle.sheet_lines.proofs.Writing.{Wrote, flag-most}
 use Rattle.sheet_lines.proofs.Lines.{Reached, begun, turned, done, left, flags-here, flags-none}
 use Rattle.sheet_lines.proofs.put_flags.Statement.{statement}
 use Rattle.sheet_lines.proofs.put_flags.Tie as tie
@@ -36,12 +36,13 @@ loop-again c =
     let a = given (turn p) .args in
     let flags = a .flags .now in
     let early : l .i < length flags = omega arith in
-    let line = flagLine (l .i + 1) (getD flags (l .i) 0) in (
+    let line = flagLine (l .i + 1) (getD flags (l .i) 0) in
+    let wrote : Wrote (l .text) (p .put-flag .last .0) (l .at) (p .put-flag .result) line = p .put-flag .ensures in (
       omega arith,
       refl,
-      omega (arith, p .put-flag .ensures .0, flag-most (l .i + 1) (getD flags (l .i) 0), l .inv .2),
+      omega (arith, wrote .0, flag-most (l .i + 1) (getD flags (l .i) 0), l .inv .2),
       turned (a .text .now) (l .text) (p .put-flag .last .0) 0 (l .at) (p .put-flag .result) (skippedLines 1 flags)
-          line (left flags (l .i + 1)) (left flags (l .i)) (l .inv .3) (p .put-flag .ensures) (p .put-flag .kept .0)
+          line (left flags (l .i + 1)) (left flags (l .i)) (l .inv .3) wrote (p .put-flag .kept .0)
           (flags-here flags (l .i) early),
     )
 

@@ -373,13 +373,18 @@ static bool rows_fit(const Totals *t, size_t nd, size_t np, size_t ns)
 {
     return nd == SPINDLE_SHEET_PLACES && np == SPINDLE_SHEET_PLACES && t->files <= ns;
 }
+/* in one of so many files; one of size 0 is none */
+static bool stands(Largest t, uint32_t files)
+{
+    return t.size == 0 || (t.file != 0 && t.file <= files);
+}
 
 Totals spindle_sheet_join(Totals sheet, uint64_t *dual, size_t nd, uint64_t *primal, size_t np, uint8_t *skipped, size_t ns,
                           Totals second, const uint64_t *dual2, size_t nd2, const uint64_t *primal2, size_t np2, const uint8_t *skipped2, size_t ns2)
 {
     static const Totals refused_2 = { .code = 2 }, refused_8 = { .code = 8 }, refused_9 = { .code = 9 };
     if (!rows_fit(&sheet, nd, np, ns) || !rows_fit(&second, nd2, np2, ns2)) return refused_2;
-    if (second.dual.file > second.files || second.primal.file > second.files) return refused_9;
+    if (!stands(second.dual, second.files) || !stands(second.primal, second.files)) return refused_9;
     uint64_t files = (uint64_t)sheet.files + second.files;
     if (files > SPINDLE_SHEET_FILES || files > ns || sheet.records + second.records < sheet.records) return refused_8;
     for (size_t k = 0; k < nd; k++)

@@ -105,11 +105,28 @@ static int calls(void)
             "8 without a flag");
     Sheet u = t;
     u.totals.dual.file = u.totals.files + 1;
-    refused(join(&s, &u), 9, &s, &before, "9: a largest in no file");
+    refused(join(&s, &u), 9, &s, &before, "9: a largest behind the files");
     u.totals.records = UINT64_MAX;
     refused(join(&s, &u), 9, &s, &before, "9 before 8");
-    u.totals.dual.file = 0;
+    u.totals.dual.file = u.totals.files;
     refused(join(&s, &u), 8, &s, &before, "8: records");
+    u = t;
+    u.totals.dual.file = 0;
+    refused(join(&s, &u), 9, &s, &before, "9: a dual largest in file 0");
+    u = t;
+    u.totals.primal.file = 0;
+    refused(join(&s, &u), 9, &s, &before, "9: a primal largest in file 0");
+
+    /* one of size 0 is none, in whatever file, and is not moved up */
+    u = t;
+    u.totals.dual = u.totals.primal = (Largest){ 0, UINT64_MAX, 7 };
+    Totals joined = join(&s, &u);
+    check(joined.code == 0 && joined.files == before.totals.files + 2, "a largest of size 0");
+    check(!memcmp(&joined.dual, &before.totals.dual, sizeof(Largest)) && !memcmp(&joined.primal, &before.totals.primal, sizeof(Largest)), "the first's largest");
+    static Sheet none;
+    joined = join(&none, &u);
+    check(joined.code == 0 && joined.dual.size == 0 && joined.dual.file == 0 && joined.dual.at == 0 && joined.primal.file == 0, "none of either");
+    s = before;
     u = t;
     u.totals.files = SPINDLE_SHEET_FILES;
     refused(join(&s, &u), 8, &s, &before, "8: 1,001 files and more");

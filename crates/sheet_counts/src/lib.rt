@@ -38,9 +38,9 @@ pub fn larger_of(s: Largest, t: Largest) -> Largest
     if s.size < t.size { t } else { s }
 }
 
-// 02, Order 14: "the second group's file numbers moved up by the first's file count".
+// 02, Order 14: "the second group's file numbers moved up by the first's file count". Where there are no records, no number is read.
 pub fn moved_up(files: u32, t: Largest) -> Largest
-    requires { ⌜ t .file + files < 2 ^ 64 ⌝ }
+    requires { ⌜ ((t .size ≡ 0 → ⊥) → t .file + files < 2 ^ 64) ⌝ }
     ensures { λ r. ⌜ r ≡ movedUp files t ⌝ }
 {
     if t.size == 0 {

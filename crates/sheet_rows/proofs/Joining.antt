@@ -17,7 +17,7 @@ use Rattle.sheet_counts.specs.Counts.{places, summed, largerOf, movedUp}
 use Rattle.sheet_counts.specs.Sheet.{Sheet, sheetsAdded}
 use Rattle.sheet_rows.specs.declared.Totals.{Totals}
 use Rattle.sheet_rows.specs.Added.{joinedTotals}
-use Rattle.sheet_rows.specs.Rows.{Held, sheetIn, totalsOf, holding, rowsOk, rowsIn, namesOk, spills, noRoom, sheetRow, joinCode}
+use Rattle.sheet_rows.specs.Rows.{Held, sheetIn, totalsOf, holding, rowsOk, rowsIn, namedIn, namesOk, spills, noRoom, sheetRow, joinCode}
 use Rattle.sheet_rows.proofs.Summing.{most}
 
 -- ---- no row applies
@@ -44,11 +44,20 @@ whole h ok =
       flags = leb-true (h .totals .files) (length (h .skipped)) (and-right (d && p) f ok);
     }
 
+named-by : (files : ℕ) (t : Largest) (none : Bool) → eqb (t .size) 0 ≡ none → (none || (leb 1 (t .file) && leb (t .file) files)) ≡ true
+    → (t .size ≡ 0 → ⊥) → t .file ≤ files
+named-by files t true e ok some = absurd (some (eqb-true (t .size) 0 e))
+named-by files t false e ok some = leb-true (t .file) files (and-right (leb 1 (t .file)) (leb (t .file) files) ok)
+
+named-file : (files : ℕ) (t : Largest) → namedIn files t ≡ true → (t .size ≡ 0 → ⊥) → t .file ≤ files
+unfolding namedIn
+named-file files t ok = named-by files t (eqb (t .size) 0) refl ok
+
 pub record Fits (a b : Held) : Type 0 where
   pub first : Whole a
   pub second : Whole b
-  pub dual-file : b .totals .dual .file ≤ b .totals .files
-  pub primal-file : b .totals .primal .file ≤ b .totals .files
+  pub dual-file : (b .totals .dual .size ≡ 0 → ⊥) → b .totals .dual .file ≤ b .totals .files
+  pub primal-file : (b .totals .primal .size ≡ 0 → ⊥) → b .totals .primal .file ≤ b .totals .files
   pub files : a .totals .files + b .totals .files ≤ 1000
   pub flags : a .totals .files + b .totals .files ≤ length (a .skipped)
   pub records : a .totals .records + b .totals .records ≤ most
@@ -75,13 +84,13 @@ module _ (a b : Held) (on : joinCode a b ≡ 0) where
   rows-on : (rowsIn a && rowsIn b) ≡ true
   rows-on = not-false (rowsIn a && rowsIn b) (off .0)
 
-  names-on : (b .totals .dual .file ≤ fb) × (b .totals .primal .file ≤ fb)
+  names-on : (namedIn fb (b .totals .dual) ≡ true) × (namedIn fb (b .totals .primal) ≡ true)
   unfolding namesOk
   names-on =
-      let d = leb (b .totals .dual .file) fb in
-      let p = leb (b .totals .primal .file) fb in
+      let d = namedIn fb (b .totals .dual) in
+      let p = namedIn fb (b .totals .primal) in
       let both : (d && p) ≡ true = not-false (d && p) (off .1) in
-      (leb-true (b .totals .dual .file) fb (and-left d p both), leb-true (b .totals .primal .file) fb (and-right d p both))
+      (and-left d p both, and-right d p both)
 
   none-off : none ≡ false
   none-off = or-left none (spills (a .dual) (b .dual)) (or-left _ (spills (a .primal) (b .primal)) (off .2))
@@ -102,8 +111,8 @@ module _ (a b : Held) (on : joinCode a b ≡ 0) where
   fits = record {
     first = whole a (and-left (rowsIn a) (rowsIn b) rows-on);
     second = whole b (and-right (rowsIn a) (rowsIn b) rows-on);
-    dual-file = names-on .0;
-    primal-file = names-on .1;
+    dual-file = named-file fb (b .totals .dual) (names-on .0);
+    primal-file = named-file fb (b .totals .primal) (names-on .1);
     files = room-on .0;
     flags = room-on .1;
     records = room-on .2;

@@ -10,15 +10,12 @@ use lib.ListN.{length, take, drop, getD, length-map, length-append}
 use lib.Seq.{sets, length-sets, take-length}
 use borrow.Author.Tests.{eq-eqb, le-leb, le-ltb}
 use Rattle.words.proofs.Stores.{cut-is}
-use Rattle.trace_layout.specs.Records.{Record, sizeIn}
-use Rattle.trace_layout.specs.Traces.{editionAt, recordsOf}
 use Rattle.table.specs.Table.{traceRow, settle}
 use Rattle.sheet_counts.specs.declared.Largest.{Largest}
-use Rattle.sheet_counts.specs.Counts.{Entry, places, countsOf, none, largestIn, largerOf, largestOf}
-use Rattle.sheet_counts.specs.Sheet.{Sheet, taken, flagOf, entryOf, entriesIn, entriesOf, entriesFrom, sheetOf, sheetsAdded}
+use Rattle.sheet_counts.specs.Counts.{places, countsOf, largestOf}
+use Rattle.sheet_counts.specs.Sheet.{Sheet, flagOf, entriesOf, entriesFrom, sheetOf, sheetsAdded}
 use Rattle.sheet_counts.specs.Laws.{AllBytes}
 use Rattle.sheet_counts.proofs.Rows.{length-counts, all-left, none-left}
-use Rattle.sheet_counts.proofs.Tops.{larger-cases}
 use Rattle.sheet_counts.proofs.AddsUp.{sheet-laws}
 use Rattle.sheet_trace.specs.declared.Part.{Part}
 use Rattle.sheet_trace.specs.Part.{partOf}
@@ -27,6 +24,7 @@ use Rattle.sheet_rows.specs.Rows.{Held, sheetIn, totalsOf, held, holding
 use Rattle.sheet_rows.specs.Rows.{refuse, joinOf, addOf}
 use Rattle.sheet_rows.specs.Sums.{Begun, addAll, OfSums}
 use Rattle.sheet_rows.proofs.Summing.{most, no-spill}
+use Rattle.sheet_rows.proofs.Named.{sheet-named}
 
 -- the rows hold the sheet of these files, and have flags for 1,000
 pub record Holds (h : Held) (files : List (List ℕ)) : Type 0 where
@@ -38,31 +36,9 @@ pub record Holds (h : Held) (files : List (List ℕ)) : Type 0 where
 
 -- ---- the sheet of one file
 
--- all of its searches stand in file 1
-module _ (p : Bool) (e : ℕ) where
-  in-one : (at : ℕ) (rs : List Record) → largestOf (entriesIn p 1 e at rs) .file ≤ 1
-  unfolding entriesIn entryOf largestOf
-  in-one at [] = omega arith
-  in-one at (r ∷ rs) =
-      larger-cases (largestIn (entryOf p 1 at r)) (largestOf (entriesIn p 1 e (at + sizeIn e r) rs)) (λ (x : Largest). x .file ≤ 1)
-      (λ h. in-one (at + sizeIn e r) rs) (λ h. omega arith)
-
-of-one : (p : Bool) (bs : List ℕ) (b : Bool) → taken bs ≡ b → largestOf (entriesOf p 1 bs) .file ≤ 1
-unfolding entriesOf largestOf
-of-one p bs true t = rw t (in-one p (editionAt bs) 0 (recordsOf bs))
-of-one p bs false t = rw t (omega arith)
-
 pub single : (p : Bool) (bs : List ℕ) → entriesFrom p 1 (bs ∷ []) ≡ entriesOf p 1 bs
 unfolding entriesFrom
 single p bs = append-nil (entriesOf p 1 bs)
-
-dual-one : (bs : List ℕ) → sheetOf (bs ∷ []) .dual .largest .file ≤ 1
-unfolding sheetOf
-dual-one bs = rw (single false bs) (of-one false bs (taken bs) refl)
-
-primal-one : (bs : List ℕ) → sheetOf (bs ∷ []) .primal .largest .file ≤ 1
-unfolding sheetOf
-primal-one bs = rw (single true bs) (of-one true bs (taken bs) refl)
 
 -- what one_file leaves holds that sheet
 filled : {r q : ℕ} {d e p o : Largest} {u v x y f g : List ℕ} → r ≡ q → d ≡ e → p ≡ o → u ≡ v → x ≡ y → f ≡ g → _≡_ {A = Held}
@@ -200,11 +176,8 @@ module _ (h : Held) (xs : List (List ℕ)) (holds : Holds h xs) where
         )
 
     names : namesOk (b .totals .files) (b .totals .dual) (b .totals .primal) ≡ true
-    unfolding namesOk held totalsOf
-    names =
-        let d : one .dual .largest .file ≤ length (one .skipped) = omega (arith, dual-one bs, files-flags (bs ∷ [])) in
-        let p : one .primal .largest .file ≤ length (one .skipped) = omega (arith, primal-one bs, files-flags (bs ∷ [])) in
-        rw (le-leb (one .dual .largest .file) (length (one .skipped)) d, le-leb (one .primal .largest .file) (length (one .skipped)) p)
+    unfolding held
+    names = sheet-named (bs ∷ [])
 
     room : noRoom (h .totals .files) (b .totals .files) (length (h .skipped)) (h .totals .records) (b .totals .records) ≡ false
     unfolding noRoom

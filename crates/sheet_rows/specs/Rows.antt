@@ -58,9 +58,13 @@ rowsOk dual primal skipped files = eqb dual places && eqb primal places && leb f
 abbrev pub rowsIn : Held → Bool
 rowsIn h = rowsOk (length (h .dual)) (length (h .primal)) (length (h .skipped)) (h .totals .files)
 
--- 9 where the largest of a sheet stand in no file of it
+-- a largest stands in one of so many files, numbered from 1; one of size 0 is none, and what else it says is not read
+unfoldable pub namedIn : ℕ → Largest → Bool
+namedIn files t = eqb (t .size) 0 || (leb 1 (t .file) && leb (t .file) files)
+
+-- 9 where a largest of a sheet stands in no file of it
 unfoldable pub namesOk : ℕ → Largest → Largest → Bool
-namesOk files dual primal = leb (dual .file) files && leb (primal .file) files
+namesOk files dual primal = namedIn files dual && namedIn files primal
 
 -- 8: no room, that is: a count above 64 bits ..
 unfoldable pub spills : List ℕ → List ℕ → Bool

@@ -4,7 +4,7 @@ ghost use mathlib.Core.Path.{_≡_};
 ghost use mathlib.Core.Bool.{false, cond};
 ghost use lib.ListN.{length};
 ghost use Rattle.sheet_counts.specs.Counts.{Fresh, summed};
-ghost use Rattle.sheet_rows.specs.Rows.{spills, rowsOk, namesOk, noRoom, sheetRow, joinCode, refusedTotals, joinOf, addOf};
+ghost use Rattle.sheet_rows.specs.Rows.{spills, rowsOk, namedIn, namesOk, noRoom, sheetRow, joinCode, refusedTotals, joinOf, addOf};
 ghost use Rattle.sheet_rows.specs.Added.{TotalsFit, joinedTotals};
 use sheet_counts::Largest;
 use sheet_counts::larger_of;
@@ -63,11 +63,20 @@ fn sum(row: &mut [u64], more: &[u64])
     }
 }
 
-// Whether the largest of a sheet of so many files stand in one of them.
+// Whether a largest stands in one of so many files. One of size 0 is none: its file number is not read, here or when it moves up.
+fn named_in(files: u32, t: Largest) -> bool
+    ensures { λ r. ⌜ r ≡ namedIn files t ⌝ }
+{
+    (t.size == 0) | ((1 <= t.file) & (t.file <= files as u64))
+}
+
+// Whether the largest of a sheet of so many files stand in files of it.
 fn names_ok(files: u32, dual: Largest, primal: Largest) -> bool
     ensures { λ r. ⌜ r ≡ namesOk files dual primal ⌝ }
 {
-    (dual.file <= files as u64) & (primal.file <= files as u64)
+    let dual_named = named_in(files, dual);
+    let primal_named = named_in(files, primal);
+    dual_named & primal_named
 }
 
 // Whether files and records are too many: flags is the room for the files.

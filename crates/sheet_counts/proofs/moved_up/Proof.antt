@@ -1,6 +1,6 @@
 -- `moved_up` meets its contract: the test is the definition's. Assumes nothing.
+use native.Mathlib.Omega.{arith}
 use borrow.Author.Tests.{eq-eqb, ne-eqb}
-use borrow.Author.Needs.{needs}
 use Rattle.sheet_counts.specs.Counts.{movedUp}
 use Rattle.sheet_counts.proofs.moved_up.Statement.{statement}
 use Rattle.sheet_counts.proofs.moved_up.Tie as tie
@@ -14,4 +14,5 @@ unfolding movedUp
 returns-2 c = rw (ne-eqb (c .before .before .before .args .t .size) 0 (c .before .if1 .left))
 
 pub moved-up-spec : {M : Type 1} → statement M
-moved-up-spec = tie.close (tie.spec returns (λ c. search needs) returns-2)
+moved-up-spec =
+    tie.close (tie.spec returns (λ c. omega (arith, c .before .before .before .pre (c .before .if1 .left))) returns-2)

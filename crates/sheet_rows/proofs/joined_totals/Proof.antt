@@ -25,6 +25,13 @@ with-largest : {f r : ℕ} {d e p q : Largest} → d ≡ e → p ≡ q → _≡_
     (record { code = 0; files = f; records = r; dual = e; primal = q })
 with-largest h k = rw (h, k)
 
+-- a file number that moves up is that of a file
+moved-up-requires : tie.Need-moved-up-requires
+moved-up-requires c κs some = let s = c .before .before .before .before in omega (arith, s .pre .dual some, s .pre .files)
+
+moved-up-requires-2 : tie.Need-moved-up-requires-2
+moved-up-requires-2 c κs some = let s = started c in omega (arith, s .pre .primal some, s .pre .files)
+
 add-records : tie.Need-add-t12
 add-records c = omega (arith, started (dual-told (primal-told c)) .pre .records)
 
@@ -41,6 +48,9 @@ pub joined-totals-spec : {M : Type 1} → statement M
 joined-totals-spec =
     tie.close
     (tie.spec
-    (λ c κs. search needs) (λ c κs. search needs) (λ c κs. search needs) (λ c κs. search needs) (λ c. search needs)
+    moved-up-requires
+    (λ c κs. search needs)
+    moved-up-requires-2
+    (λ c κs. search needs) (λ c. search needs)
     add-records
     returns)

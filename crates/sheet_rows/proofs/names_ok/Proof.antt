@@ -1,12 +1,12 @@
--- `names_ok` meets its contract: the tests are the definition's. Assumes nothing.
-use mathlib.Core.Path.{refl}
+-- `names_ok` meets its contract: each side's test is the definition's. Assumes nothing.
+use borrow.Author.Needs.{needs}
 use Rattle.sheet_rows.specs.Rows.{namesOk}
 use Rattle.sheet_rows.proofs.names_ok.Statement.{statement}
 use Rattle.sheet_rows.proofs.names_ok.Tie as tie
 
 returns : tie.Need-returns
 unfolding namesOk
-returns c = refl
+returns c = rw (c .before .named-in .ensures, c .named-in2 .ensures)
 
 pub names-ok-spec : {M : Type 1} → statement M
-names-ok-spec = tie.close (tie.spec returns)
+names-ok-spec = tie.close (tie.spec (λ c κs. search needs) (λ c κs. search needs) returns)

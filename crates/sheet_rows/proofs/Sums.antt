@@ -26,13 +26,14 @@ use Rattle.sheet_rows.specs.Sums.{Begun, addAll, OfSums}
 use Rattle.sheet_rows.proofs.Summing.{most, no-spill}
 use Rattle.sheet_rows.proofs.Named.{sheet-named}
 
--- the rows hold the sheet of these files, and have flags for 1,000
-pub record Holds (h : Held) (files : List (List ℕ)) : Type 0 where
+-- the rows hold the sheet of these files, and have n flags
+pub record Holds (n : ℕ) (h : Held) (files : List (List ℕ)) : Type 0 where
   pub totals : h .totals ≡ totalsOf (sheetOf files)
   pub dual : h .dual ≡ sheetOf files .dual .counts
   pub primal : h .primal ≡ sheetOf files .primal .counts
   pub flags : take (length files) (h .skipped) ≡ map flagOf files
-  pub room : 1000 ≤ length (h .skipped)
+  pub size : length (h .skipped) ≡ n
+  pub room : length files ≤ n
 
 -- ---- the sheet of one file
 
@@ -99,7 +100,7 @@ held-sheet s = rw (take-length (s .skipped))
 
 -- ---- one file more
 
-module _ (h : Held) (xs : List (List ℕ)) (holds : Holds h xs) where
+module _ (n : ℕ) (h : Held) (xs : List (List ℕ)) (holds : Holds n h xs) where
   holds-files : h .totals .files ≡ length xs
   holds-files = ap (λ (t : Totals). t .files) (holds .totals) ∙ total-files xs
 
@@ -128,7 +129,7 @@ module _ (h : Held) (xs : List (List ℕ)) (holds : Holds h xs) where
       same-sheet (ap (λ (k : ℕ). take k (h .skipped)) holds-files ∙ holds .flags ∙ sym (flags-are xs)) (holds .dual) (holds .primal)
       ∙ told-sheet (h .totals) (holds .totals)
 
-  module _ (bs : List ℕ) (before : AllBytes xs) (bytes : AllBytes (bs ∷ [])) (early : length xs < 1000) where
+  module _ (bs : List ℕ) (before : AllBytes xs) (bytes : AllBytes (bs ∷ [])) (early : length xs < 1000) (free : length xs < n) where
     abbrev one : Sheet
     one = sheetOf (bs ∷ [])
 
@@ -162,7 +163,7 @@ module _ (h : Held) (xs : List (List ℕ)) (holds : Holds h xs) where
     first-rows =
         let d = ap length (holds .dual) ∙ dual-places xs in
         let p = ap length (holds .primal) ∙ primal-places xs in
-        let f : h .totals .files ≤ length (h .skipped) = omega (arith, holds-files, holds .room) in
+        let f : h .totals .files ≤ length (h .skipped) = omega (arith, holds-files, holds .size, holds .room) in
         rw (eq-eqb (length (h .dual)) places d, eq-eqb (length (h .primal)) places p, le-leb (h .totals .files) (length (h .skipped)) f)
 
     second-rows : rowsIn b ≡ true
@@ -183,7 +184,7 @@ module _ (h : Held) (xs : List (List ℕ)) (holds : Holds h xs) where
     unfolding noRoom
     room =
         let all : h .totals .files + b .totals .files ≤ 1000 = omega (arith, holds-files, b-files) in
-        let flags : h .totals .files + b .totals .files ≤ length (h .skipped) = omega (arith, holds .room) in
+        let flags : h .totals .files + b .totals .files ≤ length (h .skipped) = omega (arith, holds-files, b-files, holds .size) in
         let records : h .totals .records + b .totals .records ≤ most = omega (arith, holds-records, few-first, b-records, few-second) in
         rw (
           le-ltb 1000 (h .totals .files + b .totals .files) all,
@@ -233,26 +234,27 @@ module _ (h : Held) (xs : List (List ℕ)) (holds : Holds h xs) where
     abbrev more : List (List ℕ)
     more = xs ++ (bs ∷ [])
 
-    fits : length more ≤ 1000
+    fits : length more ≤ n
     fits = omega (arith, length-append xs (bs ∷ []))
 
     new-flags : take (length more) (sets (h .skipped) 0 (sheetOf more .skipped)) ≡ map flagOf more
     new-flags =
         cut-is (h .skipped) (sheetOf more .skipped) (sets (h .skipped) 0 (sheetOf more .skipped)) (length more) refl (sym (files-flags more))
-        (omega (arith, files-flags more, fits, holds .room))
+        (omega (arith, files-flags more, fits, holds .size))
         ∙ flags-are more
 
-    holds-more : Holds (holding h (sheetOf more)) more
+    holds-more : Holds n (holding h (sheetOf more)) more
     unfolding holding
     holds-more = record {
       totals = refl;
       dual = refl;
       primal = refl;
       flags = new-flags;
-      room = omega (arith, length-sets (h .skipped) 0 (sheetOf more .skipped), holds .room);
+      size = length-sets (h .skipped) 0 (sheetOf more .skipped) ∙ holds .size;
+      room = fits;
     }
 
-    one-more : Holds (addOf h bs) more
+    one-more : Holds n (addOf h bs) more
     one-more = rw added holds-more
 
 -- ---- all of them
@@ -266,26 +268,27 @@ first-bytes : (bs : List ℕ) (files : List (List ℕ)) → AllBytes (bs ∷ fil
 unfolding AllBytes
 first-bytes bs files h = ((h .0, tt), h .1)
 
-add-all : (h : Held) (xs files : List (List ℕ)) → Holds h xs → AllBytes xs → AllBytes files → length xs + length files ≤ 1000
-    → Holds (addAll h files) (xs ++ files)
+add-all : (n : ℕ) (h : Held) (xs files : List (List ℕ)) → Holds n h xs → AllBytes xs → AllBytes files → length xs + length files ≤ 1000
+    → length xs + length files ≤ n → Holds n (addAll h files) (xs ++ files)
 unfolding addAll
-add-all h xs [] holds before bytes few = rw (append-nil xs) holds
-add-all h xs (bs ∷ files) holds before bytes few =
+add-all n h xs [] holds before bytes few free = rw (append-nil xs) holds
+add-all n h xs (bs ∷ files) holds before bytes few free =
     let parts = first-bytes bs files bytes in
     let early : length xs < 1000 = omega arith in
-    let next = one-more h xs holds bs before (parts .0) early in
+    let next = one-more n h xs holds bs before (parts .0) early (omega arith) in
     let size = length-append xs (bs ∷ []) in
     rw (append-assoc xs (bs ∷ []) files) at
-    (add-all (addOf h bs) (xs ++ (bs ∷ [])) files next (bytes-append xs (bs ∷ []) before (parts .0)) (parts .1) (omega arith))
+    (add-all n (addOf h bs) (xs ++ (bs ∷ [])) files next (bytes-append xs (bs ∷ []) before (parts .0)) (parts .1) (omega arith) (omega arith))
 
-begun-holds : (h : Held) → Begun h → Holds h []
+begun-holds : (h : Held) → Begun h → Holds (length (h .skipped)) h []
 unfolding sheetOf entriesFrom
 begun-holds h begun = record {
   totals = begun .totals;
   dual = none-left (h .dual) (begun .dual .all) ∙ all-left (h .dual) (begun .dual) [];
   primal = none-left (h .primal) (begun .primal .all) ∙ all-left (h .primal) (begun .primal) [];
   flags = refl;
-  room = begun .skipped;
+  size = refl;
+  room = omega arith;
 }
 
 no-bytes : AllBytes []
@@ -296,9 +299,14 @@ code-zero : (files : List (List ℕ)) → totalsOf (sheetOf files) .code ≡ 0
 unfolding totalsOf
 code-zero files = refl
 
+module _ (h : Held) (files : List (List ℕ)) (begun : Begun h) (bytes : AllBytes files) (few : length files ≤ 1000)
+    (free : length files ≤ length (h .skipped)) where
+  all-hold : Holds (length (h .skipped)) (addAll h files) files
+  all-hold = add-all (length (h .skipped)) h [] files (begun-holds h begun) no-bytes bytes (omega arith) (omega arith)
+
 pub files-added : OfSums
 files-added = record {
-  all = λ h files begun bytes few. holds-sheet (addAll h files) files (add-all h [] files (begun-holds h begun) no-bytes bytes (omega arith));
-  done = λ h files begun bytes few.
-      ap (λ (t : Totals). t .code) (add-all h [] files (begun-holds h begun) no-bytes bytes (omega arith) .totals) ∙ code-zero files;
+  all = λ h files begun bytes few free. holds-sheet (length (h .skipped)) (addAll h files) files (all-hold h files begun bytes few free);
+  done = λ h files begun bytes few free.
+      ap (λ (t : Totals). t .code) (all-hold h files begun bytes few free .totals) ∙ code-zero files;
 }

@@ -8,12 +8,11 @@ use Rattle.sheet_counts.specs.Laws.{AllBytes}
 use Rattle.sheet_counts.specs.Sheet.{sheetOf}
 use Rattle.sheet_rows.specs.Rows.{Held, sheetIn, totalsOf, addOf}
 
--- rows of zeros, flags for 1,000 files, and totals of no files
+-- rows of zeros and totals of no files. What stands in the flags is not read
 pub record Begun (h : Held) : Type 0 where
   pub totals : h .totals ≡ totalsOf (sheetOf [])
   pub dual : Fresh (h .dual)
   pub primal : Fresh (h .primal)
-  pub skipped : 1000 ≤ length (h .skipped)
 
 -- file after file
 unfoldable pub addAll : Held → List (List ℕ) → Held
@@ -21,6 +20,8 @@ addAll h [] = h
 addAll h (bs ∷ files) = addAll (addOf h bs) files
 
 pub record OfSums : Type 0 where
-  -- none of at most 1,000 files is refused, no count wraps, and the rows hold the sheet of all
-  pub all : (h : Held) (files : List (List ℕ)) → Begun h → AllBytes files → length files ≤ 1000 → sheetIn (addAll h files) ≡ sheetOf files
-  pub done : (h : Held) (files : List (List ℕ)) → Begun h → AllBytes files → length files ≤ 1000 → addAll h files .totals .code ≡ 0
+  -- none of at most 1,000 files that have flags is refused, no count wraps, and the rows hold the sheet of all
+  pub all : (h : Held) (files : List (List ℕ)) → Begun h → AllBytes files → length files ≤ 1000 → length files ≤ length (h .skipped)
+      → sheetIn (addAll h files) ≡ sheetOf files
+  pub done : (h : Held) (files : List (List ℕ)) → Begun h → AllBytes files → length files ≤ 1000 → length files ≤ length (h .skipped)
+      → addAll h files .totals .code ≡ 0

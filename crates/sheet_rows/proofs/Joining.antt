@@ -1,21 +1,19 @@
 -- A sum that no row of the table refuses: what then is known, and that the rows hold the two sheets added. Assumes nothing.
 use mathlib.Core.Path.{_≡_, refl, sym, ap, _∙_}
 use mathlib.Core.Bool.{Bool, true, false, not, _&&_, _||_}
-use mathlib.Core.List.{List, [], _++_, append-nil}
+use mathlib.Core.List.{List, _++_}
 use Prim.Native.Nat.{ℕ, _+_, _≤_}
 use native.Mathlib.Omega.{arith}
 use lib.Dec.{eqb, leb, ltb}
-use lib.ListN.{length, take, drop, length-append, take-append-drop}
-use lib.Seq.{sets, sets-eq, length-take-le, drop-drop}
+use lib.ListN.{length, take, length-append, take-append-drop}
+use lib.Seq.{sets, sets-eq, length-take-le}
 use borrow.Author.Tests.{eqb-true, leb-true, ltb-false, not-false}
-use Rattle.arith.proofs.Branches.{and-left, and-right, or-left, or-right, false-not-true}
+use Rattle.arith.proofs.Branches.{and-left, and-right, or-left, or-right}
 use Rattle.words.proofs.Stores.{sets-after}
-use Rattle.table.specs.Table.{traceRow}
 use Rattle.table.proofs.Settled.{trace-row-off}
 use Rattle.sheet_counts.specs.declared.Largest.{Largest}
 use Rattle.sheet_counts.specs.Counts.{places, summed, largerOf, movedUp}
-use Rattle.sheet_counts.specs.Sheet.{Sheet, sheetsAdded}
-use Rattle.sheet_rows.specs.declared.Totals.{Totals}
+use Rattle.sheet_counts.specs.Sheet.{sheetsAdded}
 use Rattle.sheet_rows.specs.Added.{joinedTotals}
 use Rattle.sheet_rows.specs.Rows.{Held, sheetIn, totalsOf, holding, rowsOk, rowsIn, namedIn, namesOk, spills, noRoom, sheetRow, joinCode}
 use Rattle.sheet_rows.proofs.Summing.{most}

@@ -1,13 +1,12 @@
--- Files added one by one give the sheet of all of them: each is let through, since counts stay far below their bound, and by the law of two groups the
--- rows then hold the sheet of one file more. Assumes nothing.
+-- Two sheets of files that are joined give the sheet of all of them: the sum is let through, since counts stay far below their bound, and by the law of two groups
+-- the rows then hold it. So do files that are added one by one, each a group of one. Assumes nothing.
 use mathlib.Core.Path.{_≡_, refl, sym, ap, _∙_}
-use mathlib.Core.Bool.{Bool, true, false, cond, not, _&&_, _||_}
+use mathlib.Core.Bool.{Bool, true, false, cond}
 use mathlib.Core.List.{List, [], _∷_, _++_, map, append-nil, append-assoc}
-use Prim.Native.Nat.{ℕ, suc, _+_, _*_, _≤_, _<_}
+use Prim.Native.Nat.{ℕ, _+_, _*_, _≤_, _<_}
 use native.Mathlib.Omega.{arith}
-use lib.Dec.{eqb, leb, ltb}
-use lib.ListN.{length, take, drop, getD, length-map, length-append}
-use lib.Seq.{sets, length-sets, take-length}
+use lib.ListN.{length, take, getD, length-map, length-append}
+use lib.Seq.{sets, length-sets, take-all}
 use borrow.Author.Tests.{eq-eqb, le-leb, le-ltb}
 use Rattle.words.proofs.Stores.{cut-is}
 use Rattle.table.specs.Table.{traceRow, settle}
@@ -21,8 +20,8 @@ use Rattle.sheet_trace.specs.declared.Part.{Part}
 use Rattle.sheet_trace.specs.Part.{partOf}
 use Rattle.sheet_rows.specs.declared.Totals.{Totals}
 use Rattle.sheet_rows.specs.Rows.{Held, sheetIn, totalsOf, held, holding, rowsOk, rowsIn, namesOk, spills, noRoom, sheetRow, joinCode}
-use Rattle.sheet_rows.specs.Rows.{refuse, joinOf, addOf}
-use Rattle.sheet_rows.specs.Sums.{Begun, addAll, OfSums}
+use Rattle.sheet_rows.specs.Rows.{joinOf, addOf}
+use Rattle.sheet_rows.specs.Sums.{Begun, Countable, IsSheet, addAll, OfSums}
 use Rattle.sheet_rows.proofs.Summing.{most, no-spill}
 use Rattle.sheet_rows.proofs.Named.{sheet-named}
 
@@ -94,14 +93,10 @@ module _ (files : List (List ℕ)) where
   unfolding totalsOf
   total-records = refl
 
-held-sheet : (s : Sheet) → sheetIn (held s) ≡ s
-unfolding sheetIn held totalsOf
-held-sheet s = rw (take-length (s .skipped))
-
--- ---- one file more
+-- ---- what is known of rows that hold a sheet
 
 module _ (n : ℕ) (h : Held) (xs : List (List ℕ)) (holds : Holds n h xs) where
-  holds-files : h .totals .files ≡ length xs
+  pub holds-files : h .totals .files ≡ length xs
   holds-files = ap (λ (t : Totals). t .files) (holds .totals) ∙ total-files xs
 
   holds-records : h .totals .records ≡ sheetOf xs .records
@@ -129,135 +124,128 @@ module _ (n : ℕ) (h : Held) (xs : List (List ℕ)) (holds : Holds n h xs) wher
       same-sheet (ap (λ (k : ℕ). take k (h .skipped)) holds-files ∙ holds .flags ∙ sym (flags-are xs)) (holds .dual) (holds .primal)
       ∙ told-sheet (h .totals) (holds .totals)
 
-  module _ (bs : List ℕ) (before : AllBytes xs) (bytes : AllBytes (bs ∷ [])) (early : length xs < 1000) (free : length xs < n) where
-    abbrev one : Sheet
-    one = sheetOf (bs ∷ [])
+  pub holds-rows : rowsIn h ≡ true
+  unfolding rowsOk
+  holds-rows =
+      let d = ap length (holds .dual) ∙ dual-places xs in
+      let p = ap length (holds .primal) ∙ primal-places xs in
+      let f : h .totals .files ≤ length (h .skipped) = omega (arith, holds-files, holds .size, holds .room) in
+      rw (eq-eqb (length (h .dual)) places d, eq-eqb (length (h .primal)) places p, le-leb (h .totals .files) (length (h .skipped)) f)
 
-    abbrev b : Held
-    b = held one
+  holds-names : namesOk (h .totals .files) (h .totals .dual) (h .totals .primal) ≡ true
+  holds-names = ap (λ (t : Totals). namesOk (t .files) (t .dual) (t .primal)) (holds .totals) ∙ sheet-named xs
 
-    few-first : sheetOf xs .records ≤ 4096 * length xs
-    few-first = sheet-laws .few xs before
+  code-zero : totalsOf (sheetOf xs) .code ≡ 0
+  unfolding totalsOf
+  code-zero = refl
 
-    few-second : one .records ≤ 4096
-    few-second = omega (arith, sheet-laws .few (bs ∷ []) bytes)
+  is-sheet : IsSheet h xs
+  is-sheet = record { done = ap (λ (t : Totals). t .code) (holds .totals) ∙ code-zero; all = holds-sheet }
 
-    b-files : b .totals .files ≡ 1
-    unfolding held
-    b-files = total-files (bs ∷ [])
+-- ---- two sheets joined
 
-    b-records : b .totals .records ≡ one .records
-    unfolding held
-    b-records = total-records (bs ∷ [])
+module _ (m n : ℕ) (a b : Held) (xs ys : List (List ℕ)) (first : Holds m a xs) (second : Holds n b ys) (bytes : AllBytes xs)
+    (more-bytes : AllBytes ys) (few : length xs + length ys ≤ 1000) (free : length xs + length ys ≤ m) where
+  few-first : sheetOf xs .records ≤ 4096 * length xs
+  few-first = sheet-laws .few xs bytes
 
-    b-dual : b .dual ≡ one .dual .counts
-    unfolding held
-    b-dual = refl
+  few-second : sheetOf ys .records ≤ 4096 * length ys
+  few-second = sheet-laws .few ys more-bytes
 
-    b-primal : b .primal ≡ one .primal .counts
-    unfolding held
-    b-primal = refl
+  room : noRoom (a .totals .files) (b .totals .files) (length (a .skipped)) (a .totals .records) (b .totals .records) ≡ false
+  unfolding noRoom
+  room =
+      let first-files = holds-files m a xs first in
+      let second-files = holds-files n b ys second in
+      let first-records = holds-records m a xs first in
+      let second-records = holds-records n b ys second in
+      let all : a .totals .files + b .totals .files ≤ 1000 = omega arith in
+      let flags : a .totals .files + b .totals .files ≤ length (a .skipped) = omega (arith, first .size) in
+      let records : a .totals .records + b .totals .records ≤ most = omega (arith, few-first, few-second) in
+      rw (
+        le-ltb 1000 (a .totals .files + b .totals .files) all,
+        le-ltb (length (a .skipped)) (a .totals .files + b .totals .files) flags,
+        le-ltb most (a .totals .records + b .totals .records) records,
+      )
 
-    first-rows : rowsIn h ≡ true
-    unfolding rowsOk
-    first-rows =
-        let d = ap length (holds .dual) ∙ dual-places xs in
-        let p = ap length (holds .primal) ∙ primal-places xs in
-        let f : h .totals .files ≤ length (h .skipped) = omega (arith, holds-files, holds .size, holds .room) in
-        rw (eq-eqb (length (h .dual)) places d, eq-eqb (length (h .primal)) places p, le-leb (h .totals .files) (length (h .skipped)) f)
+  dual-room : spills (a .dual) (b .dual) ≡ false
+  dual-room =
+      no-spill (a .dual) (b .dual)
+      (λ k. omega (
+        arith,
+        ap (λ (l : List ℕ). getD l k 0) (first .dual),
+        ap (λ (l : List ℕ). getD l k 0) (second .dual),
+        sheet-laws .dual-few xs k,
+        sheet-laws .dual-few ys k,
+        few-first,
+        few-second,
+      ))
 
-    second-rows : rowsIn b ≡ true
-    unfolding rowsOk held totalsOf
-    second-rows =
-        let f : length (one .skipped) ≤ length (one .skipped) = omega arith in
-        rw (
-          eq-eqb (length (one .dual .counts)) places (dual-places (bs ∷ [])),
-          eq-eqb (length (one .primal .counts)) places (primal-places (bs ∷ [])),
-          le-leb (length (one .skipped)) (length (one .skipped)) f,
-        )
+  primal-room : spills (a .primal) (b .primal) ≡ false
+  primal-room =
+      no-spill (a .primal) (b .primal)
+      (λ k. omega (
+        arith,
+        ap (λ (l : List ℕ). getD l k 0) (first .primal),
+        ap (λ (l : List ℕ). getD l k 0) (second .primal),
+        sheet-laws .primal-few xs k,
+        sheet-laws .primal-few ys k,
+        few-first,
+        few-second,
+      ))
 
-    names : namesOk (b .totals .files) (b .totals .dual) (b .totals .primal) ≡ true
-    unfolding held
-    names = sheet-named (bs ∷ [])
+  let-through : joinCode a b ≡ 0
+  unfolding joinCode sheetRow traceRow
+  let-through = rw (holds-rows m a xs first, holds-rows n b ys second, holds-names n b ys second, room, dual-room, primal-room)
 
-    room : noRoom (h .totals .files) (b .totals .files) (length (h .skipped)) (h .totals .records) (b .totals .records) ≡ false
-    unfolding noRoom
-    room =
-        let all : h .totals .files + b .totals .files ≤ 1000 = omega (arith, holds-files, b-files) in
-        let flags : h .totals .files + b .totals .files ≤ length (h .skipped) = omega (arith, holds-files, b-files, holds .size) in
-        let records : h .totals .records + b .totals .records ≤ most = omega (arith, holds-records, few-first, b-records, few-second) in
-        rw (
-          le-ltb 1000 (h .totals .files + b .totals .files) all,
-          le-ltb (length (h .skipped)) (h .totals .files + b .totals .files) flags,
-          le-ltb most (h .totals .records + b .totals .records) records,
-        )
+  abbrev all : List (List ℕ)
+  all = xs ++ ys
 
-    dual-room : spills (h .dual) (b .dual) ≡ false
-    dual-room =
-        no-spill (h .dual) (b .dual)
-        (λ k. omega (
-          arith,
-          ap (λ (l : List ℕ). getD l k 0) (holds .dual),
-          ap (λ (l : List ℕ). getD l k 0) b-dual,
-          sheet-laws .dual-few xs k,
-          sheet-laws .dual-few (bs ∷ []) k,
-          few-first,
-          few-second,
-        ))
+  sum : sheetsAdded (sheetIn a) (sheetIn b) ≡ sheetOf all
+  sum =
+      ap (λ (s : Sheet). sheetsAdded s (sheetIn b)) (holds-sheet m a xs first) ∙ ap (sheetsAdded (sheetOf xs)) (holds-sheet n b ys second)
+      ∙ sym (sheet-laws .groups xs ys)
 
-    primal-room : spills (h .primal) (b .primal) ≡ false
-    primal-room =
-        no-spill (h .primal) (b .primal)
-        (λ k. omega (
-          arith,
-          ap (λ (l : List ℕ). getD l k 0) (holds .primal),
-          ap (λ (l : List ℕ). getD l k 0) b-primal,
-          sheet-laws .primal-few xs k,
-          sheet-laws .primal-few (bs ∷ []) k,
-          few-first,
-          few-second,
-        ))
+  added : joinOf a b ≡ holding a (sheetOf all)
+  unfolding joinOf settle
+  added = rw let-through (ap (holding a) sum)
 
-    let-through : joinCode h b ≡ 0
-    unfolding joinCode sheetRow traceRow
-    let-through = rw (first-rows, second-rows, names, room, dual-room, primal-room)
+  fits : length all ≤ m
+  fits = omega (arith, length-append xs ys)
 
-    sum : sheetsAdded (sheetIn h) (sheetIn b) ≡ sheetOf (xs ++ (bs ∷ []))
-    sum =
-        ap (λ (s : Sheet). sheetsAdded s (sheetIn b)) holds-sheet ∙ ap (sheetsAdded (sheetOf xs)) (held-sheet one)
-        ∙ sym (sheet-laws .groups xs (bs ∷ []))
+  new-flags : take (length all) (sets (a .skipped) 0 (sheetOf all .skipped)) ≡ map flagOf all
+  new-flags =
+      cut-is (a .skipped) (sheetOf all .skipped) (sets (a .skipped) 0 (sheetOf all .skipped)) (length all) refl (sym (files-flags all))
+      (omega (arith, files-flags all, fits, first .size))
+      ∙ flags-are all
 
-    added : addOf h bs ≡ holding h (sheetOf (xs ++ (bs ∷ [])))
-    unfolding addOf joinOf settle
-    added = rw let-through (ap (holding h) sum)
+  holds-all : Holds m (holding a (sheetOf all)) all
+  unfolding holding
+  holds-all = record {
+    totals = refl;
+    dual = refl;
+    primal = refl;
+    flags = new-flags;
+    size = length-sets (a .skipped) 0 (sheetOf all .skipped) ∙ first .size;
+    room = fits;
+  }
 
-    abbrev more : List (List ℕ)
-    more = xs ++ (bs ∷ [])
+  pub join-holds : Holds m (joinOf a b) all
+  join-holds = rw added holds-all
 
-    fits : length more ≤ n
-    fits = omega (arith, length-append xs (bs ∷ []))
+-- ---- file after file
 
-    new-flags : take (length more) (sets (h .skipped) 0 (sheetOf more .skipped)) ≡ map flagOf more
-    new-flags =
-        cut-is (h .skipped) (sheetOf more .skipped) (sets (h .skipped) 0 (sheetOf more .skipped)) (length more) refl (sym (files-flags more))
-        (omega (arith, files-flags more, fits, holds .size))
-        ∙ flags-are more
-
-    holds-more : Holds n (holding h (sheetOf more)) more
-    unfolding holding
-    holds-more = record {
-      totals = refl;
-      dual = refl;
-      primal = refl;
-      flags = new-flags;
-      size = length-sets (h .skipped) 0 (sheetOf more .skipped) ∙ holds .size;
-      room = fits;
-    }
-
-    one-more : Holds n (addOf h bs) more
-    one-more = rw added holds-more
-
--- ---- all of them
+-- rows that hold a sheet and nothing else
+held-holds : (files : List (List ℕ)) → Holds (length files) (held (sheetOf files)) files
+unfolding held
+held-holds files = record {
+  totals = refl;
+  dual = refl;
+  primal = refl;
+  flags = take-all (length files) (sheetOf files .skipped) (omega (arith, files-flags files)) ∙ flags-are files;
+  size = files-flags files;
+  room = omega arith;
+}
 
 bytes-append : (xs ys : List (List ℕ)) → AllBytes xs → AllBytes ys → AllBytes (xs ++ ys)
 unfolding AllBytes
@@ -268,14 +256,24 @@ first-bytes : (bs : List ℕ) (files : List (List ℕ)) → AllBytes (bs ∷ fil
 unfolding AllBytes
 first-bytes bs files h = ((h .0, tt), h .1)
 
+bytes-parts : (xs ys : List (List ℕ)) → AllBytes (xs ++ ys) → AllBytes xs × AllBytes ys
+unfolding AllBytes
+bytes-parts [] ys h = (tt, h)
+bytes-parts (bs ∷ xs) ys h = let rest = bytes-parts xs ys (h .1) in ((h .0, rest .0), rest .1)
+
+add-holds : (n : ℕ) (h : Held) (xs : List (List ℕ)) (bs : List ℕ) → Holds n h xs → AllBytes xs → AllBytes (bs ∷ []) → length xs < 1000
+    → length xs < n → Holds n (addOf h bs) (xs ++ (bs ∷ []))
+unfolding addOf
+add-holds n h xs bs holds before bytes early free =
+    join-holds n (length (bs ∷ [])) h (held (sheetOf (bs ∷ []))) xs (bs ∷ []) holds (held-holds (bs ∷ [])) before bytes (omega arith) (omega arith)
+
 add-all : (n : ℕ) (h : Held) (xs files : List (List ℕ)) → Holds n h xs → AllBytes xs → AllBytes files → length xs + length files ≤ 1000
     → length xs + length files ≤ n → Holds n (addAll h files) (xs ++ files)
 unfolding addAll
 add-all n h xs [] holds before bytes few free = rw (append-nil xs) holds
 add-all n h xs (bs ∷ files) holds before bytes few free =
     let parts = first-bytes bs files bytes in
-    let early : length xs < 1000 = omega arith in
-    let next = one-more n h xs holds bs before (parts .0) early (omega arith) in
+    let next = add-holds n h xs bs holds before (parts .0) (omega arith) (omega arith) in
     let size = length-append xs (bs ∷ []) in
     rw (append-assoc xs (bs ∷ []) files) at
     (add-all n (addOf h bs) (xs ++ (bs ∷ [])) files next (bytes-append xs (bs ∷ []) before (parts .0)) (parts .1) (omega arith) (omega arith))
@@ -295,18 +293,25 @@ no-bytes : AllBytes []
 unfolding AllBytes
 no-bytes = tt
 
-code-zero : (files : List (List ℕ)) → totalsOf (sheetOf files) .code ≡ 0
-unfolding totalsOf
-code-zero files = refl
+pub all-hold : (h : Held) (files : List (List ℕ)) → Begun h → Countable (length (h .skipped)) files
+    → Holds (length (h .skipped)) (addAll h files) files
+all-hold h files begun fit =
+    add-all (length (h .skipped)) h [] files (begun-holds h begun) no-bytes (fit .bytes) (omega (arith, fit .few)) (omega (arith, fit .flags))
 
-module _ (h : Held) (files : List (List ℕ)) (begun : Begun h) (bytes : AllBytes files) (few : length files ≤ 1000)
-    (free : length files ≤ length (h .skipped)) where
-  all-hold : Holds (length (h .skipped)) (addAll h files) files
-  all-hold = add-all (length (h .skipped)) h [] files (begun-holds h begun) no-bytes bytes (omega arith) (omega arith)
+pub groups-hold : (a b : Held) (xs ys : List (List ℕ)) → Begun a → Begun b → Countable (length (a .skipped)) (xs ++ ys) → length ys ≤ length (b .skipped)
+    → Holds (length (a .skipped)) (joinOf (addAll a xs) (addAll b ys)) (xs ++ ys)
+groups-hold a b xs ys a-begun b-begun fit flags =
+    let bytes = bytes-parts xs ys (fit .bytes) in
+    let size = length-append xs ys in
+    let few : length xs + length ys ≤ 1000 = omega (arith, fit .few) in
+    let free : length xs + length ys ≤ length (a .skipped) = omega (arith, fit .flags) in
+    let first = all-hold a xs a-begun (record { bytes = bytes .0; few = omega arith; flags = omega arith }) in
+    let second = all-hold b ys b-begun (record { bytes = bytes .1; few = omega arith; flags = flags }) in
+    join-holds (length (a .skipped)) (length (b .skipped)) (addAll a xs) (addAll b ys) xs ys first second (bytes .0) (bytes .1) few free
 
 pub files-added : OfSums
 files-added = record {
-  all = λ h files begun bytes few free. holds-sheet (length (h .skipped)) (addAll h files) files (all-hold h files begun bytes few free);
-  done = λ h files begun bytes few free.
-      ap (λ (t : Totals). t .code) (all-hold h files begun bytes few free .totals) ∙ code-zero files;
+  one-by-one = λ h files begun fit. is-sheet (length (h .skipped)) (addAll h files) files (all-hold h files begun fit);
+  two-groups = λ a b xs ys a-begun b-begun fit flags.
+      is-sheet (length (a .skipped)) (joinOf (addAll a xs) (addAll b ys)) (xs ++ ys) (groups-hold a b xs ys a-begun b-begun fit flags);
 }

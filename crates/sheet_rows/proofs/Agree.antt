@@ -28,4 +28,4 @@ pub join-agrees : OneOutcome joining.Post {A = List ℕ × List ℕ × List ℕ}
 join-agrees κs a x y s t p q = held-alike (p ∙ sym q)
 
 pub add-agrees : OneOutcome adding.Post {A = List ℕ × List ℕ × List ℕ} (λ κs s. (now (s .1 .0), now (s .1 .1 .0), now (s .1 .1 .1 .0)))
-add-agrees κs a x y s t p q = held-alike (p ∙ sym q)
+add-agrees κs a x y s t p q = held-alike (p .0 ∙ sym (q .0))

@@ -3,6 +3,7 @@
 ghost use mathlib.Core.Path.{_≡_};
 ghost use mathlib.Core.Bool.{false, cond};
 ghost use lib.ListN.{length};
+ghost use Rattle.words.specs.Words.{AllBelow};
 ghost use Rattle.sheet_counts.specs.Counts.{Fresh, summed};
 ghost use Rattle.sheet_rows.specs.Rows.{spills, rowsOk, namedIn, namesOk, noRoom, sheetRow, joinCode, refusedTotals, joinOf, addOf};
 ghost use Rattle.sheet_rows.specs.Added.{TotalsFit, joinedTotals};
@@ -221,7 +222,8 @@ fn flag_of(taken: bool) -> u8
     if taken { 0 } else { 1 }
 }
 
-// The bytes of one file more: the sheet of that file alone, added.
+// The bytes of one file more: the sheet of that file alone, added. Beside the equation the contract says what every call has and the theorems ask: the file holds
+// bytes.
 pub fn add(
     sheet: Totals,
     dual: &mut [u64],
@@ -229,9 +231,10 @@ pub fn add(
     skipped: &mut [u8],
     file: &[u8],
 ) -> Totals
-    ensures { λ r. ⌜ record { totals = r; dual = now (dual .exit); primal = now (primal .exit); skipped = now (skipped .exit) }
+    ensures { λ r. ⌜ (record { totals = r; dual = now (dual .exit); primal = now (primal .exit); skipped = now (skipped .exit) }
         ≡ addOf (record { totals = sheet; dual = now (dual .entry); primal = now (primal .entry); skipped = now (skipped .entry) })
-        (now (file .entry)) ⌝ }
+        (now (file .entry)))
+        × AllBelow 256 (now (file .entry)) ⌝ }
 {
     let mut dual2 = row();
     let mut primal2 = row();

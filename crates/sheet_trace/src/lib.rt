@@ -3,7 +3,7 @@ ghost use mathlib.Core.Path.{_≡_};
 ghost use mathlib.Core.Bool.{true, false, cond};
 ghost use Prim.Native.Nat.{_-_, _≤_};
 ghost use lib.ListN.{length};
-ghost use Rattle.words.specs.Words.{wordAt};
+ghost use Rattle.words.specs.Words.{wordAt, AllBelow};
 ghost use Rattle.whole_records.specs.Whole.{wholeRecords};
 ghost use Rattle.sheet_counts.specs.Counts.{Fresh, countsOf};
 ghost use Rattle.sheet_counts.specs.Sheet.{entriesIn, entriesOf};
@@ -120,7 +120,7 @@ fn nothing() -> Part
 pub fn one_file(bytes: &[u8], dual: &mut [u64], primal: &mut [u64]) -> Part
     requires { ⌜ Fresh (now dual) × Fresh (now primal) ⌝ }
     ensures { λ r. ⌜ (r ≡ partOf (now (bytes .entry))) × (now (dual .exit) ≡ countsOf (entriesOf false 1 (now (bytes .entry))))
-        × (now (primal .exit) ≡ countsOf (entriesOf true 1 (now (bytes .entry)))) ⌝ }
+        × (now (primal .exit) ≡ countsOf (entriesOf true 1 (now (bytes .entry)))) × AllBelow 256 (now (bytes .entry)) ⌝ }
 {
     if MOST_BYTES < bytes.len() {
         return nothing();

@@ -27,10 +27,12 @@ returns c =
     let f = flagged j in
     let o = filed f in
     let a = started o .args in
-    let e = o .one-file .ensures in
-    j .join .ensures
-    ∙ ap (joinOf (record { totals = a .sheet; dual = now (a .dual); primal = now (a .primal); skipped = now (a .skipped) }))
-    (one-held (now (a .file)) (o .one-file .result) _ _ (f .flag-of .result) (e .0) (e .1) (e .2) (f .flag-of .ensures))
+    let e = o .one-file .ensures in (
+      j .join .ensures
+          ∙ ap (joinOf (record { totals = a .sheet; dual = now (a .dual); primal = now (a .primal); skipped = now (a .skipped) }))
+          (one-held (now (a .file)) (o .one-file .result) _ _ (f .flag-of .result) (e .0) (e .1) (e .2) (f .flag-of .ensures)),
+      e .3,
+    )
 
 pub add-spec : {M : Type 1} → statement M
 add-spec =

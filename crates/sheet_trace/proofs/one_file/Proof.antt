@@ -15,28 +15,38 @@ use Rattle.sheet_trace.proofs.Parts.{too-large, broken, no-part, no-cou
 use Rattle.sheet_trace.proofs.one_file.Statement.{statement}
 use Rattle.sheet_trace.proofs.one_file.Tie as tie
 
--- the places of the code: the file that is not too large, and the call's own
+-- the places of the code: the file that is not too large, the file itself, and the call's own
+abbrev filed : tie.Else1 → tie.After-shared-slice-known
+filed c = c .before .before .before
+
 abbrev given : tie.Else1 → tie.Start
-given c = c .before .before .before .before
+given c = filed c .before
+
+is-bytes : (c : tie.After-shared-slice-known) → AllBelow 256 (now (c .before .args .bytes))
+is-bytes c = below-of-places 256 (now (c .before .args .bytes)) (λ i h. omega (arith, c .shared-slice-known .given i))
 
 returns : tie.Need-returns
 returns c =
-    let s = c .before .before .before .before .before in
+    let f = c .before .before .before .before in
+    let s = f .before in
     let skipped = too-large (now (s .args .bytes)) (c .before .if1 .taken) in (
       c .nothing .ensures ∙ no-part (now (s .args .bytes)) skipped,
       no-counts (now (s .args .bytes)) skipped false (now (s .args .dual)) (s .pre .0),
       no-counts (now (s .args .bytes)) skipped true (now (s .args .primal)) (s .pre .1),
+      is-bytes f,
     )
 
 returns-2 : tie.Need-returns-2
 returns-2 c =
-    let s = given (c .before .before .before .before) in
+    let f = filed (c .before .before .before .before) in
+    let s = f .before in
     let is = c .before .before .before .«open» .ensures in
     let skipped =
     broken (now (s .args .bytes)) (λ on. c .before .if2 .taken (ap (λ (x : Opened). x .code) is ∙ on)) in (
       c .nothing2 .ensures ∙ no-part (now (s .args .bytes)) skipped,
       no-counts (now (s .args .bytes)) skipped false (now (s .args .dual)) (s .pre .0),
       no-counts (now (s .args .bytes)) skipped true (now (s .args .primal)) (s .pre .1),
+      is-bytes f,
     )
 
 -- a good trace
@@ -53,7 +63,7 @@ returns-3 c =
     let o = opening d in
     let s = given (o .before) in
     let bs = now (s .args .bytes) in
-    let bytes : AllBelow 256 bs = below-of-places 256 bs (λ i h. omega (arith, o .before .before .before .before .shared-slice-known .given i)) in
+    let bytes = is-bytes (filed (o .before)) in
     let few = o .before .if1 .left in
     let on = d .before .before .if2 .left in
     let is = o .«open» .ensures in
@@ -62,6 +72,7 @@ returns-3 c =
           (d .tally-side .ensures .0) (q .tally-side2 .ensures .0),
       d .tally-side .ensures .1 ∙ ap countsOf (same false),
       q .tally-side2 .ensures .1 ∙ ap countsOf (same true),
+      bytes,
     )
 
 pub one-file-spec : {M : Type 1} → statement M

@@ -2,7 +2,11 @@
 // sheet_text of `sheetOf` of the crate sheet_counts. A file that cannot be read is said in one line, and then no sheet is printed. Where there are many files, a line on
 // standard error tells how far it is. One file at a time, the rows and the text lie on the stack.
 ghost use mathlib.Core.Path.{_≡_};
+ghost use mathlib.Core.List.{[]};
 ghost use lib.ListN.{length};
+ghost use Rattle.sheet_counts.specs.Sheet.{sheetOf};
+ghost use Rattle.sheet_rows.specs.Rows.{totalsOf};
+ghost use Rattle.sheet.specs.Counting.{FilesCounted};
 use libc::STDERR_FILENO;
 use libc::STDOUT_FILENO;
 use sheet_counts::Largest;
@@ -45,7 +49,9 @@ fn text_room() -> [u8; 326464]
 }
 
 // The sheet of no files.
-fn nothing() -> Totals {
+fn nothing() -> Totals
+    ensures { λ r. ⌜ r ≡ totalsOf (sheetOf []) ⌝ }
+{
     let none = Largest {
         size: 0,
         file: 0,
@@ -84,7 +90,11 @@ fn count_files(
     dual: &mut [u64],
     primal: &mut [u64],
     skipped: &mut [u8],
-) -> Counted {
+) -> Counted
+    ensures { λ r. ⌜ FilesCounted files (r .done)
+        (record { totals = totalsOf (sheetOf []); dual = now (dual .entry); primal = now (primal .entry); skipped = now (skipped .entry) })
+        (record { totals = r .totals; dual = now (dual .exit); primal = now (primal .exit); skipped = now (skipped .exit) }) ⌝ }
+{
     let mut totals = nothing();
     for i in 0..files {
         let got = read_argument(i + 1, b"FILE", file);

@@ -247,7 +247,7 @@ held-holds files = record {
   room = omega arith;
 }
 
-bytes-append : (xs ys : List (List ℕ)) → AllBytes xs → AllBytes ys → AllBytes (xs ++ ys)
+pub bytes-append : (xs ys : List (List ℕ)) → AllBytes xs → AllBytes ys → AllBytes (xs ++ ys)
 unfolding AllBytes
 bytes-append [] ys h g = g
 bytes-append (bs ∷ xs) ys h g = (h .0, bytes-append xs ys (h .1) g)

@@ -1,15 +1,27 @@
--- `count_files` is safe: the slices keep their lengths from turn to turn. The measure is the count of files left. Assumes nothing.
+-- `count_files` meets its contract. The loop's invariant: as many files as turns were read and added, and the slices keep their lengths. The measure is the count
+-- of files left. Assumes nothing.
 use mathlib.Core.Path.{_≡_, refl, _∙_}
-use Prim.Native.Nat.{_-_, _≤_, _<_}
+use mathlib.Core.List.{List, []}
+use Prim.Native.Nat.{ℕ, _-_, _≤_, _<_}
 use native.Mathlib.Omega.{arith}
 use lib.ListN.{length}
+use denote.Ref.{now}
+use Rattle.sheet_counts.specs.Sheet.{sheetOf}
+use Rattle.sheet_rows.specs.declared.Totals.{Totals}
+use Rattle.sheet_rows.specs.Rows.{Held, totalsOf}
+use Rattle.sheet.specs.Counting.{Added}
+use Rattle.sheet.proofs.Reading.{none-added, one-more, unread}
 use Rattle.sheet.proofs.count_files.Statement.{statement}
 use Rattle.sheet.proofs.count_files.Tie as tie
+
+abbrev rows : Totals → List ℕ → List ℕ → List ℕ → Held
+rows totals dual primal skipped = record { totals = totals; dual = dual; primal = primal; skipped = skipped }
 
 abbrev Inv-loop : tie.InvT-loop
 Inv-loop files file₀ dual₀ primal₀ skipped₀ totals₀ i₀ name file dual primal skipped totals i =
     (i ≤ files) × (length file ≡ length file₀) × (length dual ≡ length dual₀) × (length primal ≡ length primal₀)
     × (length skipped ≡ length skipped₀)
+    × Added i (rows (totalsOf (sheetOf [])) dual₀ primal₀ skipped₀) (rows totals dual primal skipped)
 
 abbrev μ-loop : tie.MeasureT-loop
 μ-loop files file₀ dual₀ primal₀ skipped₀ totals₀ i₀ name file dual primal skipped totals i = files - i
@@ -18,8 +30,8 @@ abbrev μ-loop : tie.MeasureT-loop
 abbrev turn : tie.After-read-argument Inv-loop μ-loop → tie.At-loop Inv-loop μ-loop
 turn c = c .before .before .before .before
 
-abbrev unread : tie.Then1 Inv-loop μ-loop → tie.After-read-argument Inv-loop μ-loop
-unread c = c .before .before .before .before
+abbrev unread-file : tie.Then1 Inv-loop μ-loop → tie.After-read-argument Inv-loop μ-loop
+unread-file c = c .before .before .before .before
 
 abbrev added : tie.After-tell Inv-loop μ-loop → tie.After-add Inv-loop μ-loop
 added c = c .before .before .before .before .before .before .before
@@ -52,7 +64,18 @@ loop-again c =
       a .add .kept .1 .0 ∙ inv .2,
       a .add .kept .1 .1 .0 ∙ inv .3,
       a .add .kept .1 .1 .1 .0 ∙ inv .4,
+      one-more (turn r .loop .i) _ _ _ (now (a .before .front .result)) (inv .5) (a .add .ensures .1) (a .add .ensures .0),
     )
+
+returns : tie.Need-returns Inv-loop μ-loop
+returns c =
+    let l = turn (unread-file c) .loop in
+    record { n = l .i; few = l .inv .0; all = unread (l .i) _; added = l .inv .5 }
+
+returns-2 : tie.Need-returns-2 Inv-loop μ-loop
+returns-2 c =
+    let l = c .before .loop in
+    record { n = l .i; few = l .inv .0; all = λ done. omega (arith, l .inv .0); added = l .inv .5 }
 
 pub count-files-spec : {M : Type 1} → statement M
 count-files-spec =
@@ -61,15 +84,16 @@ count-files-spec =
     Inv-loop
     μ-loop
     (λ c κs. tt)
-    (λ c. (omega arith, refl, refl, refl, refl))
+    (λ c. (omega arith, refl, refl, refl, refl, none-added (c .nothing .ensures)))
     (λ c. omega arith)
     (λ c. refl)
     (λ c κs. tt)
-    (λ c. let r = unread c in r .read-argument .kept .1 .1 .0 ∙ turn r .loop .inv .1)
-    (λ c. turn (unread c) .loop .inv .2)
-    (λ c. turn (unread c) .loop .inv .3)
-    (λ c. turn (unread c) .loop .inv .4)
-    (λ c. tt) (λ c κs. tt) (λ c κs. tt)
+    (λ c. let r = unread-file c in r .read-argument .kept .1 .1 .0 ∙ turn r .loop .inv .1)
+    (λ c. turn (unread-file c) .loop .inv .2)
+    (λ c. turn (unread-file c) .loop .inv .3)
+    (λ c. turn (unread-file c) .loop .inv .4)
+    returns
+    (λ c κs. tt) (λ c κs. tt)
     add-tell
     (λ c κs. tt)
     add-i
@@ -79,4 +103,4 @@ count-files-spec =
     (λ c. c .before .loop .inv .2)
     (λ c. c .before .loop .inv .3)
     (λ c. c .before .loop .inv .4)
-    (λ c. tt))
+    returns-2)

@@ -1,0 +1,45 @@
+-- No file, and one file more, of those that were read and added one by one. Assumes nothing.
+use mathlib.Core.Path.{_≡_, refl, sym, ap, _∙_}
+use mathlib.Core.Bool.{true, false}
+use mathlib.Core.List.{List, [], _∷_, _++_}
+use Prim.Native.Nat.{ℕ, _+_}
+use native.Mathlib.Omega.{arith}
+use lib.ListN.{length-append}
+use Rattle.words.specs.Words.{AllBelow}
+use Rattle.sheet_counts.specs.Laws.{AllBytes}
+use Rattle.sheet_rows.specs.declared.Totals.{Totals}
+use Rattle.sheet_rows.specs.Rows.{Held, addOf}
+use Rattle.sheet_rows.specs.Sums.{addAll}
+use Rattle.sheet_rows.proofs.Sums.{bytes-append}
+use Rattle.sheet.specs.Counting.{Added}
+
+no-bytes : AllBytes []
+unfolding AllBytes
+no-bytes = tt
+
+one-bytes : (bs : List ℕ) → AllBelow 256 bs → AllBytes (bs ∷ [])
+unfolding AllBytes
+one-bytes bs h = (h, tt)
+
+pub none-added : {t u : Totals} {dual primal skipped : List ℕ} → u ≡ t
+    → Added 0 (record { totals = t; dual = dual; primal = primal; skipped = skipped })
+    (record { totals = u; dual = dual; primal = primal; skipped = skipped })
+unfolding addAll
+none-added e = record { files = []; bytes = no-bytes; all = refl; held = rw e }
+
+add-last : (h : Held) (files : List (List ℕ)) (bs : List ℕ) → addAll h (files ++ (bs ∷ [])) ≡ addOf (addAll h files) bs
+unfolding addAll
+add-last h [] bs = refl
+add-last h (one ∷ files) bs = add-last (addOf h one) files bs
+
+pub one-more : (n : ℕ) (before mid after : Held) (bs : List ℕ) → Added n before mid → AllBelow 256 bs → after ≡ addOf mid bs → Added (n + 1) before after
+one-more n before mid after bs so-far bytes e = record {
+  files = so-far .files ++ (bs ∷ []);
+  bytes = bytes-append (so-far .files) (bs ∷ []) (so-far .bytes) (one-bytes bs bytes);
+  all = length-append (so-far .files) (bs ∷ []) ∙ ap (λ (k : ℕ). k + 1) (so-far .all);
+  held = e ∙ ap (λ (h : Held). addOf h bs) (so-far .held) ∙ sym (add-last before (so-far .files) bs);
+}
+
+-- where a file was not read, nothing is said of their number
+pub unread : (m n : ℕ) → false ≡ true → m ≡ n
+unread m n e = let z : _≡_ {A = ℕ} 0 1 = cc in absurd (omega arith)

@@ -1,2 +1,2 @@
--- Files added one by one, from the last: the turns of the program's loop (Reading).
+-- Files read and added one by one, and the text of their sheet (Reading).
 pub mod Reading

@@ -1,17 +1,20 @@
--- No file, and one file more, of those that were read and added one by one. Assumes nothing.
+-- No file, and one file more, of those that were read and added one by one; and the text of their sheet. Assumes nothing.
 use mathlib.Core.Path.{_≡_, refl, sym, ap, _∙_}
-use mathlib.Core.Bool.{true, false}
+use mathlib.Core.Bool.{Bool, true, false}
 use mathlib.Core.List.{List, [], _∷_, _++_}
-use Prim.Native.Nat.{ℕ, _+_}
+use Prim.Native.Nat.{ℕ, _+_, _≤_}
 use native.Mathlib.Omega.{arith}
-use lib.ListN.{length-append}
+use lib.ListN.{length, length-append}
 use Rattle.words.specs.Words.{AllBelow}
 use Rattle.sheet_counts.specs.Laws.{AllBytes}
 use Rattle.sheet_rows.specs.declared.Totals.{Totals}
 use Rattle.sheet_rows.specs.Rows.{Held, addOf}
-use Rattle.sheet_rows.specs.Sums.{addAll}
+use Rattle.sheet_rows.specs.Sums.{Begun, Countable, addAll}
 use Rattle.sheet_rows.proofs.Sums.{bytes-append}
-use Rattle.sheet.specs.Counting.{Added}
+use Rattle.sheet_text.specs.declared.Printed.{Printed}
+use Rattle.sheet_text.specs.Printed.{textRoom, Told, printOf}
+use Rattle.sheet_text.proofs.FromFiles.{files-printed}
+use Rattle.sheet.specs.Counting.{Added, FilesCounted, SheetPrinted}
 
 no-bytes : AllBytes []
 unfolding AllBytes
@@ -43,3 +46,21 @@ one-more n before mid after bs so-far bytes e = record {
 -- where a file was not read, nothing is said of their number
 pub unread : (m n : ℕ) → false ≡ true → m ≡ n
 unread m n e = let z : _≡_ {A = ℕ} 0 1 = cc in absurd (omega arith)
+
+-- every file was read: what is printed is the text of their sheet
+module _ (asked : ℕ) (old new : List ℕ) (before after : Held) (few : asked ≤ 1000) (room : textRoom ≤ length old) (begun : Begun before)
+    (flags : length (before .skipped) ≡ 1000) where
+  pub sheet-printed : (done : Bool) → done ≡ true → FilesCounted asked done before after → (answer : Printed)
+      → record { answer = answer; text = new } ≡ printOf old after → SheetPrinted asked (answer .length) old new
+  sheet-printed done is counted answer told =
+      let files = counted .added .files in
+      let all : length files ≡ asked = counted .added .all ∙ counted .all is in
+      let fit : Countable (length (before .skipped)) files = record { bytes = counted .added .bytes; few = omega arith; flags = omega arith } in
+      let whole = told ∙ ap (printOf old) (counted .added .held) ∙ files-printed .one-by-one old before files room begun fit in
+      record {
+        files = files;
+        bytes = counted .added .bytes;
+        all = all;
+        end = ap (λ (t : Told). t .answer .length) whole;
+        text = ap (λ (t : Told). t .text) whole;
+      }

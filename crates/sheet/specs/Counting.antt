@@ -3,11 +3,15 @@
 use Prim.Native.Nat.{ℕ, _≤_}
 use mathlib.Core.Path.{_≡_}
 use mathlib.Core.Bool.{Bool, true}
+use mathlib.Core.Logic.{_⊎_}
 use mathlib.Core.List.{List}
 use lib.ListN.{length}
+use lib.Seq.{sets}
 use Rattle.sheet_counts.specs.Laws.{AllBytes}
+use Rattle.sheet_counts.specs.Sheet.{sheetOf}
 use Rattle.sheet_rows.specs.Rows.{Held}
 use Rattle.sheet_rows.specs.Sums.{addAll}
+use Rattle.sheet_text.specs.Printed.{sheetText}
 
 -- so many files were read, and added one by one
 pub record Added (n : ℕ) (before after : Held) : Type 0 where
@@ -22,3 +26,15 @@ pub record FilesCounted (asked : ℕ) (done : Bool) (before after : Held) : Type
   pub few : n ≤ asked
   pub all : done ≡ true → n ≡ asked
   pub added : Added n before after
+
+-- the text of the sheet of as many files as asked for: n bytes, from the first on
+pub record SheetPrinted (asked n : ℕ) (old new : List ℕ) : Type 0 where
+  pub files : List (List ℕ)
+  pub bytes : AllBytes files
+  pub all : length files ≡ asked
+  pub end : n ≡ length (sheetText (sheetOf files))
+  pub text : new ≡ sets old 0 (sheetText (sheetOf files))
+
+-- .. or nothing, where one was not read
+abbrev pub FilesPrinted : ℕ → ℕ → List ℕ → List ℕ → Type 0
+FilesPrinted asked n old new = ((n ≡ 0) × (new ≡ old)) ⊎ SheetPrinted asked n old new

@@ -1,12 +1,15 @@
 // sheet FILE ..: the monthly sheet of traces, files numbered from 1 as given. 02, Order 14. It reads, calls and writes; what it prints is `sheetText` of the crate
-// sheet_text of `sheetOf` of the crate sheet_counts. A file that cannot be read is said in one line, and then no sheet is printed. Where there are many files, a line on
-// standard error tells how far it is. One file at a time, the rows and the text lie on the stack.
+// sheet_text of `sheetOf` of the crate sheet_counts, of the files that were read: `put_files` says so. A file that cannot be read is said in one line, and then no sheet
+// is printed. Where there are many files, a line on standard error tells how far it is. One file at a time, the rows and the text lie on the stack.
 ghost use mathlib.Core.Path.{_≡_};
 ghost use mathlib.Core.List.{[]};
+ghost use Prim.Native.Nat.{_≤_};
 ghost use lib.ListN.{length};
+ghost use Rattle.sheet_counts.specs.Counts.{Fresh};
 ghost use Rattle.sheet_counts.specs.Sheet.{sheetOf};
 ghost use Rattle.sheet_rows.specs.Rows.{totalsOf};
-ghost use Rattle.sheet.specs.Counting.{FilesCounted};
+ghost use Rattle.sheet_text.specs.Printed.{textRoom};
+ghost use Rattle.sheet.specs.Counting.{FilesCounted, FilesPrinted};
 use libc::STDERR_FILENO;
 use libc::STDOUT_FILENO;
 use sheet_counts::Largest;
@@ -30,7 +33,7 @@ fn file_room() -> [u8; 65537]
 }
 
 fn count_room() -> [u64; 2048]
-    ensures { λ r. ⌜ length r ≡ 2048 ⌝ }
+    ensures { λ r. ⌜ Fresh r ⌝ }
 {
     [0; 2048]
 }
@@ -83,7 +86,7 @@ struct Counted {
     totals: Totals,
 }
 
-// The files one after the other, each into the same room.
+// The files one after the other, each into the same room. What stands in them is no argument: the contract says that there are such files, and what their rows hold.
 fn count_files(
     files: usize,
     file: &mut [u8],
@@ -110,10 +113,22 @@ fn count_files(
     Counted { done: true, totals }
 }
 
-fn print(sheet: Totals, dual: &[u64], primal: &[u64], skipped: &[u8]) {
-    let mut text = text_room();
-    let printed = put_sheet(&mut text, sheet, dual, primal, skipped);
-    io::write_all(STDOUT_FILENO, front(&text, printed.length as usize));
+// The text of their sheet, and its length; 0 where one was not read.
+fn put_files(files: usize, text: &mut [u8]) -> usize
+    requires { ⌜ (files ≤ 1000) × (textRoom ≤ length (now text)) ⌝ }
+    ensures { λ r. ⌜ FilesPrinted files r (now (text .entry)) (now (text .exit)) ⌝ }
+{
+    let mut file = file_room();
+    let mut dual = count_room();
+    let mut primal = count_room();
+    let mut skipped = flag_room();
+    let counted = count_files(files, &mut file, &mut dual, &mut primal, &mut skipped);
+    if !counted.done {
+        return 0;
+    }
+    let sheet = counted.totals;
+    let printed = put_sheet(text, sheet, &dual, &primal, &skipped);
+    printed.length as usize
 }
 
 fn main() {
@@ -127,13 +142,7 @@ fn main() {
         io::write_all(STDERR_FILENO, b"sheet: at most 1,000 files\n");
         return;
     }
-    let mut file = file_room();
-    let mut dual = count_room();
-    let mut primal = count_room();
-    let mut skipped = flag_room();
-    let counted = count_files(files, &mut file, &mut dual, &mut primal, &mut skipped);
-    let sheet = counted.totals;
-    if counted.done {
-        print(sheet, &dual, &primal, &skipped);
-    }
+    let mut text = text_room();
+    let n = put_files(files, &mut text);
+    io::write_all(STDOUT_FILENO, front(&text, n));
 }

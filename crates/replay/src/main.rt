@@ -3,8 +3,8 @@
 ghost use mathlib.Core.Path.{_≡_};
 ghost use lib.ListN.{length};
 use libc::STDERR_FILENO;
-use libc::STDOUT_FILENO;
 use replay_file::put_replay;
+use trace_file::print_text;
 use trace_file::read_argument;
 
 // One byte more than a file may have, so that a larger one shows. The `ensures` gives the length alone, which lending the array needs.
@@ -26,7 +26,7 @@ fn print(file: &[u8]) {
     let n = put_replay(&mut text, file);
     // it has room for every text, so this holds
     if n <= text.len() {
-        io::write_all(STDOUT_FILENO, &text[..n]);
+        print_text(&text[..n]);
     }
 }
 

@@ -4,9 +4,9 @@
 ghost use mathlib.Core.Path.{_≡_};
 ghost use lib.ListN.{length};
 use libc::STDERR_FILENO;
-use libc::STDOUT_FILENO;
 use rescue_file::edition_of;
 use rescue_file::put_rescue;
+use trace_file::print_text;
 use trace_file::read_argument;
 use trace_file::write_argument;
 use trace_judge::NEWEST_EDITION;
@@ -49,11 +49,11 @@ fn save(file: &[u8], edition: u32) {
     let n = put_rescue(file, &mut text, &mut output, edition);
     // a trace has at least 20 bytes: none is a refusal
     if n.output == 0 {
-        io::write_all(STDOUT_FILENO, front(&text, n.text));
+        print_text(front(&text, n.text));
         return;
     }
     if write_argument(2, b"OUT", front(&output, n.output)) {
-        io::write_all(STDOUT_FILENO, front(&text, n.text));
+        print_text(front(&text, n.text));
     }
 }
 

@@ -11,11 +11,11 @@ ghost use Rattle.sheet_rows.specs.Rows.{totalsOf};
 ghost use Rattle.sheet_text.specs.Printed.{textRoom};
 ghost use Rattle.sheet.specs.Counting.{FilesCounted, FilesPrinted};
 use libc::STDERR_FILENO;
-use libc::STDOUT_FILENO;
 use sheet_counts::Largest;
 use sheet_rows::Totals;
 use sheet_rows::add;
 use sheet_text::put_sheet;
+use trace_file::print_text;
 use trace_file::read_argument;
 use words::front;
 
@@ -144,5 +144,5 @@ fn main() {
     }
     let mut text = text_room();
     let n = put_files(files, &mut text);
-    io::write_all(STDOUT_FILENO, front(&text, n));
+    print_text(front(&text, n));
 }

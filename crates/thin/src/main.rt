@@ -4,8 +4,8 @@
 ghost use mathlib.Core.Path.{_≡_};
 ghost use lib.ListN.{length};
 use libc::STDERR_FILENO;
-use libc::STDOUT_FILENO;
 use thin_file::put_thin;
+use trace_file::print_text;
 use trace_file::read_argument;
 use trace_file::write_argument;
 use words::front;
@@ -37,11 +37,11 @@ fn save(file: &[u8]) {
     let n = put_thin(file, &mut text, &mut output);
     // a trace has at least 20 bytes: none is a refusal
     if n.output == 0 {
-        io::write_all(STDOUT_FILENO, front(&text, n.text));
+        print_text(front(&text, n.text));
         return;
     }
     if write_argument(2, b"OUT", front(&output, n.output)) {
-        io::write_all(STDOUT_FILENO, front(&text, n.text));
+        print_text(front(&text, n.text));
     }
 }
 

@@ -1,5 +1,5 @@
-// Files by the arguments that a program over traces is started with. What fails is said in one line on standard error. What the system hands over is no
-// argument of a function here, so their contracts leave it open.
+// Files by the arguments that a program over traces is started with, and standard output. What fails is said in one line on standard error: a program has no exit
+// status of its own. What the system hands over is no argument of a function here, so their contracts leave it open.
 ghost use Rattle.io.specs.Counts.{Counts};
 
 // Whether a file was read to its end or to the slice's, and how many of its bytes stand at the slice's start.
@@ -65,4 +65,11 @@ pub fn write_argument(i: usize, name: &[u8], bytes: &[u8]) -> bool {
         return false;
     }
     true
+}
+
+// Writes a text to standard output. One that is cut is said: it would look whole.
+pub fn print_text(text: &[u8]) {
+    if !io::write_all(libc::STDOUT_FILENO, text) {
+        os::fail(b"standard output");
+    }
 }

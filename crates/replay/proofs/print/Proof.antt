@@ -6,8 +6,8 @@ use borrow.Author.Needs.{needs}
 use Rattle.replay.proofs.print.Statement.{statement}
 use Rattle.replay.proofs.print.Tie as tie
 
-slice-aggregate-write-all : tie.Need-slice-aggregate-write-all
-slice-aggregate-write-all c =
+slice-aggregate-print-text : tie.Need-slice-aggregate-print-text
+slice-aggregate-print-text c =
     let p = c .before .before .before in
     let room = p .put-replay .kept .0 ∙ p .before .before .text-room .ensures in
     sym (length-take-le (p .put-replay .result) (p .put-replay .last .0) (omega (arith, room, c .before .if1 .taken)))
@@ -17,5 +17,5 @@ print-spec =
     tie.close
     (tie.spec
     (λ c κs. search needs) (λ c. search needs) (λ c κs. search needs) (λ c. search needs)
-    slice-aggregate-write-all
+    slice-aggregate-print-text
     (λ c κs. search needs) (λ c. search needs) (λ c. search needs))

@@ -1,8 +1,8 @@
 #!/usr/bin/env python3
 """A second reading of document 02's Order 14, to hold the program sheet to.
 
-usage: sheet.py cases DIR    writes below DIR a folder of files for each case, NAME/001 and on, and NAME.text, what the program must print of them
-       sheet.py month DIR    writes DIR/001 to DIR/1000, a month's worth of the largest traces, and DIR.text
+usage: sheet.py cases DIR    writes below DIR a folder of files for each case, NAME/0001 and on, and NAME.text, what the program must print of them
+       sheet.py month DIR    writes DIR/0001 to DIR/1000, a month's worth of the largest traces, and DIR.text
        sheet.py --help       this text
 
 Each sheet of two groups of files is held to the two groups' sheets added, as text. Exit status 1: they differ; 2: bad usage.

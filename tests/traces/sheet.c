@@ -134,7 +134,11 @@ static int calls(void)
     u.primal[2047] = UINT64_MAX;
     s.primal[2047] = before.primal[2047] = 1;
     refused(join(&s, &u), 8, &s, &before, "8: a count");
-    s.primal[2047] = 0;
+    s.primal[2047] = before.primal[2047] = 0;
+    u.dual[0] = UINT64_MAX;
+    s.dual[0] = before.dual[0] = 1;
+    refused(join(&s, &u), 8, &s, &before, "8: a count of the dual side");
+    s.dual[0] = before.dual[0] = 0;
     check(join(&s, &u).code == 0 && s.primal[2047] == UINT64_MAX, "the largest count");
 
     /* the text, and what lies behind it */

@@ -1,9 +1,9 @@
 -- `cross` meets its contract: it is the definition's text. Assumes nothing.
 use mathlib.Core.Path.{refl}
-use Rattle.scaling.specs.Scalings.{crossOf}
+use Rattle.primal_dual.specs.Block.{crossOf}
 use borrow.Author.Needs.{needs}
-use Rattle.scaling.proofs.cross.Statement.{statement}
-use Rattle.scaling.proofs.cross.Tie as tie
+use Rattle.primal_dual.proofs.cross.Statement.{statement}
+use Rattle.primal_dual.proofs.cross.Tie as tie
 
 returns : tie.Need-returns
 unfolding crossOf

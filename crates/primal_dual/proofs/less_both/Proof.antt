@@ -1,8 +1,8 @@
 -- `less_both` meets its contract: it is the definition's text. Assumes nothing.
 use mathlib.Core.Path.{refl}
-use Rattle.scaling.specs.Scalings.{lessBoth}
-use Rattle.scaling.proofs.less_both.Statement.{statement}
-use Rattle.scaling.proofs.less_both.Tie as tie
+use Rattle.primal_dual.specs.Block.{lessBoth}
+use Rattle.primal_dual.proofs.less_both.Statement.{statement}
+use Rattle.primal_dual.proofs.less_both.Tie as tie
 
 returns : tie.Need-returns
 unfolding lessBoth

@@ -1,9 +1,9 @@
 -- `less` meets its contract: it is the definition's text. Assumes nothing.
 use mathlib.Core.Path.{refl}
-use Rattle.scaling.specs.Scalings.{lessAt}
+use Rattle.primal_dual.specs.Block.{lessAt}
 use borrow.Author.Needs.{needs}
-use Rattle.scaling.proofs.less.Statement.{statement}
-use Rattle.scaling.proofs.less.Tie as tie
+use Rattle.primal_dual.proofs.less.Statement.{statement}
+use Rattle.primal_dual.proofs.less.Tie as tie
 
 returns : tie.Need-returns
 unfolding lessAt

@@ -1,22 +1,9 @@
 -- `rest` meets its contract, place by place by that of `less_both`. Assumes nothing.
-use mathlib.Core.Path.{_≡_}
-use mathlib.Core.List.{[], _∷_}
-use lib.Ieee.{Float}
-use Rattle.scaling.specs.Scalings.{restAt}
+use Rattle.primal_dual.specs.Block.{restAt}
+use Rattle.primal_dual.proofs.Places.{six}
 use borrow.Author.Needs.{needs}
-use Rattle.scaling.proofs.rest.Statement.{statement}
-use Rattle.scaling.proofs.rest.Tie as tie
-
-six
-    : {a b c d e f a' b' c' d' e' f' : Float}
-    → a ≡ a'
-    → b ≡ b'
-    → c ≡ c'
-    → d ≡ d'
-    → e ≡ e'
-    → f ≡ f'
-    → (a ∷ b ∷ c ∷ d ∷ e ∷ f ∷ []) ≡ a' ∷ b' ∷ c' ∷ d' ∷ e' ∷ f' ∷ []
-six p q r s t u = cc
+use Rattle.primal_dual.proofs.rest.Statement.{statement}
+use Rattle.primal_dual.proofs.rest.Tie as tie
 
 returns : tie.Need-returns
 unfolding restAt

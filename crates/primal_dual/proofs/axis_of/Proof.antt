@@ -1,8 +1,8 @@
 -- `axis_of` meets its contract, by those of `cross` and `normalize3`. Assumes nothing.
-use Rattle.scaling.specs.Scalings.{axisOf}
+use Rattle.primal_dual.specs.Block.{axisOf}
 use borrow.Author.Needs.{needs}
-use Rattle.scaling.proofs.axis_of.Statement.{statement}
-use Rattle.scaling.proofs.axis_of.Tie as tie
+use Rattle.primal_dual.proofs.axis_of.Statement.{statement}
+use Rattle.primal_dual.proofs.axis_of.Tie as tie
 
 returns : tie.Need-returns
 unfolding axisOf

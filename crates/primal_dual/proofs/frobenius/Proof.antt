@@ -1,8 +1,8 @@
 -- `frobenius` meets its contract: the definition's text, with the products that it calls for. Assumes nothing.
-use Rattle.scaling.specs.Scalings.{frobeniusOf}
+use Rattle.primal_dual.specs.Block.{frobeniusOf}
 use borrow.Author.Needs.{needs}
-use Rattle.scaling.proofs.frobenius.Statement.{statement}
-use Rattle.scaling.proofs.frobenius.Tie as tie
+use Rattle.primal_dual.proofs.frobenius.Statement.{statement}
+use Rattle.primal_dual.proofs.frobenius.Tie as tie
 
 returns : tie.Need-returns
 unfolding frobeniusOf

@@ -1,8 +1,8 @@
 -- `use_primal_dual_scaling` meets its contract: the definition's text, with the products that it calls for. Assumes nothing.
-use Rattle.scaling.specs.Scalings.{primalDualBlock}
+use Rattle.primal_dual.specs.Block.{primalDualBlock}
 use borrow.Author.Needs.{needs}
-use Rattle.scaling.proofs.use_primal_dual_scaling.Statement.{statement}
-use Rattle.scaling.proofs.use_primal_dual_scaling.Tie as tie
+use Rattle.primal_dual.proofs.use_primal_dual_scaling.Statement.{statement}
+use Rattle.primal_dual.proofs.use_primal_dual_scaling.Tie as tie
 
 returns : tie.Need-returns
 unfolding primalDualBlock

@@ -1,0 +1,3 @@
+-- Packed blocks place by place; any two outcomes of a public function agree.
+mod Places
+mod Agree

@@ -8,11 +8,6 @@ use Rattle.arith.specs.Outcomes.{OneAnswer, OneOutcome}
 use Rattle.judges.proofs.Outcomes.{one, two}
 use Rattle.judges.proofs.all_finite.Reads as all-finite
 use Rattle.judges.proofs.sides_finite.Reads as sides-finite
-use Rattle.judges.proofs.rule_ok.Reads as rule-ok
-use Rattle.judges.proofs.tolerance_of.Reads as tolerance-of
-use Rattle.judges.proofs.wide_ok.Reads as wide-ok
-use Rattle.judges.proofs.three_ok.Reads as three-ok
-use Rattle.judges.proofs.cone_ok.Reads as cone-ok
 use Rattle.judges.proofs.numel.Reads as numel
 use Rattle.judges.proofs.block_len.Reads as block-len
 use Rattle.judges.proofs.settings_finite.Reads as settings-finite
@@ -33,21 +28,6 @@ all-finite-agrees κs a x y s t p q = p ∙ sym q
 
 pub sides-finite-agrees : OneAnswer sides-finite.Post
 sides-finite-agrees κs a x y s t p q = p ∙ sym q
-
-pub rule-ok-agrees : OneAnswer rule-ok.Post
-rule-ok-agrees κs a x y s t p q = p ∙ sym q
-
-pub tolerance-of-agrees : OneAnswer tolerance-of.Post
-tolerance-of-agrees κs a x y s t p q = p ∙ sym q
-
-pub wide-ok-agrees : OneAnswer wide-ok.Post
-wide-ok-agrees κs a x y s t p q = p ∙ sym q
-
-pub three-ok-agrees : OneAnswer three-ok.Post
-three-ok-agrees κs a x y s t p q = p ∙ sym q
-
-pub cone-ok-agrees : OneAnswer cone-ok.Post
-cone-ok-agrees κs a x y s t p q = p ∙ sym q
 
 pub numel-agrees : OneAnswer numel.Post
 numel-agrees κs a x y s t p q = p ∙ sym q

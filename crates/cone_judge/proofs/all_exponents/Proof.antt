@@ -1,14 +1,15 @@
--- `all_exponents` meets its contract. The loop's invariant: as that of `all_finite`. The measure is what is left of the length. Assumes nothing.
+-- `all_exponents` meets its contract. The loop's invariant: all of the slice passes exactly if what is behind does and what is left of it
+-- does. The measure is what is left of the length. Assumes nothing.
 use mathlib.Core.Path.{_≡_, refl, sym, _∙_, ap}
 use mathlib.Core.Bool.{Bool, _&&_}
 use Prim.Native.Nat.{_≤_, _-_, _+_}
 use native.Mathlib.Omega.{arith}
 use lib.ListN.{length, drop}
-use Rattle.judges.specs.Judges.{allOf, exponentOk}
+use Rattle.cone_judge.specs.Cones.{allOf, exponentOk}
 use borrow.Author.Needs.{needs}
-use Rattle.judges.proofs.Folds.{all-next, all-ended}
-use Rattle.judges.proofs.all_exponents.Statement.{statement}
-use Rattle.judges.proofs.all_exponents.Tie as tie
+use Rattle.cone_judge.proofs.Folds.{all-next, all-ended}
+use Rattle.cone_judge.proofs.all_exponents.Statement.{statement}
+use Rattle.cone_judge.proofs.all_exponents.Tie as tie
 
 abbrev Inv-loop : tie.InvT-loop
 Inv-loop xs all₀ i₀ i-end all i = (i ≤ length xs) × (i-end ≡ length xs) × (allOf exponentOk xs ≡ (all && allOf exponentOk (drop i xs)))

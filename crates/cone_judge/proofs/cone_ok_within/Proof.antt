@@ -1,9 +1,9 @@
 -- `cone_ok_within` asks the test of the kind. Assumes nothing.
 use borrow.Author.Tests.{eq-eqb, ne-eqb}
-use Rattle.judges.specs.Judges.{coneOkWithin}
+use Rattle.cone_judge.specs.Cones.{coneOkWithin}
 use borrow.Author.Needs.{needs}
-use Rattle.judges.proofs.cone_ok_within.Statement.{statement}
-use Rattle.judges.proofs.cone_ok_within.Tie as tie
+use Rattle.cone_judge.proofs.cone_ok_within.Statement.{statement}
+use Rattle.cone_judge.proofs.cone_ok_within.Tie as tie
 
 returns : tie.Need-returns
 unfolding coneOkWithin

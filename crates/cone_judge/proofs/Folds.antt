@@ -8,7 +8,7 @@ use native.Mathlib.Numerals.{add-one}
 use lib.ListN.{length, getD, drop, drop-of-length-le}
 use lib.Seq.{drop-cons}
 use lib.Ieee.{Float, nan}
-use Rattle.judges.specs.Judges.{allOf}
+use Rattle.cone_judge.specs.Cones.{allOf}
 
 module _ (p : Float → Bool) (xs : List Float) (i : ℕ) (all : Bool) where
   pub all-next : i < length xs → (all && allOf p (drop i xs)) ≡ (all && p (getD xs i nan) && allOf p (drop (i + 1) xs))

@@ -1,8 +1,8 @@
 -- `wide_ok` asks its six tests of the used exponents. Assumes nothing.
-use Rattle.judges.specs.Judges.{wideOk}
+use Rattle.cone_judge.specs.Cones.{wideOk}
 use borrow.Author.Needs.{needs}
-use Rattle.judges.proofs.wide_ok.Statement.{statement}
-use Rattle.judges.proofs.wide_ok.Tie as tie
+use Rattle.cone_judge.proofs.wide_ok.Statement.{statement}
+use Rattle.cone_judge.proofs.wide_ok.Tie as tie
 
 returns : tie.Need-returns
 unfolding wideOk

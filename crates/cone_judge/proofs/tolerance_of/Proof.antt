@@ -1,8 +1,8 @@
 -- `tolerance_of` chooses as its definition does. Assumes nothing.
 use borrow.Author.Tests.{eq-eqb, ne-eqb}
-use Rattle.judges.specs.Judges.{toleranceOf}
-use Rattle.judges.proofs.tolerance_of.Statement.{statement}
-use Rattle.judges.proofs.tolerance_of.Tie as tie
+use Rattle.cone_judge.specs.Cones.{toleranceOf}
+use Rattle.cone_judge.proofs.tolerance_of.Statement.{statement}
+use Rattle.cone_judge.proofs.tolerance_of.Tie as tie
 
 returns : tie.Need-returns
 unfolding toleranceOf

@@ -1,7 +1,7 @@
 -- `sum_ok` compares as its definition does. Assumes nothing.
 use borrow.Author.Needs.{needs}
-use Rattle.judges.proofs.sum_ok.Statement.{statement}
-use Rattle.judges.proofs.sum_ok.Tie as tie
+use Rattle.cone_judge.proofs.sum_ok.Statement.{statement}
+use Rattle.cone_judge.proofs.sum_ok.Tie as tie
 
 returns : tie.Need-returns
 returns c = simp (← c .sum .ensures)

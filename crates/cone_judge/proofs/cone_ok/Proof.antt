@@ -1,8 +1,8 @@
 -- `cone_ok` asks the rule, and the rest with the rule's tolerance. Assumes nothing.
-use Rattle.judges.specs.Judges.{coneOk}
+use Rattle.cone_judge.specs.Cones.{coneOk}
 use borrow.Author.Needs.{needs}
-use Rattle.judges.proofs.cone_ok.Statement.{statement}
-use Rattle.judges.proofs.cone_ok.Tie as tie
+use Rattle.cone_judge.proofs.cone_ok.Statement.{statement}
+use Rattle.cone_judge.proofs.cone_ok.Tie as tie
 
 returns : tie.Need-returns
 unfolding coneOk

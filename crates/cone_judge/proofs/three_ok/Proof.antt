@@ -1,9 +1,9 @@
 -- `three_ok` asks the test of the kind. Assumes nothing.
 use borrow.Author.Tests.{ne-eqb}
-use Rattle.judges.specs.Judges.{threeOk}
+use Rattle.cone_judge.specs.Cones.{threeOk}
 use borrow.Author.Needs.{needs}
-use Rattle.judges.proofs.three_ok.Statement.{statement}
-use Rattle.judges.proofs.three_ok.Tie as tie
+use Rattle.cone_judge.proofs.three_ok.Statement.{statement}
+use Rattle.cone_judge.proofs.three_ok.Tie as tie
 
 returns : tie.Need-returns
 unfolding threeOk

@@ -8,23 +8,13 @@ use Rattle.arith.specs.Outcomes.{OneAnswer, OneOutcome}
 use Rattle.cone.specs.declared.YesNo.{YesNo}
 use Rattle.judges.proofs.Outcomes.{one, two}
 use Rattle.cone_entries.proofs.fresh.Reads as fresh
-use Rattle.cone_entries.proofs.is_primal_feasible.Reads as is-primal-feasible
-use Rattle.cone_entries.proofs.is_dual_feasible.Reads as is-dual-feasible
 use Rattle.cone_entries.proofs.barrier_dual.Reads as barrier-dual
 use Rattle.cone_entries.proofs.dual_grad_h.Reads as dual-grad-h
 use Rattle.cone_entries.proofs.unit_initialization.Reads as unit-initialization
 use Rattle.cone_entries.proofs.rectify_equilibration.Reads as rectify-equilibration
-use Rattle.cone_entries.proofs.affine_ds.Reads as affine-ds
-use Rattle.cone_entries.proofs.ds_from_dz_offset.Reads as ds-from-dz-offset
 
 pub fresh-agrees : OneAnswer fresh.Post
 fresh-agrees κs a x y s t p q = p ∙ sym q
-
-pub is-primal-feasible-agrees : OneAnswer is-primal-feasible.Post
-is-primal-feasible-agrees κs a x y s t p q = p ∙ sym q
-
-pub is-dual-feasible-agrees : OneAnswer is-dual-feasible.Post
-is-dual-feasible-agrees κs a x y s t p q = p ∙ sym q
 
 pub barrier-dual-agrees : OneAnswer barrier-dual.Post
 barrier-dual-agrees κs a x y s t p q = p ∙ sym q
@@ -38,9 +28,3 @@ unit-initialization-agrees κs a x y s t p q = two {A = ℕ} (p ∙ sym q)
 
 pub rectify-equilibration-agrees : OneOutcome rectify-equilibration.Post {A = List Float} (λ κs s. now (s .1 .0))
 rectify-equilibration-agrees κs a x y s t p q = one {A = YesNo} (p ∙ sym q)
-
-pub affine-ds-agrees : OneOutcome affine-ds.Post {A = List Float} (λ κs s. now (s .1 .0))
-affine-ds-agrees κs a x y s t p q = one {A = ℕ} (p ∙ sym q)
-
-pub ds-from-dz-offset-agrees : OneOutcome ds-from-dz-offset.Post {A = List Float} (λ κs s. now (s .1 .0))
-ds-from-dz-offset-agrees κs a x y s t p q = one {A = ℕ} (p ∙ sym q)

@@ -1,13 +1,10 @@
 -- What each entry over a cone answers and leaves, for all arguments. Definitions only.
 use Prim.Native.Nat.{ℕ}
-use mathlib.Core.Bool.{true, false, cond}
+use mathlib.Core.Bool.{cond}
 use mathlib.Core.List.{List}
 use lib.Dec.{eqb}
 use lib.Ieee.{Float}
 use lib.ListN.{length, take}
-use Rattle.verdict.specs.declared.Verdict.{Verdict}
-use Rattle.verdict.specs.declared.Answer.{Answer}
-use Rattle.verdict.specs.Answers as verdict
 use Rattle.cone.specs.declared.Cone.{Cone}
 use Rattle.cone.specs.declared.Updated.{Updated}
 use Rattle.cone.specs.declared.YesNo.{YesNo}
@@ -18,13 +15,17 @@ use Rattle.cone.specs.Fresh as fresh
 use Rattle.cone.specs.Fresh.{emptyCone, noThree, noWide}
 use Rattle.table.specs.Table.{settle}
 use Rattle.judges.specs.Refusals.{lastRows, Lent, LentTwo, refuse, refuseTwo, refuseNumber, publishOf, publishTwoOf, numberOf}
-use Rattle.kinds.specs.Answers.{answerOf}
 use Rattle.kinds.specs.Cones as kinds
 use Rattle.kinds.specs.Cones.{alphaOf}
 use Rattle.kinds.specs.Three as three
 use Rattle.kinds.specs.Wide as wide
-use Rattle.cone_entries.specs.Rows.{freshRows, readRows, unitRows, copyRows, offsetRows}
+use Rattle.cone_entries.specs.Rows.{freshRows, readRows, unitRows, copyRows}
 use Rattle.cone_entries.specs.Equilibration.{rectifiedOf}
+-- 000, 001, 002 is_primal_feasible, is_dual_feasible
+pub use Rattle.feasible_entries.specs.Entries.{refuseVerdict, verdictOf}
+unfoldable pub use Rattle.feasible_entries.specs.Entries.{isPrimalFeasibleOf, isDualFeasibleOf}
+-- 000, 001, 002 affine_ds, Δs_from_Δz_offset
+unfoldable pub use Rattle.copy_entries.specs.Entries.{affineDsOf, dsFromDzOffsetOf}
 
 -- 01: "(fresh: no, and all its numbers +0)". A bad cone gets the record of no cone: "A refusal returns zeros for all numbers"
 unfoldable pub freshOf : Cone → Updated
@@ -34,22 +35,6 @@ freshOf c =
     (λ k. record { code = k; scaling = fresh.freshOf emptyCone })
 
 -- ---- entries that read a point
-
--- 01: "A refusal returns .. no for a yes or no", and 0 stands for no
-abbrev pub refuseVerdict : ℕ → Verdict
-refuseVerdict k = record { code = k; answer = 0 }
-
--- an answer by its number
-abbrev pub verdictOf : Answer → Verdict
-verdictOf a = record { code = 0; answer = verdict.numberOf a }
-
--- 000, 001, 002 is_primal_feasible
-unfoldable pub isPrimalFeasibleOf : Cone → List Float → Verdict
-isPrimalFeasibleOf c s = settle (readRows c s) (verdictOf (answerOf c true s)) refuseVerdict
-
--- 000, 001, 002 is_dual_feasible
-unfoldable pub isDualFeasibleOf : Cone → List Float → Verdict
-isDualFeasibleOf c z = settle (readRows c z) (verdictOf (answerOf c false z)) refuseVerdict
 
 -- 000, 001, 002 barrier_dual
 unfoldable pub barrierDualOf : Cone → List Float → Number
@@ -88,11 +73,3 @@ yesIfDone l = record { answer = record { code = l .answer; yes = eqb (l .answer)
 
 unfoldable pub rectifyEquilibrationOf : Cone → List Float → List Float → Lent YesNo
 rectifyEquilibrationOf c δ e = yesIfDone (rectifyOf c δ e)
-
--- 000, 001, 002 affine_ds: ds.copy_from(s)
-unfoldable pub affineDsOf : Cone → List Float → List Float → Lent ℕ
-affineDsOf c ds s = settle (copyRows c (length ds) s) (record { answer = 0; slice = s }) (refuse ds)
-
--- 000, 001, 002 Δs_from_Δz_offset: out.copy_from(ds)
-unfoldable pub dsFromDzOffsetOf : Cone → List Float → List Float → List Float → Lent ℕ
-dsFromDzOffsetOf c out ds z = settle (offsetRows c (length out) ds z) (record { answer = 0; slice = ds }) (refuse out)

@@ -1,15 +1,17 @@
 -- What can be wrong with the arguments of an entry over a cone, a row of the table each; and the first row that applies. Definitions only.
 use Prim.Native.Nat.{ℕ}
-use mathlib.Core.Bool.{false, _||_, _&&_, not}
-use mathlib.Core.List.{List}
+use mathlib.Core.Bool.{false, _||_, not}
 use lib.Dec.{eqb}
-use lib.Ieee.{Float}
 use Rattle.cone.specs.declared.Cone.{Cone}
 use Rattle.table.specs.declared.Faults.{Faults}
 use Rattle.cone.specs.Codes.{numelOf}
-use Rattle.judges.specs.Judges.{allFinite}
 use Rattle.table.specs.Table.{firstRow}
-use Rattle.judges.specs.Refusals.{badCone, otherLength, notFinite}
+use Rattle.judges.specs.Refusals.{badCone}
+-- is_primal_feasible, is_dual_feasible, barrier_dual, update_dual_grad_H; rectify_equilibration, affine_ds; Δs_from_Δz_offset
+pub use Rattle.feasible_entries.specs.Rows.{readRows}
+unfoldable pub use Rattle.feasible_entries.specs.Rows.{readFaults}
+pub use Rattle.copy_entries.specs.Rows.{copyRows, offsetRows}
+unfoldable pub use Rattle.copy_entries.specs.Rows.{copyFaults, offsetFaults}
 
 -- fresh
 unfoldable pub freshFaults : Cone → Faults
@@ -26,22 +28,6 @@ freshFaults c =
 
 abbrev pub freshRows : Cone → ℕ
 freshRows c = firstRow (freshFaults c)
-
--- is_primal_feasible, is_dual_feasible, barrier_dual, update_dual_grad_H
-unfoldable pub readFaults : Cone → List Float → Faults
-readFaults c s =
-    record {
-      cone = badCone c;
-      length = otherLength (numelOf c) s;
-      number = notFinite s;
-      setting = false;
-      spent = false;
-      unscaled = false;
-      serial = false;
-    }
-
-abbrev pub readRows : Cone → List Float → ℕ
-readRows c s = firstRow (readFaults c s)
 
 -- 01: "A slice that is only written is judged by its length alone". Below, a slice that is only written is given by its length
 
@@ -61,37 +47,3 @@ unitFaults c z s =
 
 abbrev pub unitRows : Cone → ℕ → ℕ → ℕ
 unitRows c z s = firstRow (unitFaults c z s)
-
--- rectify_equilibration, affine_ds
-unfoldable pub copyFaults : Cone → ℕ → List Float → Faults
-copyFaults c out s =
-    let n = numelOf c in
-    record {
-      cone = badCone c;
-      length = not (eqb out n) || otherLength n s;
-      number = notFinite s;
-      setting = false;
-      spent = false;
-      unscaled = false;
-      serial = false;
-    }
-
-abbrev pub copyRows : Cone → ℕ → List Float → ℕ
-copyRows c out s = firstRow (copyFaults c out s)
-
--- Δs_from_Δz_offset
-unfoldable pub offsetFaults : Cone → ℕ → List Float → List Float → Faults
-offsetFaults c out ds z =
-    let n = numelOf c in
-    record {
-      cone = badCone c;
-      length = not (eqb out n) || otherLength n ds || otherLength n z;
-      number = not (allFinite ds && allFinite z);
-      setting = false;
-      spent = false;
-      unscaled = false;
-      serial = false;
-    }
-
-abbrev pub offsetRows : Cone → ℕ → List Float → List Float → ℕ
-offsetRows c out ds z = firstRow (offsetFaults c out ds z)

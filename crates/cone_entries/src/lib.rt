@@ -1,7 +1,12 @@
-// The public entries that take a cone. Each judges its arguments by the table of document 01, computes into locals, and only then writes.
+// The public entries that take a cone; the feasibility tests are those of `feasible_entries`, the copies those of `copy_entries`, passed on.
+// Each judges its arguments by the table of document 01, computes into locals, and only then writes.
 ghost use mathlib.Core.Path.{_≡_};
-ghost use Rattle.cone_entries.specs.Entries.{freshOf, isPrimalFeasibleOf, isDualFeasibleOf, barrierDualOf, refuseGrad, dualGradHOf};
-ghost use Rattle.cone_entries.specs.Entries.{unitInitializationOf, rectifyOf, rectifyEquilibrationOf, affineDsOf, dsFromDzOffsetOf};
+ghost use Rattle.cone_entries.specs.Entries.{freshOf, barrierDualOf, refuseGrad, dualGradHOf};
+ghost use Rattle.cone_entries.specs.Entries.{unitInitializationOf, rectifyOf, rectifyEquilibrationOf};
+pub use copy_entries::affine_ds;
+pub use copy_entries::ds_from_dz_offset;
+pub use feasible_entries::is_dual_feasible;
+pub use feasible_entries::is_primal_feasible;
 
 mod equilibration;
 mod rows;
@@ -15,22 +20,17 @@ use cone::YesNo;
 use cone::empty_cone;
 use cone::no_three;
 use cone::no_wide;
+use copy_entries::copy_rows;
 use equilibration::rectified;
+use feasible_entries::read_rows;
 use judges::refusal::finished;
 use judges::refusal::last_rows;
 use judges::refusal::publish;
 use judges::refusal::publish_two;
-use judges::refusal::store;
-use kinds::answer;
 use kinds::three;
 use kinds::wide;
-use rows::copy_rows;
 use rows::fresh_rows;
-use rows::offset_rows;
-use rows::read_rows;
 use rows::unit_rows;
-use verdict::Verdict;
-use verdict::number;
 
 // A record for the cone that was never scaled.
 pub fn fresh(cone: Cone) -> Updated
@@ -47,34 +47,6 @@ pub fn fresh(cone: Cone) -> Updated
 }
 
 // ---- entries that read a point
-
-pub fn is_primal_feasible(cone: Cone, s: &[f64]) -> Verdict
-    ensures { λ r. ⌜ r ≡ isPrimalFeasibleOf cone (now (s .entry)) ⌝ }
-{
-    let code = read_rows(cone, s);
-    if code != 0 {
-        return Verdict { code, answer: 0 };
-    }
-    let primal = answer(cone.kind, cone.dim1, &cone.exps, true, s);
-    Verdict {
-        code: 0,
-        answer: number(primal),
-    }
-}
-
-pub fn is_dual_feasible(cone: Cone, z: &[f64]) -> Verdict
-    ensures { λ r. ⌜ r ≡ isDualFeasibleOf cone (now (z .entry)) ⌝ }
-{
-    let code = read_rows(cone, z);
-    if code != 0 {
-        return Verdict { code, answer: 0 };
-    }
-    let dual = answer(cone.kind, cone.dim1, &cone.exps, false, z);
-    Verdict {
-        code: 0,
-        answer: number(dual),
-    }
-}
 
 pub fn barrier_dual(cone: Cone, z: &[f64]) -> Number
     ensures { λ r. ⌜ r ≡ barrierDualOf cone (now (z .entry)) ⌝ }
@@ -158,28 +130,4 @@ pub fn rectify_equilibration(cone: Cone, delta: &mut [f64], e: &[f64]) -> YesNo
         code,
         yes: code == 0,
     }
-}
-
-pub fn affine_ds(cone: Cone, ds: &mut [f64], s: &[f64]) -> u32
-    ensures { λ r. ⌜ record { answer = r; slice = now (ds .exit) } ≡ affineDsOf cone (now (ds .entry)) (now (s .entry)) ⌝ }
-{
-    let code = copy_rows(cone, ds.len(), s);
-    if code != 0 {
-        return code;
-    }
-    store(ds, s);
-    0
-}
-
-// 01: "Every argument of a call is judged, read or not": z is not read.
-pub fn ds_from_dz_offset(cone: Cone, out: &mut [f64], ds: &[f64], z: &[f64]) -> u32
-    ensures { λ r. ⌜ record { answer = r; slice = now (out .exit) }
-        ≡ dsFromDzOffsetOf cone (now (out .entry)) (now (ds .entry)) (now (z .entry)) ⌝ }
-{
-    let code = offset_rows(cone, out.len(), ds, z);
-    if code != 0 {
-        return code;
-    }
-    store(out, ds);
-    0
 }

@@ -11,7 +11,7 @@ use Rattle.judges.specs.Refusals.{Lent, publishOf, refuse}
 use Rattle.cone.proofs.Points.{wide-front}
 use Rattle.judges.proofs.Lengths.{cut}
 use Rattle.table.proofs.Settled.{refused, done}
-use Rattle.cone_entries.proofs.Lengths.{copy-length}
+use Rattle.copy_entries.proofs.Lengths.{copy-length}
 use Rattle.cone_entries.specs.Rows.{copyRows}
 use Rattle.cone_entries.specs.Equilibration.{rectifiedOf}
 use Rattle.cone_entries.specs.Entries.{rectifyOf}

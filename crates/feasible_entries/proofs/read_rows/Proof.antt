@@ -1,8 +1,8 @@
 -- The faults of the code are those of the definition. Assumes nothing.
-use Rattle.cone_entries.specs.Rows.{readFaults}
+use Rattle.feasible_entries.specs.Rows.{readFaults}
 use borrow.Author.Needs.{needs}
-use Rattle.cone_entries.proofs.rows.read_rows.Statement.{statement}
-use Rattle.cone_entries.proofs.rows.read_rows.Tie as tie
+use Rattle.feasible_entries.proofs.read_rows.Statement.{statement}
+use Rattle.feasible_entries.proofs.read_rows.Tie as tie
 
 returns : tie.Need-returns
 unfolding readFaults

@@ -1,8 +1,8 @@
 -- The faults of the code are those of the definition. Assumes nothing.
-use Rattle.cone_entries.specs.Rows.{copyFaults}
+use Rattle.copy_entries.specs.Rows.{copyFaults}
 use borrow.Author.Needs.{needs}
-use Rattle.cone_entries.proofs.rows.copy_rows.Statement.{statement}
-use Rattle.cone_entries.proofs.rows.copy_rows.Tie as tie
+use Rattle.copy_entries.proofs.copy_rows.Statement.{statement}
+use Rattle.copy_entries.proofs.copy_rows.Tie as tie
 
 returns : tie.Need-returns
 unfolding copyFaults

@@ -3,11 +3,11 @@ use mathlib.Core.Path.{_∙_, sym, ap}
 use mathlib.Core.List.{List}
 use lib.Ieee.{Float}
 use Rattle.table.proofs.Settled.{refused, done}
-use Rattle.cone_entries.proofs.Lengths.{offset-length}
-use Rattle.cone_entries.specs.Entries.{dsFromDzOffsetOf}
+use Rattle.copy_entries.proofs.Lengths.{offset-length}
+use Rattle.copy_entries.specs.Entries.{dsFromDzOffsetOf}
 use borrow.Author.Needs.{needs}
-use Rattle.cone_entries.proofs.ds_from_dz_offset.Statement.{statement}
-use Rattle.cone_entries.proofs.ds_from_dz_offset.Tie as tie
+use Rattle.copy_entries.proofs.ds_from_dz_offset.Statement.{statement}
+use Rattle.copy_entries.proofs.ds_from_dz_offset.Tie as tie
 
 returns : tie.Need-returns
 unfolding dsFromDzOffsetOf

@@ -1,8 +1,8 @@
 -- The faults of the code are those of the definition. Assumes nothing.
-use Rattle.cone_entries.specs.Rows.{offsetFaults}
+use Rattle.copy_entries.specs.Rows.{offsetFaults}
 use borrow.Author.Needs.{needs}
-use Rattle.cone_entries.proofs.rows.offset_rows.Statement.{statement}
-use Rattle.cone_entries.proofs.rows.offset_rows.Tie as tie
+use Rattle.copy_entries.proofs.offset_rows.Statement.{statement}
+use Rattle.copy_entries.proofs.offset_rows.Tie as tie
 
 returns : tie.Need-returns
 unfolding offsetFaults

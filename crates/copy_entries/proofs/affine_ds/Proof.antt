@@ -3,11 +3,11 @@ use mathlib.Core.Path.{_∙_, sym, ap}
 use mathlib.Core.List.{List}
 use lib.Ieee.{Float}
 use Rattle.table.proofs.Settled.{refused, done}
-use Rattle.cone_entries.proofs.Lengths.{copy-length}
-use Rattle.cone_entries.specs.Entries.{affineDsOf}
+use Rattle.copy_entries.proofs.Lengths.{copy-length}
+use Rattle.copy_entries.specs.Entries.{affineDsOf}
 use borrow.Author.Needs.{needs}
-use Rattle.cone_entries.proofs.affine_ds.Statement.{statement}
-use Rattle.cone_entries.proofs.affine_ds.Tie as tie
+use Rattle.copy_entries.proofs.affine_ds.Statement.{statement}
+use Rattle.copy_entries.proofs.affine_ds.Tie as tie
 
 returns : tie.Need-returns
 unfolding affineDsOf

@@ -1,5 +1,5 @@
--- By kind, an entry's definition is that of record_blocks, of record_three or of record_wide: judges, lengths and formulas are those of the
--- kind. Assumes nothing.
+-- By kind, an entry's definition is that of record_blocks, of record_three, of record_wide_primal or of record_wide: judges, lengths and
+-- formulas are those of the kind. Assumes nothing.
 use Prim.Native.Nat.{ℕ}
 use mathlib.Core.Path.{_≡_, refl}
 use mathlib.Core.Bool.{Bool, true, false, _||_, _&&_, not}
@@ -17,6 +17,8 @@ use Rattle.judges.proofs.Lengths.{cone-wide, cone-3D, record-wide, record-3D, n
 use Rattle.kinds.specs.Cones.{alphaOf}
 use Rattle.record_blocks.specs.Blocks as blocks
 use Rattle.record_three.specs.Entries as three
+use Rattle.record_wide_rows.specs.Rows.{rowsIn}
+use Rattle.record_wide_primal.specs.Entries as primal
 use Rattle.record_wide.specs.Entries as wide
 use Rattle.record_entries.specs.Rows.{gradientRows, barrierRows, computeRows, blockRows, productRows, correctionRows}
 use Rattle.record_entries.specs.Entries.{gradientPrimalOf, primalBarrierOf, barrierPrimalOf, combinedBarrierOf, computeBarrierOf}
@@ -60,26 +62,26 @@ module _ (r : Scaling) (k : r .cone .kind ≡ 3 → ⊥) where
 -- ---- kind 3
 
 module _ (r : Scaling) (k : r .cone .kind ≡ 3) where
-  pub gradient-primal-wide : (g s : List Float) → wide.gradientPrimalOf r g s ≡ gradientPrimalOf r g s
-  unfolding wide.gradientPrimalOf wide.rowsIn gradientPrimalOf gradientRows
+  pub gradient-primal-wide : (g s : List Float) → primal.gradientPrimalOf r g s ≡ gradientPrimalOf r g s
+  unfolding primal.gradientPrimalOf rowsIn gradientPrimalOf gradientRows
   gradient-primal-wide g s = simp (eq-eqb _ _ k, cone-wide (r .cone) k, numel-wide (r .cone) k, record-wide r k)
 
-  pub barrier-primal-wide : (s : List Float) → wide.barrierPrimalOf r s ≡ barrierPrimalOf r s
-  unfolding wide.barrierPrimalOf wide.rowsIn barrierPrimalOf primalBarrierOf barrierRows judgedOf
+  pub barrier-primal-wide : (s : List Float) → primal.barrierPrimalOf r s ≡ barrierPrimalOf r s
+  unfolding primal.barrierPrimalOf rowsIn barrierPrimalOf primalBarrierOf barrierRows judgedOf
   barrier-primal-wide s = simp (eq-eqb _ _ k, cone-wide (r .cone) k, numel-wide (r .cone) k, record-wide r k)
 
   pub compute-barrier-wide
       : (z s dz ds : List Float) (step : Float)
       → wide.computeBarrierOf r z s dz ds step ≡ computeBarrierOf r z s dz ds step
-  unfolding wide.computeBarrierOf wide.rowsIn computeBarrierOf combinedBarrierOf computeRows judgedOf
+  unfolding wide.computeBarrierOf rowsIn computeBarrierOf combinedBarrierOf computeRows judgedOf
   compute-barrier-wide z s dz ds step = simp (eq-eqb _ _ k, cone-wide (r .cone) k, numel-wide (r .cone) k, record-wide r k)
 
   pub get-hs-wide : (serial : ℕ) (block : List Float) → wide.getHsOf r serial block ≡ getHsOf r serial block
-  unfolding wide.getHsOf wide.rowsIn getHsOf blockRows
+  unfolding wide.getHsOf rowsIn getHsOf blockRows
   get-hs-wide serial block = simp (eq-eqb _ _ k, cone-wide (r .cone) k, block-wide (r .cone) k, record-wide r k)
 
   pub mul-hs-wide : (serial : ℕ) (y x : List Float) → wide.mulHsOf r serial y x ≡ mulHsOf r serial y x
-  unfolding wide.mulHsOf wide.rowsIn mulHsOf productRows
+  unfolding wide.mulHsOf rowsIn mulHsOf productRows
   mul-hs-wide serial y x = simp (eq-eqb _ _ k, cone-wide (r .cone) k, numel-wide (r .cone) k, record-wide r k)
 
 -- ---- kinds 1 and 2 alone: for kind 3 both sides give 1

@@ -1,6 +1,6 @@
 // The public entries that take a scaling record, but for update_scaling. A call takes its cone from the record, so no second cone can
 // disagree. What each does is chosen by the cone's kind before anything else: record_blocks and record_three judge, compute and write for
-// kinds 1 and 2, record_wide for kind 3.
+// kinds 1 and 2, record_wide_primal and record_wide for kind 3.
 ghost use mathlib.Core.Path.{_≡_};
 ghost use Rattle.record_entries.specs.Entries.{gradientPrimalOf, barrierPrimalOf, computeBarrierOf, getHsOf, mulHsOf};
 ghost use Rattle.record_entries.specs.Entries.{higherCorrectionOf, combinedDsShiftOf};
@@ -16,7 +16,7 @@ pub fn gradient_primal(scaling: Scaling, g: &mut [f64], s: &[f64]) -> Rounds
 {
     let kind = scaling.cone.kind;
     if kind == 3 {
-        return record_wide::gradient_primal(scaling, g, s);
+        return record_wide_primal::gradient_primal(scaling, g, s);
     }
     let exps = scaling.cone.exps;
     let three = scaling.three;
@@ -28,7 +28,7 @@ pub fn barrier_primal(scaling: Scaling, s: &[f64]) -> Number
 {
     let kind = scaling.cone.kind;
     if kind == 3 {
-        return record_wide::barrier_primal(scaling, s);
+        return record_wide_primal::barrier_primal(scaling, s);
     }
     let exps = scaling.cone.exps;
     let three = scaling.three;

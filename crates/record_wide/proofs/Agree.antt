@@ -5,19 +5,10 @@ use Prim.Native.Nat.{ℕ}
 use lib.Ieee.{Float}
 use denote.Ref.{now}
 use Rattle.arith.specs.Outcomes.{OneAnswer, OneOutcome}
-use Rattle.cone.specs.declared.Rounds.{Rounds}
 use Rattle.judges.proofs.Outcomes.{one}
-use Rattle.record_wide.proofs.gradient_primal.Reads as gradient-primal
-use Rattle.record_wide.proofs.barrier_primal.Reads as barrier-primal
 use Rattle.record_wide.proofs.compute_barrier.Reads as compute-barrier
 use Rattle.record_wide.proofs.get_hs.Reads as get-hs
 use Rattle.record_wide.proofs.mul_hs.Reads as mul-hs
-
-pub gradient-primal-agrees : OneOutcome gradient-primal.Post {A = List Float} (λ κs s. now (s .1 .0))
-gradient-primal-agrees κs a x y s t p q = one {A = Rounds} (p ∙ sym q)
-
-pub barrier-primal-agrees : OneAnswer barrier-primal.Post
-barrier-primal-agrees κs a x y s t p q = p ∙ sym q
 
 pub compute-barrier-agrees : OneAnswer compute-barrier.Post
 compute-barrier-agrees κs a x y s t p q = p ∙ sym q

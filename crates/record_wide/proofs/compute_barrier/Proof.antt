@@ -5,8 +5,9 @@ use lib.ListN.{length}
 use Rattle.judges.specs.Refusals.{numberOf}
 use Rattle.table.proofs.Settled.{both, refused, through}
 use Rattle.judges.proofs.Lengths.{same-4}
-use Rattle.record_wide.specs.Entries.{dims, rowsIn, computeBarrierOf}
-use Rattle.record_wide.proofs.Judging.{lengths-right, small-dims}
+use Rattle.record_wide_rows.specs.Rows.{dims, rowsIn}
+use Rattle.record_wide.specs.Entries.{computeBarrierOf}
+use Rattle.record_wide_rows.proofs.Judging.{lengths-right, small-dims}
 use borrow.Author.Needs.{needs}
 use Rattle.record_wide.proofs.compute_barrier.Statement.{statement}
 use Rattle.record_wide.proofs.compute_barrier.Tie as tie

@@ -3,8 +3,9 @@ use native.Mathlib.Omega.{arith}
 use lib.ListN.{length}
 use Rattle.table.proofs.Settled.{refused, through}
 use Rattle.judges.proofs.Lengths.{same-1}
-use Rattle.record_wide.specs.Entries.{dims, getHsOf}
-use Rattle.record_wide.proofs.Judging.{lengths-right, small-dims}
+use Rattle.record_wide_rows.specs.Rows.{dims}
+use Rattle.record_wide.specs.Entries.{getHsOf}
+use Rattle.record_wide_rows.proofs.Judging.{lengths-right, small-dims}
 use borrow.Author.Needs.{needs}
 use Rattle.record_wide.proofs.get_hs.Statement.{statement}
 use Rattle.record_wide.proofs.get_hs.Tie as tie

@@ -6,8 +6,9 @@ use lib.ListN.{length}
 use Rattle.table.proofs.Settled.{refused, through}
 use Rattle.judges.proofs.Lengths.{same-2}
 use Rattle.genpowcone.specs.Rank3 as genRank3
-use Rattle.record_wide.specs.Entries.{dims, rowsIn, mulHsOf}
-use Rattle.record_wide.proofs.Judging.{lengths-right, small-dims}
+use Rattle.record_wide_rows.specs.Rows.{dims, rowsIn}
+use Rattle.record_wide.specs.Entries.{mulHsOf}
+use Rattle.record_wide_rows.proofs.Judging.{lengths-right, small-dims}
 use borrow.Author.Needs.{needs}
 use Rattle.record_wide.proofs.mul_hs.Statement.{statement}
 use Rattle.record_wide.proofs.mul_hs.Tie as tie

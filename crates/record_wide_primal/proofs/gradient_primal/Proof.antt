@@ -7,11 +7,12 @@ use Rattle.judges.specs.Refusals.{publishOf}
 use Rattle.table.proofs.Settled.{refused, through}
 use Rattle.judges.proofs.Outcomes.{with-count}
 use Rattle.judges.proofs.Lengths.{same-2}
-use Rattle.record_wide.specs.Entries.{dims, rowsIn, gradientPrimalOf}
-use Rattle.record_wide.proofs.Judging.{lengths-right, small-dims}
+use Rattle.record_wide_rows.specs.Rows.{dims, rowsIn}
+use Rattle.record_wide_primal.specs.Entries.{gradientPrimalOf}
+use Rattle.record_wide_rows.proofs.Judging.{lengths-right, small-dims}
 use borrow.Author.Needs.{needs}
-use Rattle.record_wide.proofs.gradient_primal.Statement.{statement}
-use Rattle.record_wide.proofs.gradient_primal.Tie as tie
+use Rattle.record_wide_primal.proofs.gradient_primal.Statement.{statement}
+use Rattle.record_wide_primal.proofs.gradient_primal.Tie as tie
 
 -- of the record, its exponents, z and gradient are lent to the rows so far
 abbrev lending : tie.After-rows → tie.After-rows-arg3

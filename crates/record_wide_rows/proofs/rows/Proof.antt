@@ -1,8 +1,8 @@
 -- `rows` asks the table of its definition. Assumes nothing.
-use Rattle.record_wide.specs.Entries.{rowsIn}
+use Rattle.record_wide_rows.specs.Rows.{rowsIn}
 use borrow.Author.Needs.{needs}
-use Rattle.record_wide.proofs.rows.Statement.{statement}
-use Rattle.record_wide.proofs.rows.Tie as tie
+use Rattle.record_wide_rows.proofs.rows.Statement.{statement}
+use Rattle.record_wide_rows.proofs.rows.Tie as tie
 
 returns : tie.Need-returns
 unfolding rowsIn

@@ -5,11 +5,12 @@ use lib.ListN.{length}
 use Rattle.judges.specs.Refusals.{numberOf}
 use Rattle.table.proofs.Settled.{refused, through}
 use Rattle.judges.proofs.Lengths.{same-1}
-use Rattle.record_wide.specs.Entries.{dims, rowsIn, barrierPrimalOf}
-use Rattle.record_wide.proofs.Judging.{lengths-right, small-dims}
+use Rattle.record_wide_rows.specs.Rows.{dims, rowsIn}
+use Rattle.record_wide_primal.specs.Entries.{barrierPrimalOf}
+use Rattle.record_wide_rows.proofs.Judging.{lengths-right, small-dims}
 use borrow.Author.Needs.{needs}
-use Rattle.record_wide.proofs.barrier_primal.Statement.{statement}
-use Rattle.record_wide.proofs.barrier_primal.Tie as tie
+use Rattle.record_wide_primal.proofs.barrier_primal.Statement.{statement}
+use Rattle.record_wide_primal.proofs.barrier_primal.Tie as tie
 
 -- of the record, its exponents, z and gradient are lent to the rows so far
 abbrev lending : tie.After-rows → tie.After-rows-arg3

@@ -3,8 +3,8 @@ use mathlib.Core.Path.{_∙_, ap}
 use Rattle.judges.specs.Refusals.{publishOf}
 use Rattle.judges.proofs.Lengths.{cut}
 use borrow.Author.Needs.{needs}
-use Rattle.record_wide.proofs.publish_wide.Statement.{statement}
-use Rattle.record_wide.proofs.publish_wide.Tie as tie
+use Rattle.record_wide_rows.proofs.publish_wide.Statement.{statement}
+use Rattle.record_wide_rows.proofs.publish_wide.Tie as tie
 
 publish-requires : tie.Need-publish-requires
 publish-requires c κs = cut _ 64 _ (c .before .before .before .before .pre) (search needs) (c .head .ensures)

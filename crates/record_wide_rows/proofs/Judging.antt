@@ -10,7 +10,7 @@ use Rattle.cone.specs.declared.Wide.{Wide}
 use Rattle.judges.specs.Judges.{ruleOk}
 use Rattle.table.proofs.Settled.{no-fault}
 use Rattle.judges.proofs.Lengths.{dim1-at-most, dim2-at-most}
-use Rattle.record_wide.specs.Entries.{rowsIn}
+use Rattle.record_wide_rows.specs.Rows.{rowsIn}
 
 module _
     (n m rule : ℕ) (e : List Float) (w : Wide) (lengths unscaled serial finite : Bool) {k : ℕ}

@@ -2,7 +2,7 @@
 # Passes all tests of the repository. The last line is rt ci's own: 'N passed, 0 failed'.
 #
 #   sh test.sh            everything, from nothing
-#   sh test.sh --quick    only the checks of files: layout, listed crates, silent answers, lemmas of agreement, versions, paths
+#   sh test.sh --quick    only the checks of files: layout, listed crates, silent answers, lemmas of agreement, names, versions, paths
 #   sh test.sh --outside  only what runs over the archive: the C examples, the kernels, a gradient, exact points, the traces, the comparison with the Rust, the Rust crate
 #   sh test.sh --help     this text
 #
@@ -97,6 +97,9 @@ say "every public function has its lemma of agreement"
 tools/test-agreement >/dev/null || die "tools/test-agreement failed"
 tools/agreement || die "a public function has no lemma that any two outcomes of its contract agree"
 
+say "every edit and every name of the code that the papers cite is there"
+tools/named || die "a paper names what is not there"
+
 say "header, Rust crate and CHANGELOG.md name one version"
 version=$(sed -n 's/^#define SPINDLE_VERSION "\(.*\)"$/\1/p' include/spindle.h)
 [ -n "$version" ] || die "include/spindle.h has no SPINDLE_VERSION"
@@ -153,9 +156,10 @@ beside=$!
 started=$beside
 
 say "proofs, must-fail edits and programs, from nothing (rt ci)"
-# rt waits for a batch of RT_JOBS to end before it starts the next: four on two processors leave less idle. The last line is held back until
-# the runs over the archive have ended, too.
-RT_JOBS=${RT_JOBS:-4} setsid sh -c '
+# rt waits for a batch of RT_JOBS to end before it starts the next: eight on two processors leave less idle. A check takes up to 1 GB, so there are
+# fewer where memory is short. The last line is held back until the runs over the archive have ended, too.
+jobs=$(awk '/^MemAvailable:/ { n = int($2 / 1500000); print (n < 2 ? 2 : (n > 8 ? 8 : n)) }' /proc/meminfo 2>/dev/null) || true
+RT_JOBS=${RT_JOBS:-${jobs:-4}} setsid sh -c '
     { rt ci 2>&1; echo $? >"$1/status"; } | tee "$1/ci.txt" | {
         IFS= read -r held && while IFS= read -r line; do
             printf "%s\n" "$held"

@@ -11,7 +11,7 @@ use Rattle.decimal.specs.Decimal.{decimalOf}
 use Rattle.decimal.proofs.Digits.{length-decimal}
 use Rattle.lines.specs.Lines.{lineOf}
 use Rattle.sheet_lines.specs.Text.{nameOf, mostWord, fileWord, atWord, mostLine}
-use Rattle.sheet_lines.proofs.Writing.{and-then, wrote-as, line-behind, name-most}
+use Rattle.sheet_lines.proofs.Writing.{Wrote, and-then, wrote-as, line-behind, name-most}
 use Rattle.sheet_lines.proofs.put_most.Statement.{statement}
 use Rattle.sheet_lines.proofs.put_most.Tie as tie
 
@@ -32,17 +32,28 @@ started c = c .before .before .before
 name-low : (c : tie.After-put-name) → c .put-name .result ≤ started (some c) .args .place + 7
 name-low c = omega (arith, c .put-name .ensures .0, name-most (started (some c) .args .primal))
 
-tests-low : (c : tie.After-put-part) → c .put-part .result ≤ started (some (named c)) .args .place + 32
+-- the count is one less than the size
+wrote-tests : (c : tie.After-put-part)
+    → Wrote (named c .put-name .last .0) (c .put-part .last .0) (named c .put-name .result) (c .put-part .result)
+    (mostWord ++ decimalOf (started (some (named c)) .args .largest .size - 1))
 unfolding le
+wrote-tests c = c .put-part .ensures
+
+wrote-file : (c : tie.After-put-part2)
+    → Wrote (tested c .put-part .last .0) (c .put-part2 .last .0) (tested c .put-part .result) (c .put-part2 .result)
+    (fileWord ++ decimalOf (started (some (named (tested c))) .args .largest .file))
+unfolding le
+wrote-file c = c .put-part2 .ensures
+
+tests-low : (c : tie.After-put-part) → c .put-part .result ≤ started (some (named c)) .args .place + 32
 tests-low c =
     let n = started (some (named c)) .args .largest .size - 1 in
-    omega (arith, name-low (named c), c .put-part .ensures .0, length-append mostWord (decimalOf n), length-decimal 20 n)
+    omega (arith, name-low (named c), wrote-tests c .0, length-append mostWord (decimalOf n), length-decimal 20 n)
 
 file-low : (c : tie.After-put-part2) → c .put-part2 .result ≤ started (some (named (tested c))) .args .place + 58
-unfolding le
 file-low c =
     let n = started (some (named (tested c))) .args .largest .file in
-    omega (arith, tests-low (tested c), c .put-part2 .ensures .0, length-append fileWord (decimalOf n), length-decimal 20 n)
+    omega (arith, tests-low (tested c), wrote-file c .0, length-append fileWord (decimalOf n), length-decimal 20 n)
 
 returns : tie.Need-returns
 unfolding mostLine
@@ -80,10 +91,10 @@ returns-2 c =
     let file = fileWord ++ decimalOf (a .largest .file) in
     let to-tests =
     and-then b (p .put-name .last .0) (q .put-part .last .0) (a .place) (p .put-name .result) (q .put-part .result) name tests
-    (p .put-name .ensures) (q .put-part .ensures) in
+    (p .put-name .ensures) (wrote-tests q) in
     let to-file =
     and-then b (q .put-part .last .0) (r .put-part2 .last .0) (a .place) (q .put-part .result) (r .put-part2 .result) (name ++ tests) file
-    to-tests (r .put-part2 .ensures) in
+    to-tests (wrote-file r) in
     rw (ne-eqb (a .largest .size) 0 (some p .if1 .left))
     (wrote-as b (l .put-line .last .0) (a .place) (l .put-line .result) (line-behind ((name ++ tests) ++ file) atWord (a .largest .at))
     (and-then b (r .put-part2 .last .0) (l .put-line .last .0) (a .place) (r .put-part2 .result) (l .put-line .result)

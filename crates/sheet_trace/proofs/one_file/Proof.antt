@@ -3,8 +3,9 @@
 use mathlib.Core.Path.{_≡_, ap, _∙_}
 use mathlib.Core.Bool.{true, false}
 use mathlib.Core.List.{List}
-use Prim.Native.Nat.{ℕ}
+use Prim.Native.Nat.{ℕ, _≤_, _<_}
 use native.Mathlib.Omega.{arith}
+use lib.ListN.{length}
 use denote.Ref.{now}
 use borrow.Author.Needs.{needs}
 use Rattle.words.specs.Words.{AllBelow}
@@ -29,7 +30,8 @@ returns : tie.Need-returns
 returns c =
     let f = c .before .before .before .before in
     let s = f .before in
-    let skipped = too-large (now (s .args .bytes)) (c .before .if1 .taken) in (
+    let above : 65536 < length (now (s .args .bytes)) = omega (arith, c .before .if1 .taken) in
+    let skipped = too-large (now (s .args .bytes)) above in (
       c .nothing .ensures ∙ no-part (now (s .args .bytes)) skipped,
       no-counts (now (s .args .bytes)) skipped false (now (s .args .dual)) (s .pre .0),
       no-counts (now (s .args .bytes)) skipped true (now (s .args .primal)) (s .pre .1),
@@ -64,7 +66,7 @@ returns-3 c =
     let s = given (o .before) in
     let bs = now (s .args .bytes) in
     let bytes = is-bytes (filed (o .before)) in
-    let few = o .before .if1 .left in
+    let few : length bs ≤ 65536 = omega (arith, o .before .if1 .left) in
     let on = d .before .before .if2 .left in
     let is = o .«open» .ensures in
     let same = entries-are bs bytes few (o .«open» .result) is on in (

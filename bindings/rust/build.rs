@@ -1,5 +1,5 @@
-//! Links libspindle.a: from the folder that SPINDLE_ARCHIVE names, else from the project's target/staticlib if it is fresh there. Proves nothing: that
-//! takes minutes, and cargo would be silent about it.
+//! Links libspindle.a: from the folder that SPINDLE_ARCHIVE names, else from the project's target/staticlib if it is fresh there. Proves
+//! nothing: that takes minutes, and cargo would be silent about it.
 use std::{env, path::PathBuf, process::Command};
 
 fn stop(why: String) -> ! {

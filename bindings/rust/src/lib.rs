@@ -18,14 +18,14 @@
 //! A [`Plan`] searches the one step that all cones of a list can take.
 //!
 //! A [`Recorder`] makes the same searches and keeps each in a trace, bytes that a [`Trace`] reads again, and replays: every search is run
-//! once more and compared with its record. What a host that lost power left of one, [`rescue`] makes a trace again; [`thin`] and [`thin_in_place`] drop the
-//! records of one that are equal to an earlier one. A [`Sheet`] counts over many of them.
+//! once more and compared with its record. What a host that lost power left of one, [`rescue`] makes a trace again; [`thin`] and
+//! [`thin_in_place`] drop the records of one that are equal to an earlier one. A [`Sheet`] counts over many of them.
 //!
 //! A call that is refused changes nothing that it was lent: slices keep their contents, a record stays as it was. The numbers of a
 //! [`Refusal`] are those of the library's scope document. No call allocates, and none panics.
 //!
-//! The library is x86-64 alone. Structs pass by value: a call with a [`Scaling`] copies its 2,744 bytes, and takes up to 25 KB of stack, as bench/run says;
-//! [`thin`] and [`thin_in_place`] take 66 KB, [`Trace::replay`] 42, [`rescue`] and [`Sheet::add`] 33.
+//! The library is x86-64 alone. Structs pass by value: a call with a [`Scaling`] copies its 2,744 bytes, and takes up to 25 KB of stack, as
+//! bench/run says; [`thin`] and [`thin_in_place`] take 66 KB, [`Trace::replay`] 42, [`rescue`] and [`Sheet::add`] 33.
 //!
 //! Why the calls are safe to make: the library takes every number, length and code and answers all of them; a lent slice is the pointer and
 //! length of a Rust slice, read or written within that length alone; and the borrows keep the slices of one call from overlapping, which is
@@ -49,8 +49,8 @@ pub const VERSION: &str = env!("CARGO_PKG_VERSION");
 #[derive(Clone, Copy, Debug, PartialEq, Eq, Hash)]
 #[non_exhaustive]
 pub enum Refusal {
-    /// 1: the cone's kind, rule, exponents, dims or exponent sum, or a generalized cone in a correction or combined shift; a plan of no cones or of more
-    /// than 1,024.
+    /// 1: the cone's kind, rule, exponents, dims or exponent sum, or a generalized cone in a correction or combined shift; a plan of no
+    /// cones or of more than 1,024.
     BadCone,
     /// 2: a lent slice has another length than needed.
     BadLength,
@@ -64,11 +64,11 @@ pub enum Refusal {
     OutOfRange,
     /// 7: the finished answer holds a NaN or an infinity.
     AnswerNotFinite,
-    /// 8: a trace has no room for what would be written, or 4,096 records already; a replay has no room for its offsets, a rescue or a thinning
-    /// for its trace, a sheet for another file.
+    /// 8: a trace has no room for what would be written, or 4,096 records already; a replay has no room for its offsets, a rescue or a
+    /// thinning for its trace, a sheet for another file.
     NoRoom,
-    /// 9: the bytes are no trace, a record breaks a trace's layout, or an edition is not known, or has no place for a cone's rule; a sheet that no files
-    /// can have. It comes before 8.
+    /// 9: the bytes are no trace, a record breaks a trace's layout, or an edition is not known, or has no place for a cone's rule; a sheet
+    /// that no files can have. It comes before 8.
     BadTrace,
     /// 10: the record has another serial than the call expects: it is of another round. It comes after 5.
     OtherSerial,
@@ -100,7 +100,7 @@ impl Refusal {
     /// One sentence on what was wrong.
     pub fn sentence(self) -> &'static str {
         match self {
-            Refusal::BadCone => "bad cone: its kind, its rule, an exponent, a dim or the exponent sum is not allowed; or a plan of no cones or more than 1,024",
+            Refusal::BadCone => "bad cone: its kind, its rule, an exponent, a dim or the exponent sum is not allowed; or a plan of no cones or above 1,024",
             Refusal::BadLength => "a lent slice has another length than needed",
             Refusal::NotFinite => "an input number is NaN or infinite",
             Refusal::BadSettings => "the search start, step, smallest step or the strategy is not allowed",
@@ -108,7 +108,7 @@ impl Refusal {
             Refusal::OutOfRange => "the point lies where the formula has no value",
             Refusal::AnswerNotFinite => "the finished answer holds a NaN or an infinity",
             Refusal::NoRoom => "no room for what the trace, the sheet or its text would become or for the offsets; or 4,096 records or 1,000 files already",
-            Refusal::BadTrace => "the bytes are no trace, the record breaks a trace's layout, the edition is not known, or the sheet is one that no files can have",
+            Refusal::BadTrace => "no trace, a record that breaks a trace's layout, an edition that is not known, or a sheet that no files can have",
             Refusal::OtherSerial => "the record has another serial than the call expects",
             Refusal::NoSerialLeft => "the record has the last serial: make a fresh one",
             Refusal::Unknown(_) => "a number that this crate does not know",
@@ -183,11 +183,12 @@ impl Default for Strategy {
 
 /// What a test of feasibility answers: whether the computed residue, which is above 0 inside the cone, is above its margin.
 ///
-/// The margins are those of document 02's Order 5: with l the logarithm of the residue, 2^-40·(s2·(1+|l|)+|s1|) for the exponential cone and
-/// 2^-40·(|z2|+|z1|·(1+|l|)) for its dual; 2^-30·(e+q) for both power cones, whose residue is e-q.
+/// The margins are those of document 02's Order 5: with l the logarithm of the residue, 2^-40·(s2·(1+|l|)+|s1|) for the exponential cone
+/// and 2^-40·(|z2|+|z1|·(1+|l|)) for its dual; 2^-30·(e+q) for both power cones, whose residue is e-q.
 ///
-/// Of the exponential cone, where each coordinate is zero or from 2^-500 to 2^500 in size, a yes says that the point itself lies inside, with
-/// document 01's L for the logarithm and no rounding at all, and a no that no sign has caused says that it lies outside (document 02's Order 12). Undecided promises nothing.
+/// Of the exponential cone, where each coordinate is zero or from 2^-500 to 2^500 in size, a yes says that the point itself lies inside,
+/// with document 01's L for the logarithm and no rounding at all, and a no that no sign has caused says that it lies outside (document 02's
+/// Order 12). Undecided promises nothing.
 #[derive(Clone, Copy, Debug, PartialEq, Eq, Hash)]
 pub enum Answer {
     /// The residue is below minus its margin, or a coordinate has the wrong sign.
@@ -217,8 +218,8 @@ impl Answer {
 /// What a search found.
 #[derive(Clone, Copy, Debug, PartialEq)]
 pub struct Found {
-    /// The first allowed trial whose point passed, its test's answer being [`Answer::Yes`]; 0 exactly if none did. Where it is not 0, a point of an
-    /// exponential cone with coordinates of the sizes that [`Answer`] names lies exactly inside.
+    /// The first allowed trial whose point passed, its test's answer being [`Answer::Yes`]; 0 exactly if none did. Where it is not 0, a
+    /// point of an exponential cone with coordinates of the sizes that [`Answer`] names lies exactly inside.
     pub step: f64,
     /// How many points were tested; of a [`Plan`], how many cones.
     pub tests: u32,
@@ -226,8 +227,9 @@ pub struct Found {
 
 /// How far from 1 the computed sum of a generalized cone's exponents may be: document 02's Order 9. Exactly that far is taken.
 ///
-/// Every cone is under a rule, and carries it into its records and into traces; to the exponential and the power cone it makes no difference. What
-/// rule 2 takes rule 1 takes as well, with equal answers. The constructors take the newer one, [`Rule::NEWEST`], unless they are told another.
+/// Every cone is under a rule, and carries it into its records and into traces; to the exponential and the power cone it makes no
+/// difference. What rule 2 takes rule 1 takes as well, with equal answers. The constructors take the newer one, [`Rule::NEWEST`], unless
+/// they are told another.
 ///
 /// ```
 /// use spindle::{Cone, Refusal, Rule};
@@ -293,9 +295,9 @@ impl Cone {
         Cone { kind: 2, dim1: 0, dim2: 0, rule: Rule::NEWEST as u32, exps }.judged()
     }
 
-    /// The generalized power cone: 1 to 32 exponents that sum to 1, and a tail of 1 to 32 numbers. It is under the newer rule, [`Rule::Two`]: the
-    /// exponents, added from the first on, may be off by 2^-50. A cone of release 1, whose sum may be off by 2^-40, is made by
-    /// [`Cone::generalized_under`].
+    /// The generalized power cone: 1 to 32 exponents that sum to 1, and a tail of 1 to 32 numbers. It is under the newer rule,
+    /// [`Rule::Two`]: the exponents, added from the first on, may be off by 2^-50. A cone of release 1, whose sum may be off by 2^-40, is
+    /// made by [`Cone::generalized_under`].
     pub fn generalized(exponents: &[f64], dim2: usize) -> Result<Cone, Refusal> {
         Cone::generalized_under(Rule::NEWEST, exponents, dim2)
     }
@@ -310,8 +312,8 @@ impl Cone {
         Cone { kind: 3, dim1: exponents.len() as u32, dim2: dim2 as u32, rule: rule as u32, exps }.judged()
     }
 
-    /// The same cone under the rule that is named: [`Refusal::BadCone`] where that does not take it, as rule 2 does not take every generalized cone of
-    /// rule 1. Rule 1 takes every cone.
+    /// The same cone under the rule that is named: [`Refusal::BadCone`] where that does not take it, as rule 2 does not take every
+    /// generalized cone of rule 1. Rule 1 takes every cone.
     pub fn under(self, rule: Rule) -> Result<Cone, Refusal> {
         Cone { rule: rule as u32, ..self }.judged()
     }
@@ -374,8 +376,8 @@ impl Cone {
         Ok(DualGradient { three: out.three, wide: out.wide })
     }
 
-    /// The first allowed step for which the test of q + step·dq says [`Answer::Yes`] in the primal cone; `point` becomes the tested point, or
-    /// q for step 0. A point that is undecided does not pass.
+    /// The first allowed step for which the test of q + step·dq says [`Answer::Yes`] in the primal cone; `point` becomes the tested point,
+    /// or q for step 0. A point that is undecided does not pass.
     pub fn search_primal(&self, dq: &[f64], q: &[f64], point: &mut [f64], settings: Settings) -> Result<Found, Refusal> {
         self.search(true, dq, q, point, settings)
     }
@@ -498,8 +500,8 @@ pub struct DualGradient {
     pub wide: Wide,
 }
 
-/// Which update made a record: [`Scaling::update`] hands it back, and the four calls that use a scaling take it. Nothing else makes one, so a
-/// round's number or a count of one's own does not pass for it, and before the first update there is none to pass:
+/// Which update made a record: [`Scaling::update`] hands it back, and the four calls that use a scaling take it. Nothing else makes one, so
+/// a round's number or a count of one's own does not pass for it, and before the first update there is none to pass:
 ///
 /// ```compile_fail,E0308
 /// # use spindle::{Cone, Strategy};
@@ -579,8 +581,8 @@ impl Scaling {
         Ok(Serial(self.serial))
     }
 
-    /// Writes the primal gradient at s and hands back Newton's rounds (0 where Newton was not entered). Of the record, this and the two barriers use
-    /// the cone alone: it need not have been scaled.
+    /// Writes the primal gradient at s and hands back Newton's rounds (0 where Newton was not entered). Of the record, this and the two
+    /// barriers use the cone alone: it need not have been scaled.
     pub fn gradient_primal(&self, g: &mut [f64], s: &[f64]) -> Result<u32, Refusal> {
         let out = unsafe { face::spindle_gradient_primal(*self, g.as_mut_ptr(), g.len(), s.as_ptr(), s.len()) };
         Refusal::check(out.code)?;
@@ -611,7 +613,8 @@ impl Scaling {
         Refusal::check(unsafe { face::spindle_mul_hs(*self, serial.0, y.as_mut_ptr(), y.len(), x.as_ptr(), x.len()) })
     }
 
-    /// Writes the third-order correction η for the steps ds and v; zeros where the Hessian has no Cholesky factor. Not for generalized cones.
+    /// Writes the third-order correction η for the steps ds and v; zeros where the Hessian has no Cholesky factor. Not for generalized
+    /// cones.
     pub fn higher_correction(&self, serial: Serial, eta: &mut [f64], ds: &[f64], v: &[f64]) -> Result<(), Refusal> {
         Refusal::check(unsafe {
             face::spindle_higher_correction(*self, serial.0, eta.as_mut_ptr(), eta.len(), ds.as_ptr(), ds.len(), v.as_ptr(), v.len())

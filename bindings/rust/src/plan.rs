@@ -12,7 +12,8 @@ const _: () = assert!(offset_of!(Cone, rule) == 12 && offset_of!(Cone, exps) == 
 
 /// 1 to 1,024 cones over one long vector: the first cone has its first numbers, the next those that follow, and so on.
 ///
-/// A search takes the largest trial at which every cone passes on its part. That is not the least of the steps that the cones take by themselves:
+/// A search takes the largest trial at which every cone passes on its part. That is not the least of the steps that the cones take by
+/// themselves:
 /// a cone that passes at a trial may fail at a smaller one, where q lies outside of it.
 ///
 /// ```
@@ -55,8 +56,8 @@ impl<'a> Plan<'a> {
         self.numel
     }
 
-    /// The largest trial for which every cone's part of q + step·dq passes in its primal cone; 0 exactly if there is none. `point` becomes the
-    /// tested point, or q for step 0. [`Found::tests`] are tests of single cones: a trial ends at its first cone that fails.
+    /// The largest trial for which every cone's part of q + step·dq passes in its primal cone; 0 exactly if there is none. `point` becomes
+    /// the tested point, or q for step 0. [`Found::tests`] are tests of single cones: a trial ends at its first cone that fails.
     pub fn search_primal(&self, dq: &[f64], q: &[f64], point: &mut [f64], settings: Settings) -> Result<Found, Refusal> {
         self.search(true, dq, q, point, settings)
     }
@@ -77,7 +78,8 @@ impl<'a> Plan<'a> {
         Ok(Found { step: out.step, tests: out.count })
     }
 
-    /// Each cone with its part of a long point, in list order. [`Refusal::BadLength`] if the point has another length than the cones together.
+    /// Each cone with its part of a long point, in list order. [`Refusal::BadLength`] if the point has another length than the cones
+    /// together.
     pub fn parts<'p>(&self, point: &'p [f64]) -> Result<Parts<'a, 'p>, Refusal> {
         if point.len() != self.numel {
             return Err(Refusal::BadLength);

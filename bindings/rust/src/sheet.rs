@@ -30,8 +30,8 @@ pub struct Most {
     pub at: u64,
 }
 
-/// Counts over a row of files, numbered from 1 as they are added: records, steps by binary exponent, and the largest count of tests, for each side. It holds its rows itself, some
-/// 34 KB.
+/// Counts over a row of files, numbered from 1 as they are added: records, steps by binary exponent, and the largest count of tests, for
+/// each side. It holds its rows itself, some 34 KB.
 ///
 /// ```
 /// # use spindle::{Cone, Recorder, Sheet, Side, SHEET_TEXT};
@@ -67,7 +67,8 @@ impl Sheet {
         Sheet { totals, dual: [0; PLACES], primal: [0; PLACES], skipped: [0; MOST_FILES] }
     }
 
-    /// Counts one file more, by its bytes. One that is no trace, or above 65,536 bytes, is skipped: it keeps its number, and nothing of it is counted.
+    /// Counts one file more, by its bytes. One that is no trace, or above 65,536 bytes, is skipped: it keeps its number, and nothing of it
+    /// is counted.
     ///
     /// [`Refusal::NoRoom`] where 1,000 files are there already; then nothing changed.
     pub fn add(&mut self, file: &[u8]) -> Result<(), Refusal> {
@@ -80,7 +81,8 @@ impl Sheet {
         self.become_(totals)
     }
 
-    /// Adds another sheet, whose files stand behind this one's: their numbers move up by this one's file count, and on a tie the earlier largest stays.
+    /// Adds another sheet, whose files stand behind this one's: their numbers move up by this one's file count, and on a tie the earlier
+    /// largest stays.
     ///
     /// [`Refusal::NoRoom`] where there would be more than 1,000 files; then nothing changed.
     pub fn join(&mut self, second: &Sheet) -> Result<(), Refusal> {

@@ -1,4 +1,5 @@
-//! Traces of step searches: document 02's Orders 1, 2, 7, 8, 9 and 13. A [`Trace`] reads bytes, a [`TraceBuffer`] writes into them, a [`Recorder`] searches and writes.
+//! Traces of step searches: document 02's Orders 1, 2, 7, 8, 9 and 13. A [`Trace`] reads bytes, a [`TraceBuffer`] writes into them, a
+//! [`Recorder`] searches and writes.
 use crate::{face, Cone, Found, Refusal, Rule, Settings};
 
 /// The most records that a trace can hold.
@@ -42,8 +43,8 @@ impl<'a> Trace<'a> {
         Ok(Trace { bytes, edition: out.edition, records: out.records })
     }
 
-    /// Which default settings the trace has, and whether its records have their cone's rule: step 0.8 in edition 1, 0.5 in editions 2 and 3; edition 3 has the
-    /// rule, and cones of the other two are under rule 1. A new trace is of edition [`NEWEST_EDITION`].
+    /// Which default settings the trace has, and whether its records have their cone's rule: step 0.8 in edition 1, 0.5 in editions 2 and
+    /// 3; edition 3 has the rule, and cones of the other two are under rule 1. A new trace is of edition [`NEWEST_EDITION`].
     pub fn edition(&self) -> u32 {
         self.edition
     }
@@ -72,7 +73,8 @@ impl<'a> Trace<'a> {
 
     /// Runs the search of every record again and compares both steps and both counts, bit for bit. The offsets of the records that differ
     /// stand in `at` afterwards, in the order of the trace, and are handed back with the counts; `at` is left alone behind them.
-    /// [`Refusal::NoRoom`] where it has fewer places than there are such records, and then nothing was written: [`Trace::len`] places are enough.
+    /// [`Refusal::NoRoom`] where it has fewer places than there are such records, and then nothing was written: [`Trace::len`] places are
+    /// enough.
     ///
     /// A record whose cone, numbers or settings a search refuses differs.
     ///
@@ -174,13 +176,15 @@ pub struct Replay<'a> {
     pub differ: &'a [u64],
 }
 
-/// Makes a trace of what is left of one: walks from byte 0, keeps every whole record, byte for byte, until the first that is cut or malformed, and writes them
-/// to `output` with a good list and trailer behind them. A good trace comes out byte for byte. Any bytes are taken, none at all too.
+/// Makes a trace of what is left of one: walks from byte 0, keeps every whole record, byte for byte, until the first that is cut or
+/// malformed, and writes them to `output` with a good list and trailer behind them. A good trace comes out byte for byte. Any bytes are
+/// taken, none at all too.
 ///
-/// The new trace has the edition that the input ends in, if it ends in a known edition and `BACK`, and else `edition`, which is not looked at otherwise.
+/// The new trace has the edition that the input ends in, if it ends in a known edition and `BACK`, and else `edition`, which is not looked
+/// at otherwise.
 ///
-/// [`Refusal::BadTrace`] where `edition` is needed and not known. [`Refusal::NoRoom`] where `output` is too short. Then nothing was written; behind the new
-/// trace it is left alone.
+/// [`Refusal::BadTrace`] where `edition` is needed and not known. [`Refusal::NoRoom`] where `output` is too short. Then nothing was
+/// written; behind the new trace it is left alone.
 ///
 /// ```
 /// # use spindle::{rescue, Cone, Recorder, NEWEST_EDITION};
@@ -217,11 +221,11 @@ pub struct Rescue<'a> {
     pub right: bool,
 }
 
-/// Writes a trace to `output` without the records that are equal to an earlier one in all their bytes: the first of each kind, in their old order, and the
-/// edition as it was. Thinning it again drops none.
+/// Writes a trace to `output` without the records that are equal to an earlier one in all their bytes: the first of each kind, in their old
+/// order, and the edition as it was. Thinning it again drops none.
 ///
-/// [`Refusal::NoRoom`] where `output` is too short; as many bytes as `trace` has are always enough. Then nothing was written; behind the new trace it is left
-/// alone.
+/// [`Refusal::NoRoom`] where `output` is too short; as many bytes as `trace` has are always enough. Then nothing was written; behind the
+/// new trace it is left alone.
 ///
 /// ```
 /// # use spindle::{thin, Cone, Recorder, Trace};
@@ -293,15 +297,16 @@ impl Recorded {
         self.at
     }
 
-    /// The cone of the search, judged, under the rule that the record has: [`Refusal::BadCone`] where that is none, or its exponents are none of a cone.
+    /// The cone of the search, judged, under the rule that the record has: [`Refusal::BadCone`] where that is none, or its exponents are
+    /// none of a cone.
     pub fn cone(&self) -> Result<Cone, Refusal> {
         // kinds 1 and 2 are recorded with the dims 3 and 0, which they do not use
         let (dim1, dim2) = if self.cone.kind == 3 { (self.cone.dim1, self.cone.dim2) } else { (0, 0) };
         Cone { dim1, dim2, ..self.cone }.judged()
     }
 
-    /// The number of the rule that the record's cone is under: 1 in a trace of edition 1 or 2; in one of edition 3 whatever the record has, which
-    /// may be no rule's.
+    /// The number of the rule that the record's cone is under: 1 in a trace of edition 1 or 2; in one of edition 3 whatever the record has,
+    /// which may be no rule's.
     pub fn rule(&self) -> u32 {
         self.cone.rule
     }
@@ -423,9 +428,10 @@ impl<'a> TraceBuffer<'a> {
         Ok(TraceBuffer { bytes, used, edition, records, defaults: defaults(edition) })
     }
 
-    /// Appends a record of another trace; every NaN of it is written as 7FF8000000000000. A search by default keeps its settings: where this trace's edition
-    /// means others, they are written outright. Its cone keeps its rule: [`Refusal::BadTrace`] where that is not rule 1 and this trace is of edition 1 or 2,
-    /// which have no place for it. [`Refusal::NoRoom`] where the buffer has no room for it, or [`MOST_RECORDS`] are there.
+    /// Appends a record of another trace; every NaN of it is written as 7FF8000000000000. A search by default keeps its settings: where
+    /// this trace's edition means others, they are written outright. Its cone keeps its rule: [`Refusal::BadTrace`] where that is not rule
+    /// 1 and this trace is of edition 1 or 2, which have no place for it. [`Refusal::NoRoom`] where the buffer has no room for it, or
+    /// [`MOST_RECORDS`] are there.
     pub fn append(&mut self, record: &Recorded) -> Result<(), Refusal> {
         self.put(&record.cone, record.flag, record.settings, [record.dz(), record.ds(), record.z(), record.s()], record.steps)
     }
@@ -457,8 +463,8 @@ impl<'a> TraceBuffer<'a> {
     }
 }
 
-/// Searches steps, and records each search that was done in a trace: the very arguments and the very answer, since nobody but the recorder holds them in
-/// between. A search that is refused is not recorded.
+/// Searches steps, and records each search that was done in a trace: the very arguments and the very answer, since nobody but the recorder
+/// holds them in between. A search that is refused is not recorded.
 #[derive(Debug)]
 pub struct Recorder<'a> {
     buffer: TraceBuffer<'a>,
@@ -475,13 +481,13 @@ impl<'a> Recorder<'a> {
         Ok(Recorder { buffer: TraceBuffer::open(bytes, used)? })
     }
 
-    /// [`Cone::step_length`] with the house's settings, [`Settings::house`] of `start`, recorded as a search by default. Into a trace of an older edition, which
-    /// means other settings by that, they are recorded outright.
+    /// [`Cone::step_length`] with the house's settings, [`Settings::house`] of `start`, recorded as a search by default. Into a trace of an
+    /// older edition, which means other settings by that, they are recorded outright.
     ///
     /// [`Refusal::NoRoom`] where the search could be made and not recorded: then as at every refusal nothing that was lent has changed, and
-    /// [`Cone::step_length`] makes the search without a record. So it is with [`Refusal::BadTrace`], where the recorder goes on with a trace of edition 1 or 2
-    /// and the cone is under rule 2: such a trace keeps cones of rule 1 alone, and every cone that rule 2 takes can be put under it ([`Cone::under`]) with the
-    /// same answers.
+    /// [`Cone::step_length`] makes the search without a record. So it is with [`Refusal::BadTrace`], where the recorder goes on with a
+    /// trace of edition 1 or 2 and the cone is under rule 2: such a trace keeps cones of rule 1 alone, and every cone that rule 2 takes can
+    /// be put under it ([`Cone::under`]) with the same answers.
     #[allow(clippy::too_many_arguments)]
     pub fn step_length(
         &mut self,
@@ -522,7 +528,8 @@ impl<'a> Recorder<'a> {
         dual_point: &mut [f64],
         primal_point: &mut [f64],
     ) -> Result<(Found, Found), Refusal> {
-        // The points are tried out aside, since the trace may have no room. No cone has 65 numbers: a longer slice is refused as one of 65 is.
+        // The points are tried out aside, since the trace may have no room. No cone has 65 numbers: a longer slice is refused as one of 65
+        // is.
         let (mut dual, mut primal) = ([0.0; 65], [0.0; 65]);
         let (dual, primal) = (&mut dual[..dual_point.len().min(65)], &mut primal[..primal_point.len().min(65)]);
         let steps = cone.steps(dz, ds, z, s, dual, primal, settings)?;

@@ -1,4 +1,5 @@
-//! Traces: what a recorder searched is what a trace reads, for every kind and both ways to give settings; every refusal, and bytes that stay.
+//! Traces: what a recorder searched is what a trace reads, for every kind and both ways to give settings; every refusal, and bytes that
+//! stay.
 use spindle::{rescue, thin, thin_in_place, Cone, Found, Recorded, Recorder, Refusal, Rule, Settings, Trace, TraceBuffer, MOST_RECORDS, NEWEST_EDITION};
 
 /// A cone with directions and points for a search.

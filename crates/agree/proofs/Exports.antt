@@ -1,5 +1,5 @@
--- 01: "For each, show that any two outcomes allowed by it agree": of every export. The functions behind them have theirs in proofs/Agree of their crate.
--- Assumes nothing.
+-- 01: "For each, show that any two outcomes allowed by it agree": of every export. The functions behind them have theirs in proofs/Agree of
+-- their crate. Assumes nothing.
 use mathlib.Core.Path.{_∙_, sym}
 use mathlib.Core.List.{List}
 use Prim.Native.Nat.{ℕ}
@@ -159,10 +159,12 @@ thin-agrees κs a x y s t p q = left-alike (p ∙ sym q)
 pub thin-in-place-agrees : OneOutcome thin-in-place.Post {A = List ℕ} (λ κs s. now (s .0))
 thin-in-place-agrees κs a x y s t p q = left-alike (p ∙ sym q)
 
-pub sheet-add-agrees : OneOutcome sheet-add.Post {A = List ℕ × List ℕ × List ℕ} (λ κs s. (now (s .1 .0), now (s .1 .1 .0), now (s .1 .1 .1 .0)))
+pub sheet-add-agrees : OneOutcome sheet-add.Post {A = List ℕ × List ℕ × List ℕ}
+    (λ κs s. (now (s .1 .0), now (s .1 .1 .0), now (s .1 .1 .1 .0)))
 sheet-add-agrees κs a x y s t p q = held-alike (p ∙ sym q)
 
-pub sheet-join-agrees : OneOutcome sheet-join.Post {A = List ℕ × List ℕ × List ℕ} (λ κs s. (now (s .1 .0), now (s .1 .1 .0), now (s .1 .1 .1 .0)))
+pub sheet-join-agrees : OneOutcome sheet-join.Post {A = List ℕ × List ℕ × List ℕ}
+    (λ κs s. (now (s .1 .0), now (s .1 .1 .0), now (s .1 .1 .1 .0)))
 sheet-join-agrees κs a x y s t p q = held-alike (p ∙ sym q)
 
 pub sheet-text-agrees : OneOutcome sheet-text.Post {A = List ℕ} (λ κs s. now (s .0))

@@ -1,6 +1,6 @@
 -- 01: "For each, show that any two outcomes allowed by it agree". Every contract here is one equation.
--- Not here: `head` and `tail`, which hand back a part of the slice that they were lent; their contracts fix what the part holds, not where it lies.
--- Assumes nothing.
+-- Not here: `head` and `tail`, which hand back a part of the slice that they were lent; their contracts fix what the part holds, not where
+-- it lies. Assumes nothing.
 use mathlib.Core.Path.{_∙_, sym}
 use Rattle.arith.specs.Outcomes.{OneAnswer}
 use Rattle.algebra.proofs.sym3.mul.Reads as mul

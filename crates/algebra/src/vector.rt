@@ -6,7 +6,8 @@ ghost use lib.ListN.{take, drop};
 ghost use Rattle.algebra.specs.Vectors.{dotOf, sumOf, sumsqOf, normOf, meanOf, movedOf, shiftOf, normalizeOf};
 use kernels::sqrt;
 
-// The first n numbers, or all where there are fewer. A range of the Rust that can leave the slice would panic; this one has no bounds for a caller to prove.
+// The first n numbers, or all where there are fewer. A range of the Rust that can leave the slice would panic; this one has no bounds for a
+// caller to prove.
 pub fn head(xs: &[f64], n: usize) -> &[f64]
     ensures { λ r. ⌜ now r ≡ take n (now (xs .entry)) ⌝ }
 {

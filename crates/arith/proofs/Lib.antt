@@ -1,4 +1,5 @@
--- The laws by subject: turns of a loop, lists filled from the front, branches taken or left, squares, powers, quotients, numbers that shrink, tables.
+-- The laws by subject: turns of a loop, lists filled from the front, branches taken or left, squares, powers, quotients, numbers that
+-- shrink, tables.
 pub mod Turns
 pub mod Filling
 pub mod Branches

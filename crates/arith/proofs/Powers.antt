@@ -1,5 +1,5 @@
--- Powers, and how they compare: the first ones as products, powers of a product, a power with a doubled exponent, and how much a power grows with its base.
--- Not here: powers of 2 (lib.Pow), orders of powers (native.Mathlib.Nat). Assumes nothing.
+-- Powers, and how they compare: the first ones as products, powers of a product, a power with a doubled exponent, and how much a power
+-- grows with its base. Not here: powers of 2 (lib.Pow), orders of powers (native.Mathlib.Nat). Assumes nothing.
 use mathlib.Core.Path.{_≡_, ap, _∙_}
 use Prim.Native.Nat.{ℕ, zero, suc, _+_, _*_, _^_, _≤_}
 use native.Mathlib.Nat.{pow-zero, pow-suc, one-mul, mul-assoc, mul-le-mul-left, mul-le-mul-right, pow-le-pow-left, le-add-right, add-suc}

@@ -1,5 +1,5 @@
--- Whole quotients and remainders. In order: long division digit by digit; quotients rounded up; a multiple less a number; fractions compared by their
--- whole parts in units of 1/u.
+-- Whole quotients and remainders. In order: long division digit by digit; quotients rounded up; a multiple less a number; fractions
+-- compared by their whole parts in units of 1/u.
 -- Not here: a quotient of a sum of a multiple and a rest (lib.Arith), the laws of _/_ and _%_ (native.Mathlib.Nat). Assumes nothing.
 use mathlib.Core.Path.{_≡_, sym, ap, _∙_}
 use Prim.Native.Nat.{ℕ, zero, _+_, _-_, _*_, _/_, _%_, _≤_, _<_}

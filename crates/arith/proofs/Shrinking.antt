@@ -1,5 +1,5 @@
--- Numbers that shrink by a ratio at each step: after K steps, where 2 * R ^ K is Q ^ K at most, a number has halved, so it has a binary digit less.
--- Assumes nothing.
+-- Numbers that shrink by a ratio at each step: after K steps, where 2 * R ^ K is Q ^ K at most, a number has halved, so it has a binary
+-- digit less. Assumes nothing.
 use mathlib.Core.Path.{_≡_, sym, ap, _∙_, subst}
 use Prim.Native.Nat.{ℕ, zero, suc, _+_, _-_, _*_, _^_, _≤_, _<_}
 use native.Mathlib.Nat.{le-refl, le-trans, le-of-eq, lt-of-le-of-lt, lt-of-lt-of-le, lt-of-not-le, not-le-of-lt, mul-comm, mul-assoc}

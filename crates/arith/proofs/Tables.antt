@@ -1,5 +1,5 @@
--- Tables of numbers. In order: a rule that holds at every index below n, from one test that the checker computes; the last arm of a `match` over an
--- index. Assumes nothing.
+-- Tables of numbers. In order: a rule that holds at every index below n, from one test that the checker computes; the last arm of a `match`
+-- over an index. Assumes nothing.
 -- A crate defines its test f, shows `tested : T (every f n)` by `tt`, and reads the rule at i by `at-index f n tested i`.
 use mathlib.Core.Path.{_≡_, sym, subst}
 use mathlib.Core.Bool.{Bool, true, false}

@@ -1,5 +1,5 @@
--- 01, "Points at the border": the twelve rows as one table, each a call of a public entry (row g: of omega, which is not public) and its answer.
--- Definitions, and the one statement.
+-- 01, "Points at the border": the twelve rows as one table, each a call of a public entry (row g: of omega, which is not public) and its
+-- answer. Definitions, and the one statement.
 use Prim.Native.Nat.{ℕ}
 use mathlib.Core.Path.{_≡_}
 use mathlib.Core.Bool.{true, false}

@@ -1,4 +1,5 @@
--- The theorem's hypotheses can be met: rows a and c of the border table go through it, and a no on the residue. All three are computed. Assumes nothing.
+-- The theorem's hypotheses can be met: rows a and c of the border table go through it, and a no on the residue. All three are computed.
+-- Assumes nothing.
 use mathlib.Core.Path.{refl}
 use Prim.Native.Nat.{_<_}
 use native.Mathlib.Omega.{arith}

@@ -1,5 +1,5 @@
--- A residue above its margin, or below minus its margin, tells the sign of the exact number: b·L + x in units. And what an answer says of its tests.
--- Assumes nothing.
+-- A residue above its margin, or below minus its margin, tells the sign of the exact number: b·L + x in units. And what an answer says of
+-- its tests. Assumes nothing.
 use mathlib.Core.Path.{_≡_, refl, sym, subst}
 use mathlib.Core.Bool.{Bool, true, false, cond}
 use Prim.Native.Nat.{ℕ, _+_, _*_, _^_, _<_}

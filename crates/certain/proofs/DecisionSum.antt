@@ -1,4 +1,5 @@
--- All errors together, over plain whole numbers: the residue (rp - rm)/U is near b·l + x, x = (xp - xm)/U, and l is near L = (P - M)/O. Assumes nothing.
+-- All errors together, over plain whole numbers: the residue (rp - rm)/U is near b·l + x, x = (xp - xm)/U, and l is near L = (P - M)/O.
+-- Assumes nothing.
 use Prim.Native.Nat.{ℕ, suc, _+_, _*_, _^_, _≤_, _<_}
 use native.Mathlib.Nat.{le-trans, mul-le-mul-left, mul-le-mul-right, lt-of-mul-lt-mul-right, mul-pos}
 use native.Mathlib.Omega.{arith}

@@ -1,5 +1,5 @@
--- In order: the error sums over plain numbers; the logarithm of a quotient; no overflow; margin and residues; the coordinates as fractions and in units;
--- what a decision says; the two tests; all together; closed cases.
+-- In order: the error sums over plain numbers; the logarithm of a quotient; no overflow; margin and residues; the coordinates as fractions
+-- and in units; what a decision says; the two tests; all together; closed cases.
 pub mod OneOperation
 pub mod LogSum
 pub mod MarginSum

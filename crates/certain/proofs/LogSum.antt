@@ -1,5 +1,5 @@
--- The error sum of the logarithm, over plain whole numbers: l = (lp - lm)/U is close to y = (p - m)/o, which is near x = (P - M)/O. U units are 1.
--- Assumes nothing.
+-- The error sum of the logarithm, over plain whole numbers: l = (lp - lm)/U is close to y = (p - m)/o, which is near x = (P - M)/O. U units
+-- are 1. Assumes nothing.
 use mathlib.Core.Path.{_≡_, ap, subst}
 use Prim.Native.Nat.{ℕ, _+_, _-_, _*_, _^_, _≤_, _<_, max}
 use native.Mathlib.Nat.{le-trans, mul-le-mul-right, le-of-mul-le-mul-right, max-le, le-add-left, le-add-right}

@@ -1,4 +1,5 @@
--- The computed logarithm of a rounded quotient is near L of the exact one: |l - L(a/b)| ≤ 2^-42·(1 + |l|), and |l| is at most 2^12. Assumes nothing.
+-- The computed logarithm of a rounded quotient is near L of the exact one: |l - L(a/b)| ≤ 2^-42·(1 + |l|), and |l| is at most 2^12. Assumes
+-- nothing.
 use mathlib.Core.Path.{_≡_, sym, ap, _∙_, subst}
 use mathlib.Core.Bool.{Bool, true, false, true≢false}
 use Prim.Native.Nat.{ℕ, zero, suc, _+_, _-_, _*_, _^_, _≤_, _<_, max}

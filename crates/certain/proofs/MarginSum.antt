@@ -1,5 +1,5 @@
--- The error sum of the margin, over plain whole numbers: 2^-40·(b·(1+h) + c), of the steps u = 1+h, v = b·u, w = v+c. U units are 1, and T units, the
--- factor, are at least 2^-40. Assumes nothing.
+-- The error sum of the margin, over plain whole numbers: 2^-40·(b·(1+h) + c), of the steps u = 1+h, v = b·u, w = v+c. U units are 1, and T
+-- units, the factor, are at least 2^-40. Assumes nothing.
 use mathlib.Core.Path.{sym}
 use Prim.Native.Nat.{ℕ, _+_, _*_, _^_, _≤_, _<_}
 use native.Mathlib.Nat.{le-trans, le-of-eq, mul-assoc, mul-le-mul-left, mul-le-mul-right, le-of-mul-le-mul-right}

@@ -1,5 +1,5 @@
--- One rounded operation, over plain whole numbers: within 2^-53 of itself and half a unit, it is at most twice its exact value, and at least 7/8 of
--- one that is not tiny. Assumes nothing.
+-- One rounded operation, over plain whole numbers: within 2^-53 of itself and half a unit, it is at most twice its exact value, and at
+-- least 7/8 of one that is not tiny. Assumes nothing.
 use Prim.Native.Nat.{ℕ, _+_, _*_, _^_, _≤_}
 use native.Mathlib.Omega.{arith}
 

@@ -1,5 +1,6 @@
 -- The cone itself: a residue beyond its margin tells the sign of s2·L(s3/s2) - s1. Assumes nothing.
--- In units: s1 = ±c, s2 = b, s3 = a. The logarithm of the rounded quotient is near L(a/b), the residue near b·l - s1, the margin heavy enough for both.
+-- In units: s1 = ±c, s2 = b, s3 = a. The logarithm of the rounded quotient is near L(a/b), the residue near b·l - s1, the margin heavy
+-- enough for both.
 use mathlib.Core.Path.{_≡_, subst}
 use mathlib.Core.Bool.{Bool, true, false, not}
 use Prim.Native.Nat.{ℕ, _+_, _*_, _^_, _<_}

@@ -1,4 +1,5 @@
--- The error sums of the two residues, over plain whole numbers: b·l + x, from the product p of n units and one or two differences. Assumes nothing.
+-- The error sums of the two residues, over plain whole numbers: b·l + x, from the product p of n units and one or two differences. Assumes
+-- nothing.
 use mathlib.Core.Path.{_≡_, subst}
 use Prim.Native.Nat.{ℕ, _+_, _*_, _^_, _≤_}
 use native.Mathlib.Nat.{mul-le-mul-right}

@@ -26,7 +26,8 @@ pub record InRange (x : Float) : Type 0 where
   pub most : num x ≤ largest * den x
   pub least : 0 < num x → den x ≤ largest * num x
 
--- "if all three coordinates are zero or between 2^-500 and 2^500 in size". `Float` holds the values of every format; those of a call are doubles
+-- "if all three coordinates are zero or between 2^-500 and 2^500 in size". `Float` holds the values of every format; those of a call are
+-- doubles
 pub record Point (x y z : Float) : Type 0 where
   pub first-double : T (fits binary64 x)
   pub second-double : T (fits binary64 y)

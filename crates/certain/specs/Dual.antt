@@ -34,7 +34,8 @@ answer z1 z2 z3 = judged (signs z1 z3) (residue z1 z2 (log z1 z3)) (margin z1 z2
 unfoldable pub number : Float → Float → Float → Signed
 number z1 z2 z3 = minus (minus (exactOf z2) (exactOf z1)) (times (exactOf z1) (lOfQuotient z3 z1))
 
--- 02, Order 12: "the exact point is inside. .. Dual: z2 - z1 - z1·L(-z3/z1) is above zero"; the dual cone of 000 has z1 below and z3 above zero
+-- 02, Order 12: "the exact point is inside. .. Dual: z2 - z1 - z1·L(-z3/z1) is above zero"; the dual cone of 000 has z1 below and z3 above
+-- zero
 pub record Inside (z1 z2 z3 : Float) : Type 0 where
   pub first-below : BelowZero (exactOf z1)
   pub third-above : AboveZero (exactOf z3)

@@ -8,8 +8,8 @@ use Rattle.certain.specs.Coordinates.{Point}
 use Rattle.certain.specs.Primal as primal
 use Rattle.certain.specs.Dual as dual
 
--- "a yes for the exponential cone means that the exact point is inside". "A no given on the residue means the same number is below zero": the sign tests
--- have passed. "Undecided promises nothing."
+-- "a yes for the exponential cone means that the exact point is inside". "A no given on the residue means the same number is below zero":
+-- the sign tests have passed. "Undecided promises nothing."
 pub record Meaning : Type 0 where
   pub primal-yes : (s1 s2 s3 : Float) → Point s1 s2 s3 → primal.answer s1 s2 s3 ≡ Yes → primal.Inside s1 s2 s3
   pub primal-no :

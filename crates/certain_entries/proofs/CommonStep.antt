@@ -1,5 +1,5 @@
--- Order 12 of the common step: where the step is not +0 every cone of the list has passed on its part of the point, and that part is the point of a trial
--- of the cone alone. Assumes nothing.
+-- Order 12 of the common step: where the step is not +0 every cone of the list has passed on its part of the point, and that part is the
+-- point of a trial of the cone alone. Assumes nothing.
 use mathlib.Core.Path.{_≡_, refl, ap, _∙_}
 use mathlib.Core.Bool.{Bool}
 use mathlib.Core.List.{List}
@@ -25,7 +25,8 @@ use Rattle.certain_entries.specs.Searches.{StepCertain, CommonStepCertai
 use Rattle.certain_entries.proofs.Tests.{yes-inside}
 use Rattle.certain_entries.proofs.Searches.{searched, point-of, yes-of}
 
-module _ (cs : List Cone) (i : ℕ) (here : i < length cs) (one : coneAt cs i .kind ≡ 1) (primal : Bool) (dq q : List Float) (s : Settings) where
+module _ (cs : List Cone) (i : ℕ) (here : i < length cs) (one : coneAt cs i .kind ≡ 1)
+    (primal : Bool) (dq q : List Float) (s : Settings) where
   part-certain : length dq ≡ length q
       → let o = searchOf (planProblem cs primal dq q s) in
       StepCertain primal (o .step) (partOf cs i (o .point))

@@ -1,4 +1,5 @@
--- Order 12 of the exported feasibility: a refused call answers no and has another number than 0, so that the answer is the test's. Assumes nothing.
+-- Order 12 of the exported feasibility: a refused call answers no and has another number than 0, so that the answer is the test's. Assumes
+-- nothing.
 use mathlib.Core.Path.{_≡_, refl, ap}
 use mathlib.Core.Bool.{true, false}
 use Prim.Native.Nat.{ℕ, zero, suc}

@@ -1,5 +1,5 @@
--- Order 12 of the searches: a search hands back the step +0, or the point of its step, and that point has passed. It is a rounded sum in each place.
--- Assumes nothing.
+-- Order 12 of the searches: a search hands back the step +0, or the point of its step, and that point has passed. It is a rounded sum in
+-- each place. Assumes nothing.
 use mathlib.Core.Path.{_≡_, refl, sym, subst}
 use mathlib.Core.Bool.{Bool, true, false}
 use mathlib.Core.List.{List, [], _∷_}

@@ -1,5 +1,5 @@
--- The answer of the exponential cone, asked by kind and of a list, is that of certain's test on the list's first three numbers. Then its theorem holds of it.
--- Assumes nothing.
+-- The answer of the exponential cone, asked by kind and of a list, is that of certain's test on the list's first three numbers. Then its
+-- theorem holds of it. Assumes nothing.
 use mathlib.Core.Path.{_≡_, refl, sym, _∙_}
 use mathlib.Core.Bool.{Bool, true, false}
 use mathlib.Core.List.{List}

@@ -1,4 +1,5 @@
--- What Order 12 says of the exported feasibility, of the definitions that the contracts of both calls name. Definitions only; proofs/Feasibility proves it.
+-- What Order 12 says of the exported feasibility, of the definitions that the contracts of both calls name. Definitions only;
+-- proofs/Feasibility proves it.
 use mathlib.Core.Path.{_≡_}
 use mathlib.Core.Bool.{true, false}
 use mathlib.Core.List.{List}
@@ -11,8 +12,8 @@ use Rattle.expcone_feasible.specs.Feasible.{primalSigns, dualSigns}
 use Rattle.cone_entries.specs.Entries.{verdictOf, isPrimalFeasibleOf, isDualFeasibleOf}
 use Rattle.certain_entries.specs.Points.{PointAt, ExactlyInside, exactNumber}
 
--- A refused call answers no, so that a yes needs no number beside it. `verdictOf No` is a no with the number 0; the residue gave it where the sign tests
--- have passed
+-- A refused call answers no, so that a yes needs no number beside it. `verdictOf No` is a no with the number 0; the residue gave it where
+-- the sign tests have passed
 pub record Certain (c : Cone) (p : List Float) : Type 0 where
   -- "a yes for the exponential cone means that the exact point is inside"
   pub primal-yes : isPrimalFeasibleOf c p .answer ≡ numberOf Yes → ExactlyInside true p

@@ -1,5 +1,5 @@
--- Order 12 of the searches: a step other than zero hands back a point that lies exactly inside. Of the definitions that the contracts of the three calls
--- name. Definitions only; proofs/Searches and proofs/CommonStep prove it. A refused call has the step +0.
+-- Order 12 of the searches: a step other than zero hands back a point that lies exactly inside. Of the definitions that the contracts of
+-- the three calls name. Definitions only; proofs/Searches and proofs/CommonStep prove it. A refused call has the step +0.
 use Prim.Native.Nat.{ℕ, _<_}
 use mathlib.Core.Path.{_≡_}
 use mathlib.Core.Bool.{Bool, true, false}

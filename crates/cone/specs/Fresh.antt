@@ -12,8 +12,8 @@ use Rattle.cone.specs.declared.Wide.{Wide}
 use Rattle.cone.specs.declared.Scaling.{Scaling}
 use Rattle.cone.specs.declared.Attempt.{Attempt}
 
--- 01: "A cone is kind, dim1, dim2" and its 32 exponent places; 02, Order 9: "The cone carries its rule number". The cone with nothing in it: no kind
--- is 0, and no rule
+-- 01: "A cone is kind, dim1, dim2" and its 32 exponent places; 02, Order 9: "The cone carries its rule number". The cone with nothing in
+-- it: no kind is 0, and no rule
 abbrev pub emptyCone : Cone
 emptyCone = record { kind = 0; dim1 = 0; dim2 = 0; rule = 0; exps = replicate 32 #0 }
 

@@ -7,7 +7,8 @@ use Rattle.arith.specs.Turns.{iter}
 use Rattle.double.specs.Operators.{at}
 use Rattle.double.specs.Numbers.{#0}
 
--- Of kinds 1 and 2: the first three places. A slice that passes row 2 of the table has no others, and this is the slice itself (proofs/Points).
+-- Of kinds 1 and 2: the first three places. A slice that passes row 2 of the table has no others, and this is the slice itself
+-- (proofs/Points).
 abbrev pub threeOf : List Float → List Float
 threeOf s = at s 0 ∷ at s 1 ∷ at s 2 ∷ []
 

@@ -1,5 +1,5 @@
-// The public entries that take a cone; the feasibility tests are those of `feasible_entries`, the copies those of `copy_entries`, passed on.
-// Each judges its arguments by the table of document 01, computes into locals, and only then writes.
+// The public entries that take a cone; the feasibility tests are those of `feasible_entries`, the copies those of `copy_entries`, passed
+// on. Each judges its arguments by the table of document 01, computes into locals, and only then writes.
 ghost use mathlib.Core.Path.{_≡_};
 ghost use Rattle.cone_entries.specs.Entries.{freshOf, barrierDualOf, refuseGrad, dualGradHOf};
 ghost use Rattle.cone_entries.specs.Entries.{unitInitializationOf, rectifyOf, rectifyEquilibrationOf};

@@ -1,5 +1,5 @@
-// Runs document 01's values of the exponential and the power cone that need no entry: rows a to f, h and i of its table, and the gradients and
-// blocks of "Also run". A line names the values, then gives the answer; a number is its bit pattern.
+// Runs document 01's values of the exponential and the power cone that need no entry: rows a to f, h and i of its table, and the gradients
+// and blocks of "Also run". A line names the values, then gives the answer; a number is its bit pattern.
 
 fn word(text: &[u8]) {
     io::write_all(1, text);

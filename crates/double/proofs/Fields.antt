@@ -1,6 +1,6 @@
 -- From a bit pattern to its fields, from the fields to the size in units of 2^-1074, and back. Assumes nothing.
--- In order: `ofBits-is`, the ranges of the fields, `low-value`, `mid-value` and both as `mag-value`, that a number has one sign and one size,
--- `measured` and `read`.
+-- In order: `ofBits-is`, the ranges of the fields, `low-value`, `mid-value` and both as `mag-value`, that a number has one sign and one
+-- size, `measured` and `read`.
 use mathlib.Core.Path.{_≡_, sym, ap, subst, _∙_}
 use mathlib.Core.Bool.{Bool, true, false, cond}
 use Prim.Native.Nat.{ℕ, zero, suc, _+_, _*_, _/_, _^_, _<_}

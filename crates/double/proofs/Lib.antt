@@ -1,5 +1,5 @@
--- By subject: the names of numbers, the fields of a pattern, the classes by exponent field, subnormals, a positive double as m * 2^k, a double put together,
--- NaN, finite, the size of a double, patterns and doubles there and back.
+-- By subject: the names of numbers, the fields of a pattern, the classes by exponent field, subnormals, a positive double as m * 2^k, a
+-- double put together, NaN, finite, the size of a double, patterns and doubles there and back.
 pub mod Numbers
 pub mod Fields
 pub mod Classes

@@ -1,5 +1,5 @@
--- A double put together as the pattern j * 2^52 + q, with the leading one left in q, from 2^52 up to and including 2^53. It carries into the field by
--- itself. Assumes nothing.
+-- A double put together as the pattern j * 2^52 + q, with the leading one left in q, from 2^52 up to and including 2^53. It carries into
+-- the field by itself. Assumes nothing.
 use mathlib.Core.Path.{_≡_, sym, ap, subst, _∙_}
 use mathlib.Core.Logic.{_⊎_, inl, inr}
 use mathlib.Core.Bool.{Bool, false, not}

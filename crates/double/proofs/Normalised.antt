@@ -1,5 +1,5 @@
--- A positive finite double as m * 2^(k - 1126), m from 2^52 up to 2^53, subnormals included: its units, its exact fraction, its binary exponent.
--- Assumes nothing.
+-- A positive finite double as m * 2^(k - 1126), m from 2^52 up to 2^53, subnormals included: its units, its exact fraction, its binary
+-- exponent. Assumes nothing.
 use mathlib.Core.Path.{_≡_, refl, sym, ap, subst, _∙_}
 use mathlib.Core.Bool.{false}
 use Prim.Native.Nat.{ℕ, zero, suc, _+_, _-_, _*_, _^_, _≤_, _<_}

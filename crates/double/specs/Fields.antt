@@ -1,5 +1,6 @@
--- The three fields of a double's bit pattern, and the number that they stand for, in units of the smallest double, 2^-1074. Definitions only.
--- In these units every finite double is a whole number, a subnormal too, so that statements about doubles become statements about whole numbers.
+-- The three fields of a double's bit pattern, and the number that they stand for, in units of the smallest double, 2^-1074. Definitions
+-- only. In these units every finite double is a whole number, a subnormal too, so that statements about doubles become statements about
+-- whole numbers.
 use Prim.Native.Nat.{ℕ, zero, suc, _+_, _-_, _*_, _/_, _%_, _^_}
 use mathlib.Core.Bool.{Bool, false}
 use lib.Dec.{leb}
@@ -28,8 +29,8 @@ Sized x s n = HasValue x s n (2 ^ 1074)
 abbrev pub Units : Float → ℕ → Type 0
 Units x n = Sized x false n
 
--- The size in units by the field and the digits t. At the field 0 the digits are the units; from the field 1 on they stand under a leading one, and
--- each field doubles.
+-- The size in units by the field and the digits t. At the field 0 the digits are the units; from the field 1 on they stand under a leading
+-- one, and each field doubles.
 unfoldable pub mag : ℕ → ℕ → ℕ
 mag zero t = t
 mag (suc j) t = (2 ^ 52 + t) * 2 ^ j
@@ -39,8 +40,8 @@ unfoldable pub shift : ℕ → ℕ
 unfolding leadingZeros
 shift t = leadingZeros 64 t - 11
 
--- A positive finite double as m * 2^(k - 1126) with m from 2^52 up to 2^53, by its field and digits: k is 51 above the field, and a subnormal is
--- brought into that form.
+-- A positive finite double as m * 2^(k - 1126) with m from 2^52 up to 2^53, by its field and digits: k is 51 above the field, and a
+-- subnormal is brought into that form.
 unfoldable pub normalOf : ℕ → ℕ → Normal
 unfolding shift
 normalOf zero t = record { m = t * 2 ^ shift t; k = 52 - shift t }

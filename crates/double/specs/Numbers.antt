@@ -1,4 +1,5 @@
--- The numbers of the Rust text and of document 01, each by its bits under a name. Definitions only, and the statement that the names are right.
+-- The numbers of the Rust text and of document 01, each by its bits under a name. Definitions only, and the statement that the names are
+-- right.
 use Prim.Native.Nat.{ℕ, _^_}
 use mathlib.Core.Path.{_≡_}
 use mathlib.Core.Bool.{false}

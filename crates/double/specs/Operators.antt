@@ -1,4 +1,5 @@
--- The operators of every formula of this project. 01: "each operation rounded once, left to right as the Rust is written, nothing fused". Definitions only.
+-- The operators of every formula of this project. 01: "each operation rounded once, left to right as the Rust is written, nothing fused".
+-- Definitions only.
 use Prim.Native.Nat.{ℕ}
 use mathlib.Core.Bool.{Bool}
 use mathlib.Core.List.{List}

@@ -1,5 +1,6 @@
 -- What the test of a point tells in the exponential cone and in its dual: 000's tests, with 02's margins. Definitions only.
--- The formulas stand in `certain`, on three numbers and beside what their answers mean; here they are of a point, whose places count from 0.
+-- The formulas stand in `certain`, on three numbers and beside what their answers mean; here they are of a point, whose places count from
+-- 0.
 use mathlib.Core.Bool.{Bool}
 use mathlib.Core.List.{List}
 use lib.Ieee.{Float}

@@ -1,5 +1,5 @@
--- A double from -708 to 709 as a fraction: the range of its fields, that it is a whole number of 2^-53 from ½ on, and that the steps do not depend on
--- how the fraction is written. Assumes nothing.
+-- A double from -708 to 709 as a fraction: the range of its fields, that it is a whole number of 2^-53 from ½ on, and that the steps do not
+-- depend on how the fraction is written. Assumes nothing.
 use mathlib.Core.Path.{_≡_, sym, ap, _∙_}
 use mathlib.Core.Bool.{Bool, true, false, cond}
 use Prim.Native.Nat.{ℕ, zero, suc, _+_, _-_, _*_, _/_, _^_, _≤_, _<_}

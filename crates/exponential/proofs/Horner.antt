@@ -1,5 +1,5 @@
--- The sum by Horner's rule against the exact one, term by term from the last: at each step two numbers are cut to whole units, and r is cut once.
--- Assumes nothing.
+-- The sum by Horner's rule against the exact one, term by term from the last: at each step two numbers are cut to whole units, and r is cut
+-- once. Assumes nothing.
 use mathlib.Core.Path.{_≡_}
 use Prim.Native.Nat.{ℕ, zero, suc, _+_, _-_, _*_, _/_, _^_, _≤_, _<_}
 use native.Mathlib.Nat.{add-mul, le-trans, le-refl, le-of-eq, le-of-lt, lt-of-le-of-lt, add-le-add, mul-le-mul, mul-le-mul-left}

@@ -1,4 +1,5 @@
--- Leaves first: the coefficients and borders are computed tests, Horner and Remainder carry them to the sum and to the rest, Bound puts them together.
+-- Leaves first: the coefficients and borders are computed tests, Horner and Remainder carry them to the sum and to the rest, Bound puts
+-- them together.
 pub mod Coefficients
 pub mod Horner
 pub mod Borders

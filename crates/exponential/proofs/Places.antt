@@ -1,5 +1,5 @@
--- The place of every x from -708 to 709 is the floor of x/S(1/3), raised by 1024, and the sum at its rest is within the bound. Assumes nothing.
--- x is any fraction a / b, or its negative. x + 1024·S(1/3) = U / (thirdDen·b).
+-- The place of every x from -708 to 709 is the floor of x/S(1/3), raised by 1024, and the sum at its rest is within the bound. Assumes
+-- nothing. x is any fraction a / b, or its negative. x + 1024·S(1/3) = U / (thirdDen·b).
 use mathlib.Core.Path.{_≡_, refl, sym, ap, _∙_}
 use mathlib.Core.Logic.{_⊎_, inl, inr}
 use mathlib.Core.Bool.{true, false}

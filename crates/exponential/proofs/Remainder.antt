@@ -1,5 +1,6 @@
 -- The place is the floor of x/S(1/3), and what is left over it is the rest of x, to three units of 2^-64. Assumes nothing.
--- In whole numbers: S(1/3) = N / D, x + 1024·S(1/3) = U / (D·b), and w is that in units of 1 / Z, with `off` for what home is rounded up by, and rounded down.
+-- In whole numbers: S(1/3) = N / D, x + 1024·S(1/3) = U / (D·b), and w is that in units of 1 / Z, with `off` for what home is rounded up
+-- by, and rounded down.
 use mathlib.Core.Path.{_≡_, ap}
 use Prim.Native.Nat.{ℕ, _+_, _*_, _≤_, _<_}
 use native.Mathlib.Nat.{mul-le-mul-right, le-of-mul-le-mul-right, lt-of-mul-lt-mul-right, lt-of-lt-of-le, lt-of-le-of-lt}

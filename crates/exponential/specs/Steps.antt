@@ -27,7 +27,8 @@ home = 6393154322601327830
 abbrev pub homeRest : ℕ
 homeRest = 116201501695
 
--- What (k - 1024)·S(1/3), raised, has over k times thirdIn53, in units of 2^-93. That it is near enough at every k is computed: proofs/Borders.
+-- What (k - 1024)·S(1/3), raised, has over k times thirdIn53, in units of 2^-93. That it is near enough at every k is computed:
+-- proofs/Borders.
 abbrev pub fraction : ℕ → ℕ
 fraction k = k * thirdRest + homeRest
 

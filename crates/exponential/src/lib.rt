@@ -1,5 +1,5 @@
-// The exponential: 2^j times a sum, with x = j·S(1/3) + r. The rest r is kept to 2^-64 and the sum to 2^-62, in whole numbers; the answer is rounded
-// once, at the end.
+// The exponential: 2^j times a sum, with x = j·S(1/3) + r. The rest r is kept to 2^-64 and the sum to 2^-62, in whole numbers; the answer
+// is rounded once, at the end.
 ghost use mathlib.Core.Path.{_≡_};
 ghost use Prim.Native.Nat.{_+_, _*_, _^_, _≤_, _<_};
 ghost use Rattle.exponential.specs.Steps.{composed, expAt, expOf, InRange};
@@ -26,7 +26,8 @@ fn exp_at(p: Point) -> f64
 }
 
 // The exponential, for every double. 01: "above 709 gives +infinity, below -708 gives +0, NaN gives NaN, exp 0 is 1".
-// A subnormal number is so near 0 that no other double is as near. The field 2047 has the infinities and NaN, which is neither above 0 nor below.
+// A subnormal number is so near 0 that no other double is as near. The field 2047 has the infinities and NaN, which is neither above 0 nor
+// below.
 pub fn exp(x: f64) -> f64
     ensures { λ r. ⌜ r ≡ expOf x ⌝ }
 {

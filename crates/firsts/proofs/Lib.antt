@@ -1,5 +1,5 @@
--- Laws of `firsts` (Thinning), of pieces (Pieces) and of the places of those that are chosen (Places); the loops that look for a piece (Seeking), choose
--- (Choosing), move (Moving, Sliding); and that any two outcomes agree (Agree).
+-- Laws of `firsts` (Thinning), of pieces (Pieces) and of the places of those that are chosen (Places); the loops that look for a piece
+-- (Seeking), choose (Choosing), move (Moving, Sliding); and that any two outcomes agree (Agree).
 pub mod Thinning
 pub mod Pieces
 pub mod Places

@@ -1,5 +1,5 @@
--- What is left to move: the begin of the loop, a turn and its end, for both ways of moving. Within one slice, what is still to be read is as it was.
--- Assumes nothing.
+-- What is left to move: the begin of the loop, a turn and its end, for both ways of moving. Within one slice, what is still to be read is
+-- as it was. Assumes nothing.
 use mathlib.Core.Path.{_≡_, refl, sym, ap, _∙_}
 use mathlib.Core.List.{List, [], _∷_, _++_}
 use Prim.Native.Nat.{ℕ, suc, _+_, _-_, _≤_, _<_}

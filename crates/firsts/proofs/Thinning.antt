@@ -1,5 +1,5 @@
--- What `firsts` keeps: one turn; no more than there were; what is kept is kept again; the first of each kind; and that it is the same for records and for
--- their bytes. Assumes nothing.
+-- What `firsts` keeps: one turn; no more than there were; what is kept is kept again; the first of each kind; and that it is the same for
+-- records and for their bytes. Assumes nothing.
 use mathlib.Core.Path.{_≡_, refl, sym, ap, _∙_}
 use mathlib.Core.Bool.{Bool, true, false, cond, _||_}
 use mathlib.Core.List.{List, [], _∷_, _++_, map}

@@ -7,8 +7,8 @@ use Rattle.equal_bytes.specs.Equal.{among}
 use Rattle.firsts.specs.declared.Chosen.{Chosen}
 use Rattle.firsts.specs.Pieces.{joined}
 
--- "a record byte-equal to an earlier kept record is dropped, the others in their old order", whatever a record is, if it has bytes. ks are the bytes of the
--- kept ones so far
+-- "a record byte-equal to an earlier kept record is dropped, the others in their old order", whatever a record is, if it has bytes. ks are
+-- the bytes of the kept ones so far
 unfoldable pub firstsBehind : {A : Type 0} → (A → List ℕ) → List (List ℕ) → List A → List A
 firstsBehind bytes ks [] = []
 firstsBehind bytes ks (r ∷ rs) =

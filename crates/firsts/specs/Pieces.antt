@@ -33,7 +33,8 @@ unfoldable pub offsets : ℕ → List (List ℕ) → List ℕ
 offsets at [] = []
 offsets at (p ∷ ps) = at ∷ offsets (at + length p) ps
 
--- the pieces at the places can be moved down, one after the other, the first of them to `to`: none lies before its new place, and all lie in b
+-- the pieces at the places can be moved down, one after the other, the first of them to `to`: none lies before its new place, and all lie
+-- in b
 unfoldable pub Ahead : List ℕ → ℕ → List ℕ → Type 0
 Ahead b to [] = Unit
 Ahead b to (s ∷ ss) = (to ≤ s) × (s ≤ length b) × Ahead b (to + length (pieceAt b s)) ss

@@ -1,5 +1,6 @@
-// Pieces are rows of bytes that lie end to end and say their own lengths, as the records of a trace do. The first of each kind is chosen, then they are moved
-// to the front, of another slice or of the same. 02, Order 13. Each function is over any bytes: a piece that says more than there is ends where the bytes do.
+// Pieces are rows of bytes that lie end to end and say their own lengths, as the records of a trace do. The first of each kind is chosen,
+// then they are moved to the front, of another slice or of the same. 02, Order 13. Each function is over any bytes: a piece that says more
+// than there is ends where the bytes do.
 ghost use mathlib.Core.Path.{_≡_};
 ghost use mathlib.Core.Bool.{cond, not};
 ghost use mathlib.Core.List.{map};

@@ -1,5 +1,5 @@
--- The statements of specs/Places, by the laws of arrays written place by place: a place behind the last written one holds the +0 it began with.
--- Assumes nothing.
+-- The statements of specs/Places, by the laws of arrays written place by place: a place behind the last written one holds the +0 it began
+-- with. Assumes nothing.
 use Prim.Native.Nat.{ℕ, _+_, _≤_, _<_, min}
 use mathlib.Core.Path.{_≡_, sym, subst, _∙_}
 use mathlib.Core.Bool.{Bool, true, false, cond}

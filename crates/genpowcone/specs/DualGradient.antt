@@ -11,7 +11,8 @@ use Rattle.genpowcone_loops.specs.Folds.{dualPhi}
 use Rattle.genpowcone.specs.Rank3.{rank3At}
 use Rattle.genpowcone.specs.declared.GradH.{GradH}
 
--- 002 update_dual_grad_H, with φ and norm2w given. 01, number 6: "ζ not above 0 in the generalized `update_dual_grad_H`"; a NaN is not above 0
+-- 002 update_dual_grad_H, with φ and norm2w given. 01, number 6: "ζ not above 0 in the generalized `update_dual_grad_H`"; a NaN is not
+-- above 0
 unfoldable pub gradHAt : List Float → List Float → Float → Float → GradH
 gradHAt α z φ n2 =
     cond (#0 ≺ (φ ⊖ n2)) (record { panics = false; wide = rank3At α z φ n2 }) (record { panics = true; wide = noWide })

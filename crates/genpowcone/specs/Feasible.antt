@@ -1,5 +1,5 @@
--- What the test of a point tells in the generalized power cone and in its dual: 002's tests, with 02's margin; α is the list of the exponents in use.
--- Definitions only.
+-- What the test of a point tells in the generalized power cone and in its dual: 002's tests, with 02's margin; α is the list of the
+-- exponents in use. Definitions only.
 use mathlib.Core.Bool.{Bool}
 use mathlib.Core.List.{List}
 use lib.ListN.{length, take, drop}

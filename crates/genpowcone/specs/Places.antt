@@ -14,8 +14,8 @@ pub record HsPlaces (μ : Float) (d1 : List Float) (d2 : Float) (dim2 : ℕ) : T
   pub head-places : (i : ℕ) → i < length d1 → at (getHsOf μ d1 d2 dim2) i ≡ μ ⊗ at d1 i
   pub tail-places : (j : ℕ) → j < dim2 → at (getHsOf μ d1 d2 dim2) (length d1 + j) ≡ μ ⊗ d2
 
--- 01: "Places that a kind does not use are neither read nor judged, and those of the record's numbers are +0 after an update". The used ones are
--- dim1 + dim2 of the gradient and p, dim1 of q and d1, dim2 of r
+-- 01: "Places that a kind does not use are neither read nor judged, and those of the record's numbers are +0 after an update". The used
+-- ones are dim1 + dim2 of the gradient and p, dim1 of q and d1, dim2 of r
 pub record UnusedZero (α z : List Float) : Type 0 where
   pub grad-unused : (k : ℕ) → length z ≤ k → k < 64 → at (updateDualGradHOf α z .wide .grad) k ≡ #0
   pub p-unused : (k : ℕ) → length z ≤ k → k < 64 → at (updateDualGradHOf α z .wide .p) k ≡ #0

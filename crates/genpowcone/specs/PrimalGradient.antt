@@ -31,7 +31,8 @@ x0Of r φ ψ = neg (#1 ⊘ r) ⊕ (ψ ⊗ r ⊕ sqrtOf ((φ ⊘ r ⊘ r ⊕ ψ �
 unfoldable pub newtonRaphsonGenpowconeOf : Float → List Float → Float → List Float → Float → Found
 newtonRaphsonGenpowconeOf r p φ α ψ = newtonOf (genF0 r α p) (genF1 r α) (x0Of r φ ψ)
 
--- 002 gradient_primal, from Newton's answer on. 01: "The primal gradient's tail is g1/norm_r times the tail of the given point", which is the list w
+-- 002 gradient_primal, from Newton's answer on. 01: "The primal gradient's tail is g1/norm_r times the tail of the given point", which is
+-- the list w
 unfoldable pub gradientAt : List Float → List Float → List Float → Float → Found → Gradient
 gradientAt α p w norm f =
     let g1 = f .x in
@@ -44,7 +45,8 @@ gradientAt α p w norm f =
 unfoldable pub flatGradient : List Float → List Float → Gradient
 flatGradient α p = record { g = wide (flatHeadAt α p) (min (length α) (length p)); rounds = 0 }
 
--- 002 gradient_primal at s. 01: "when norm_r is above ε", and "handed back by it and by every primal gradient, 0 where Newton was not entered"
+-- 002 gradient_primal at s. 01: "when norm_r is above ε", and "handed back by it and by every primal gradient, 0 where Newton was not
+-- entered"
 unfoldable pub gradientPrimalOf : List Float → List Float → Gradient
 gradientPrimalOf α s =
     let p = take (length α) s in

@@ -1,4 +1,5 @@
--- p, q, r, d1 and d2 of the generalized power cone, by which Hs = μ·(D + pp' - qq' - rr'): how 002 computes and applies them. Definitions only.
+-- p, q, r, d1 and d2 of the generalized power cone, by which Hs = μ·(D + pp' - qq' - rr'): how 002 computes and applies them. Definitions
+-- only.
 use Prim.Native.Nat.{ℕ, min}
 use mathlib.Core.List.{List}
 use lib.ListN.{length, take, drop, replicate}

@@ -1,5 +1,6 @@
--- What an array holds that a loop wrote place by place: f at the written places, what it held before at the others. Proved by the turns. Assumes nothing.
--- In order: put (from the front), putFrom (from place n on), by them narrow, wide and withTail; then arrays whose used places are a list that has a name:
+-- What an array holds that a loop wrote place by place: f at the written places, what it held before at the others. Proved by the turns.
+-- Assumes nothing. In order: put (from the front), putFrom (from place n on), by them narrow, wide and withTail; then arrays whose used
+-- places are a list that has a name:
 -- -x, log x, and x + a·dx.
 use Prim.Native.Nat.{ℕ, zero, suc, _+_, _≤_, _<_, min}
 use mathlib.Core.Path.{_≡_, refl, sym, subst, _∙_}

@@ -1,4 +1,5 @@
--- The folds of 002 over the head of a point and the exponents. Each runs over the shorter of its two lists, as the Rust's zip does. Definitions only.
+-- The folds of 002 over the head of a point and the exponents. Each runs over the shorter of its two lists, as the Rust's zip does.
+-- Definitions only.
 use Prim.Native.Nat.{ℕ, min}
 use mathlib.Core.Bool.{Bool, true, _&&_}
 use mathlib.Core.List.{List}

@@ -1,4 +1,5 @@
--- Arrays whose first places are in use and whose others are +0. 01: "those of the record's numbers are +0 after an update". Definitions only.
+-- Arrays whose first places are in use and whose others are +0. 01: "those of the record's numbers are +0 after an update". Definitions
+-- only.
 use Prim.Native.Nat.{ℕ, _+_, min}
 use mathlib.Core.List.{List}
 use lib.ListN.{length, set, replicate}

@@ -1,5 +1,5 @@
-// Lines of text, as bytes in a lent slice from a place on, each ended by a line feed. The answer is the place behind. A word is handed over as the number of
-// so many bytes that spells it, the first byte lowest.
+// Lines of text, as bytes in a lent slice from a place on, each ended by a line feed. The answer is the place behind. A word is handed over
+// as the number of so many bytes that spells it, the first byte lowest.
 ghost use mathlib.Core.Path.{_≡_};
 ghost use Prim.Native.Nat.{_+_, _≤_};
 ghost use lib.ListN.{length};

@@ -1,5 +1,5 @@
--- The answer for m·2^(k-1126) is within 2^-44·max(1, |L|) of L, L taken with m / 2^52 and the exponent k - 1074; its sign is that of the exponent.
--- Assumes nothing.
+-- The answer for m·2^(k-1126) is within 2^-44·max(1, |L|) of L, L taken with m / 2^52 and the exponent k - 1074; its sign is that of the
+-- exponent. Assumes nothing.
 use mathlib.Core.Path.{_≡_, refl, sym, ap, subst}
 use mathlib.Core.Bool.{true, false, not}
 use Prim.Native.Nat.{ℕ, zero, suc, _+_, _*_, _/_, _^_, _-_, _≤_, _<_, max}

@@ -1,5 +1,5 @@
--- From a double to its m and k, and from there to L on the double's exact fraction: the bound and the sign of log for every positive finite double.
--- Assumes nothing.
+-- From a double to its m and k, and from there to L on the double's exact fraction: the bound and the sign of log for every positive finite
+-- double. Assumes nothing.
 use mathlib.Core.Path.{_≡_, refl, sym, ap, _∙_, subst}
 use mathlib.Core.Bool.{false}
 use Prim.Native.Nat.{ℕ, zero, suc, _+_, _-_, _*_, _/_, _^_, _≤_, _<_}

@@ -1,5 +1,5 @@
--- The logarithm of a mantissa m / 2^52 as `mantissa` computes it, against S((m-1)/(m+1)): at most 3 units of 2^-64 above it, and 299 below. The
--- addition law takes m
+-- The logarithm of a mantissa m / 2^52 as `mantissa` computes it, against S((m-1)/(m+1)): at most 3 units of 2^-64 above it, and 299 below.
+-- The addition law takes m
 -- apart into c and m/c; each part is off by its own bound. S is counted in units of 2^-120, rounded down. Assumes nothing.
 use mathlib.Core.Path.{_≡_, refl, sym, ap, ap₂, _∙_, subst}
 use Prim.Native.Nat.{ℕ, zero, _+_, _*_, _^_, _/_, _-_, _%_, _≤_, _<_}

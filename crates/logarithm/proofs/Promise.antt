@@ -1,4 +1,5 @@
--- What document 01 asks of the logarithm, proved: the special cases are computed or read off the sign, the rest is Doubles. Assumes nothing.
+-- What document 01 asks of the logarithm, proved: the special cases are computed or read off the sign, the rest is Doubles. Assumes
+-- nothing.
 use mathlib.Core.Path.{_≡_, refl, sym}
 use mathlib.Core.Bool.{Bool, true, false}
 use Prim.Native.Nat.{ℕ, suc, _*_, _^_}

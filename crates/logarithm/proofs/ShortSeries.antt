@@ -1,5 +1,5 @@
--- The three terms that `short_series` sums, against the forty of S, for a ratio p/q up to 1/512: never above, and at most 40 units of 2^-64 below.
--- Assumes nothing.
+-- The three terms that `short_series` sums, against the forty of S, for a ratio p/q up to 1/512: never above, and at most 40 units of 2^-64
+-- below. Assumes nothing.
 use mathlib.Core.Path.{_≡_, refl, sym, ap, ap₂, _∙_}
 use Prim.Native.Nat.{ℕ, zero, suc, _+_, _*_, _^_, _/_, _≤_, _<_}
 use native.Mathlib.Nat.{mul-add, add-le-add, pow-suc, le-of-eq, le-trans, mul-assoc, mul-le-mul, mul-le-mul-left, mul-le-mul-right}

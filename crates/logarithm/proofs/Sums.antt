@@ -1,5 +1,5 @@
--- The sum of the turns of S(1/3) and the mantissa's part, in units of 2^-53, against the exact L: within (n+3)/2 units, n turns. And below 1 the
--- turns outweigh the
+-- The sum of the turns of S(1/3) and the mantissa's part, in units of 2^-53, against the exact L: within (n+3)/2 units, n turns. And below
+-- 1 the turns outweigh the
 -- mantissa's part, by a unit at least. Assumes nothing.
 use mathlib.Core.Path.{sym}
 use Prim.Native.Nat.{ℕ, zero, _+_, _*_, _^_, _/_, _-_, _≤_, _<_}

@@ -1,4 +1,5 @@
--- What `log` computes, step by step, in whole numbers up to the last rounding. Definitions only; specs/Bound says what document 01 asks of it.
+-- What `log` computes, step by step, in whole numbers up to the last rounding. Definitions only; specs/Bound says what document 01 asks of
+-- it.
 use Prim.Native.Nat.{ℕ, zero, suc, _+_, _-_, _*_, _/_, _%_, _^_}
 use mathlib.Core.Bool.{cond, true, false}
 use lib.Dec.{ltb, eqb}
@@ -33,7 +34,8 @@ mantissaOf m = getD table (m / 2 ^ 44 - 256) 0 * 256 + shortSeriesOf (ratioOf m)
 unfoldable pub scaledOf : ℕ → Float
 scaledOf n = ofInt binary64 (pos n) ⊗ ofBits binary64 0x3ca0_0000_0000_0000
 
--- the logarithm of m·2^(k-1126), 2^52 ≤ m < 2^53: of m / 2^52, and k - 1074 times S(1/3). The sum is taken by its size, since no whole number is negative.
+-- the logarithm of m·2^(k-1126), 2^52 ≤ m < 2^53: of m / 2^52, and k - 1074 times S(1/3). The sum is taken by its size, since no whole
+-- number is negative.
 unfoldable pub positiveOf : ℕ → ℕ → Float
 positiveOf m k =
     cond (ltb k 1074) (neg (scaledOf ((1074 - k) * ln2 - mantissaOf m / 2 ^ 11))) (scaledOf ((k - 1074) * ln2 + mantissaOf m / 2 ^ 11))

@@ -1,9 +1,10 @@
 // The logarithm kernel, in whole numbers up to the last rounding.
 //
-// A positive double is m·2^(k-1126), 2^52 ≤ m < 2^53. With c the m whose 44 low bits are cleared, c / 2^52 is 1+i/256 for an entry i of the table, and
-//   log x = (k - 1074)·S(1/3) + log (c / 2^52) + log (m / c).
-// The last is S(t) at t = (m - c)/(m + c), which is below 1/512, so that three of the forty terms do. The entry and t are rounded down, in units of
-// 2^-56 and 2^-60; their sum is off by less than 300 units of 2^-64, and the whole by at most |k - 1074| + 3 units of 2^-54, of which 2^-44 is 1024.
+// A positive double is m·2^(k-1126), 2^52 ≤ m < 2^53. With c the m whose 44 low bits are cleared, c / 2^52 is 1+i/256 for an entry i of the
+// table, and   log x = (k - 1074)·S(1/3) + log (c / 2^52) + log (m / c).
+// The last is S(t) at t = (m - c)/(m + c), which is below 1/512, so that three of the forty terms do. The entry and t are rounded down, in
+// units of 2^-56 and 2^-60; their sum is off by less than 300 units of 2^-64, and the whole by at most |k - 1074| + 3 units of 2^-54, of
+// which 2^-44 is 1024.
 
 ghost use mathlib.Core.Path.{_≡_};
 ghost use Prim.Native.Nat.{_*_, _^_, _/_, _<_, _≤_};
@@ -23,15 +24,15 @@ fn long_division(d: u64, n: u64) -> u64
     a / n * 1099511627776 + b / n * 1073741824 + c / n * 1048576 + e / n * 1024 + f / n
 }
 
-// floor(d·2^60 / n), by an estimate that is checked: of d·2^60 raised by n, q·n leaves a rest below n where q is one more than the quotient, and one
-// from n up to 2·n where
+// floor(d·2^60 / n), by an estimate that is checked: of d·2^60 raised by n, q·n leaves a rest below n where q is one more than the
+// quotient, and one from n up to 2·n where
 // it is the quotient. No other estimate was seen; it would be left to the long division.
 fn quotient(d: u64, n: u64) -> u64
     requires { ⌜ (d < 2 ^ 44) × (0 < n) × (512 * d < n) × (n < 2 ^ 54) ⌝ }
     ensures { λ r. ⌜ r ≡ d * 2 ^ 60 / n ⌝ }
 {
-    // An estimate, of which nothing is proved: x is d, and y is n / 2^60 but for n's last bit; beside 2^52 there is no place for a fraction of x / y,
-    // and it is rounded.
+    // An estimate, of which nothing is proved: x is d, and y is n / 2^60 but for n's last bit; beside 2^52 there is no place for a fraction
+    // of x / y, and it is rounded.
     let x = f64::from_bits(0x4330_0000_0000_0000 + d) - 4503599627370496.0;
     let y = f64::from_bits(0x3f70_0000_0000_0000 + n / 2);
     let q = double::to_bits(x / y + 4503599627370496.0) % 0x10_0000_0000_0000;
@@ -79,7 +80,8 @@ fn scaled(n: u64) -> f64
 // S(1/3) in units of 2^-53: S(1/3)·2^53 is 6243314768165359.2089..
 const LN2: u64 = 6243314768165359;
 
-// The logarithm of m·2^(k-1126). Below 1 the turns of S(1/3) outweigh the mantissa's part by at least a unit, so that the answer is never -0.
+// The logarithm of m·2^(k-1126). Below 1 the turns of S(1/3) outweigh the mantissa's part by at least a unit, so that the answer is never
+// -0.
 fn positive(m: u64, k: u64) -> f64
     requires { ⌜ (2 ^ 52 ≤ m) × (m < 2 ^ 53) × (k < 2098) ⌝ }
     ensures { λ r. ⌜ r ≡ positiveOf m k ⌝ }
@@ -92,8 +94,8 @@ fn positive(m: u64, k: u64) -> f64
     }
 }
 
-// 01, log: of NaN it is NaN, of zero or below minus infinity, of +infinity itself. The sign is asked for first: -0 and the negative numbers have the
-// highest bit.
+// 01, log: of NaN it is NaN, of zero or below minus infinity, of +infinity itself. The sign is asked for first: -0 and the negative numbers
+// have the highest bit.
 pub fn log(x: f64) -> f64
     ensures { λ r. ⌜ r ≡ logOf x ⌝ }
 {

@@ -5,8 +5,8 @@ use lib.ListN.{getD}
 use Rattle.rounding.specs.Within.{Within}
 use Rattle.series.specs.Series.{Signed, lOf}
 
--- 01: "a table of 256 logarithms of 1+i/256 in units of 2^-56". Entry i is 2^56·S(i/(512+i)), rounded down: so no sum of entries is above L, and log
--- x is below 0 for x below 1.
+-- 01: "a table of 256 logarithms of 1+i/256 in units of 2^-56". Entry i is 2^56·S(i/(512+i)), rounded down: so no sum of entries is above
+-- L, and log x is below 0 for x below 1.
 unfoldable pub table : List ℕ
 table =
     0 ∷ 280926648371294 ∷ 560762316719736 ∷ 839515445928270 ∷ 1117194379296892 ∷ 1393807364041053 ∷ 1669362552761414 ∷ 1943868004885605 ∷

@@ -1,4 +1,5 @@
--- How the rounds go on, stop and end when i of the hundred are done, in the words of the loop: what f1, f0 and the stop test answered. Assumes nothing.
+-- How the rounds go on, stop and end when i of the hundred are done, in the words of the loop: what f1, f0 and the stop test answered.
+-- Assumes nothing.
 use Prim.Native.Nat.{ℕ, suc, _+_, _-_, _<_}
 use mathlib.Core.Path.{_≡_, sym, _∙_, ap}
 use mathlib.Core.Bool.{Bool, true, false}

@@ -38,7 +38,8 @@ powF1 s3 α x =
 unfoldable pub ratioOf : Float → Float
 ratioOf a = (#1 ⊕ a) ⊘ a
 
--- 002 _newton_raphson_genpowcone, f0: the fold over the exponents and the logarithms l of the point's heads p, r the norm of the point's tail
+-- 002 _newton_raphson_genpowcone, f0: the fold over the exponents and the logarithms l of the point's heads p, r the norm of the point's
+-- tail
 abbrev pub genF0Turn : Float → List Float → List Float → Float → ℕ → Float → Float
 genF0Turn r α l x i f = f ⊕ #2 ⊗ at α i ⊗ (logOf (x ⊗ r ⊕ ratioOf (at α i)) ⊖ at l i)
 

@@ -1,4 +1,5 @@
--- The rounds of 003 newton_raphson_onesided, over any function f0 with derivative f1. Definitions, and the statement of what the round count means.
+-- The rounds of 003 newton_raphson_onesided, over any function f0 with derivative f1. Definitions, and the statement of what the round
+-- count means.
 use Prim.Native.Nat.{ℕ, zero, suc, _+_, _≤_, _<_}
 use mathlib.Core.Path.{_≡_}
 use mathlib.Core.Bool.{Bool, true, false, cond, _||_}
@@ -39,7 +40,8 @@ module _ (f0 f1 : Float → Float) where
   abbrev pub after : Float → ℕ → Float
   after x0 k = iter (λ _ x. x ⊕ dxOf x) x0 k
 
-  -- 01: "the round count (1 to 100) is handed back". So many rounds went on, each with a step; then one stopped and left x as it stood, or there were a hundred
+  -- 01: "the round count (1 to 100) is handed back". So many rounds went on, each with a step; then one stopped and left x as it stood, or
+  -- there were a hundred
   pub record Counted (x0 : Float) (r : Found) : Type 0 where
     pub steps : ℕ
     pub went-on : (k : ℕ) → k < steps → stopsAt (after x0 k) ≡ false

@@ -1,4 +1,5 @@
-// 003 newton_raphson_onesided, and the two equations that it solves: f0 and f1 of 001 _newton_raphson_powcone and of 002 _newton_raphson_genpowcone.
+// 003 newton_raphson_onesided, and the two equations that it solves: f0 and f1 of 001 _newton_raphson_powcone and of 002
+// _newton_raphson_genpowcone.
 
 ghost use mathlib.Core.Path.{_≡_};
 ghost use mathlib.Core.List.{map};
@@ -10,10 +11,10 @@ use double::SQRT_EPSILON;
 use double::abs;
 use kernels::log;
 
-// The Rust hands the rounds two closures; here the cone's kind chooses the equation, and the variant holds what the closures of that kind capture
-// as single numbers. The lists that 002's capture, the exponents and the point's heads, travel beside it: an enum holds no slice.
-// What does not change from round to round the Rust takes anew in each; here it is taken once, before the rounds: the logarithms, which are all that
-// the equations read of phi and of the heads, and `ratios`, (1+α)/α of each exponent.
+// The Rust hands the rounds two closures; here the cone's kind chooses the equation, and the variant holds what the closures of that kind
+// capture as single numbers. The lists that 002's capture, the exponents and the point's heads, travel beside it: an enum holds no slice.
+// What does not change from round to round the Rust takes anew in each; here it is taken once, before the rounds: the logarithms, which are
+// all that the equations read of phi and of the heads, and `ratios`, (1+α)/α of each exponent.
 pub enum Equation {
     // s3, log(phi), alpha, t0
     Power(f64, f64, f64, f64),

@@ -1,5 +1,5 @@
-// Calls every entry of the oracle's list again and compares each word that comes back: the number, the values, the counts, the record with its unused
-// places, each written slice. The list is this program's input (oracle/src/vectors.rs says how it is laid out).
+// Calls every entry of the oracle's list again and compares each word that comes back: the number, the values, the counts, the record with
+// its unused places, each written slice. The list is this program's input (oracle/src/vectors.rs says how it is laid out).
 mod answer;
 mod calls;
 mod input;

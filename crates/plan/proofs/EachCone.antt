@@ -1,5 +1,5 @@
--- Every cone's point: all pass exactly if each passes on its part, the tests go to the first that fails, and the parts of a trial's point are the trial's
--- points of the parts (specs/EachCone). Assumes nothing.
+-- Every cone's point: all pass exactly if each passes on its part, the tests go to the first that fails, and the parts of a trial's point
+-- are the trial's points of the parts (specs/EachCone). Assumes nothing.
 use mathlib.Core.Path.{_≡_, refl, sym, ap, _∙_}
 use mathlib.Core.Bool.{Bool, true, false}
 use mathlib.Core.List.{List, [], _∷_}

@@ -1,4 +1,5 @@
--- 02, Order 10, "in the same sequence as for one cone": a plan of one cone is searched as `backtrack_search` searches that cone. Assumes nothing.
+-- 02, Order 10, "in the same sequence as for one cone": a plan of one cone is searched as `backtrack_search` searches that cone. Assumes
+-- nothing.
 use mathlib.Core.Path.{_≡_, refl, ap, _∙_}
 use mathlib.Core.Bool.{Bool, true, false, cond}
 use mathlib.Core.List.{List, [], _∷_}

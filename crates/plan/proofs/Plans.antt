@@ -1,5 +1,5 @@
--- A plan judged and its point tested, cone by cone: the cones of a list of words from a place on, how many numbers they have, how many tests there are
--- and where they end. `PassedTo` is the invariant of the loop that tests. Assumes nothing.
+-- A plan judged and its point tested, cone by cone: the cones of a list of words from a place on, how many numbers they have, how many
+-- tests there are and where they end. `PassedTo` is the invariant of the loop that tests. Assumes nothing.
 use mathlib.Core.Path.{_≡_, refl, sym, ap, _∙_, subst}
 use mathlib.Core.Bool.{Bool, true, false, cond, _&&_, and-assoc, and-true}
 use mathlib.Core.List.{List, [], _∷_}

@@ -35,7 +35,8 @@ pub record TestedInOrder (cs : List Cone) (primal : Bool) (p : List Float) : Typ
   -- 02, Order 10: "at which every cone's point passes"
   pub all-if-each : ((i : ℕ) → i < length cs → partPasses cs primal p i ≡ true) → allPass cs primal p ≡ true
   pub each-if-all : allPass cs primal p ≡ true → (i : ℕ) → i < length cs → partPasses cs primal p i ≡ true
-  -- 02, Order 10: "Cones are tested in list order, and a trial ends at its first failing cone": its position, from 1, is the number of tests
+  -- 02, Order 10: "Cones are tested in list order, and a trial ends at its first failing cone": its position, from 1, is the number of
+  -- tests
   pub tests-of-all : allPass cs primal p ≡ true → testsOf cs primal p ≡ length cs
   pub tests-to-first : (i : ℕ) → FirstFailing cs primal p i → testsOf cs primal p ≡ suc i
 

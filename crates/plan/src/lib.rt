@@ -1,5 +1,6 @@
-// 02, Order 10: one common step for a list of cones over one long pair of vectors. The search is 003's, with "every cone passes" as its test;
-// its laws, for any test and any count of single tests, are in the crate trials. A cone of the list is its 34 words (crate cone_words).
+// 02, Order 10: one common step for a list of cones over one long pair of vectors. The search is 003's, with "every cone passes" as its
+// test; its laws, for any test and any count of single tests, are in the crate trials. A cone of the list is its 34 words (crate
+// cone_words).
 ghost use mathlib.Core.Path.{_≡_};
 ghost use mathlib.Core.Bool.{true};
 ghost use Prim.Native.Nat.{_≤_};
@@ -71,8 +72,8 @@ fn used(kind: u32, dim1: u32) -> usize
     0
 }
 
-// Whether the cone in these words passes on its part of a point. Exponent places that its kind does not use are not even read: they are most
-// of the words.
+// Whether the cone in these words passes on its part of a point. Exponent places that its kind does not use are not even read: they are
+// most of the words.
 fn cone_passes(w: [u64; 34], primal: bool, part: &[f64]) -> bool
     ensures { λ r. ⌜ r ≡ conePasses (coneOfWords w) primal (now (part .entry)) ⌝ }
 {

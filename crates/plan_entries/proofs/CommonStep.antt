@@ -1,4 +1,5 @@
--- Order 10 of the entry: a call with number 0 was let through by its rows, so its answer is the search's, and its settings are usable. Assumes nothing.
+-- Order 10 of the entry: a call with number 0 was let through by its rows, so its answer is the search's, and its settings are usable.
+-- Assumes nothing.
 use mathlib.Core.Path.{_≡_, refl, sym, ap, subst, _∙_}
 use mathlib.Core.Bool.{Bool}
 use mathlib.Core.List.{List}

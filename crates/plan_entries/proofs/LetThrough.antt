@@ -1,5 +1,5 @@
--- A call that its rows let through meets what the plan's search asks for: 1 to 1,024 cones, slices of the cones' length together, finite and good
--- settings. Assumes nothing.
+-- A call that its rows let through meets what the plan's search asks for: 1 to 1,024 cones, slices of the cones' length together, finite
+-- and good settings. Assumes nothing.
 use mathlib.Core.Path.{_≡_, sym, ap, _∙_}
 use mathlib.Core.Bool.{Bool, not, true, false, cond, _&&_}
 use mathlib.Core.List.{List}

@@ -1,5 +1,5 @@
--- With one cone in the list the common step is `backtrack_search` of that cone, for all arguments, refused ones too: their rows are one, and where they
--- let a call through the searches are. Assumes nothing.
+-- With one cone in the list the common step is `backtrack_search` of that cone, for all arguments, refused ones too: their rows are one,
+-- and where they let a call through the searches are. Assumes nothing.
 use mathlib.Core.Path.{_≡_, refl, sym, ap, _∙_}
 use mathlib.Core.Bool.{Bool, true, false, _&&_, and-true}
 use mathlib.Core.List.{List, [], _∷_}

@@ -18,7 +18,8 @@ use Rattle.plan.specs.Plans.{planOf}
 use Rattle.plan_entries.specs.Entries.{commonStepOf}
 
 pub record AsOrdered (cs : List Cone) (primal : Bool) (dq q : List Float) (s : Settings) (o : Outcome) : Type 0 where
-  -- the largest trial at which every cone's point passes, zero exactly if there is none, the point that was tested, the single tests counted
+  -- the largest trial at which every cone's point passes, zero exactly if there is none, the point that was tested, the single tests
+  -- counted
   pub largest-passing : LargestPassing (planOf cs primal dq q s) o
   -- "Their number is at most the number of cones times the bound for one search."
   pub tests-at-most : o .count ≤ length cs * bound s

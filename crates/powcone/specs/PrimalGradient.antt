@@ -52,7 +52,8 @@ flatGradient α s = record { g = neg (#1 ⊕ α) ⊘ at s 0 ∷ neg (#2 ⊖ α) 
 unfoldable pub primalPhi : Float → List Float → Float
 primalPhi α s = powfOf (at s 0) (#2 ⊗ α) ⊗ powfOf (at s 1) (#2 ⊖ α ⊗ #2)
 
--- 01: "The primal gradient enters Newton only if |s3| is above ε", and "handed back by it and by every primal gradient, 0 where Newton was not entered"
+-- 01: "The primal gradient enters Newton only if |s3| is above ε", and "handed back by it and by every primal gradient, 0 where Newton was
+-- not entered"
 unfoldable pub gradientPrimalOf : Float → List Float → Gradient
 gradientPrimalOf α s =
     let size = absOf (at s 2) in

@@ -1,5 +1,5 @@
-// The third-order correction of the power cone and the combined shift (001), as functions on values. A crate of its own, beside `powcone`, so that each is
-// proved in under half a minute.
+// The third-order correction of the power cone and the combined shift (001), as functions on values. A crate of its own, beside `powcone`,
+// so that each is proved in under half a minute.
 ghost use mathlib.Core.Path.{_≡_};
 ghost use Rattle.powcone_correction.specs.Correction.{psiGrad, psiBlock, correctionAt, correctionOf};
 ghost use Rattle.powcone_correction.specs.Correction.{higherCorrectionOf, combinedDsShiftOf};

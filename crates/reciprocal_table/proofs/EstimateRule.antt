@@ -1,4 +1,5 @@
--- Each entry of the table is within the rule on its whole interval: one test, computed over all 128 entries at the two ends. Assumes nothing.
+-- Each entry of the table is within the rule on its whole interval: one test, computed over all 128 entries at the two ends. Assumes
+-- nothing.
 use mathlib.Core.Path.{_≡_, refl, sym, subst}
 use mathlib.Core.Bool.{Bool, true, false, cond}
 use Prim.Native.Nat.{ℕ, _+_, _-_, _*_, _/_, _^_, _≤_, _<_}

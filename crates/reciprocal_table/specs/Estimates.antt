@@ -5,8 +5,8 @@ use Prim.Native.Nat.{ℕ, _+_, _-_, _*_, _/_, _^_, _≤_, _<_}
 use lib.Dec.{ltb}
 use lib.ListN.{getD}
 
--- 02, Order 11: "starts from a table estimate". Entry i is 2^12 over the root of the middle of the i-th of 128 intervals, to the nearest whole number;
--- 64 of them divide the numbers from 1 to 2, and 64 those from 2 to 4.
+-- 02, Order 11: "starts from a table estimate". Entry i is 2^12 over the root of the middle of the i-th of 128 intervals, to the nearest
+-- whole number; 64 of them divide the numbers from 1 to 2, and 64 those from 2 to 4.
 unfoldable pub estimates : List ℕ
 estimates =
     4080 ∷ 4049 ∷ 4018 ∷ 3988 ∷ 3959 ∷ 3931 ∷ 3903 ∷ 3875 ∷ 3848 ∷ 3822 ∷ 3796 ∷ 3771 ∷ 3746 ∷ 3722 ∷ 3698 ∷ 3675 ∷

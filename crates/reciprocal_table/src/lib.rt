@@ -4,8 +4,8 @@ ghost use Prim.Native.Nat.{_^_, _≤_, _<_};
 ghost use lib.ListN.{getD};
 ghost use Rattle.reciprocal_table.specs.Estimates.{estimates, placeOf, estimateOf};
 
-// The one reader of the table. A `match` over its places, of which the compiler makes one read of memory: an array that is indexed by a variable is
-// put on the stack at every call.
+// The one reader of the table. A `match` over its places, of which the compiler makes one read of memory: an array that is indexed by a
+// variable is put on the stack at every call.
 fn entry(i: u64) -> u64
     requires { ⌜ i < 128 ⌝ }
     ensures { λ r. ⌜ r ≡ getD estimates i 0 ⌝ }

@@ -1,5 +1,5 @@
--- The rows of the table for an entry over a record of kinds 1 and 2, and what the calls of the scaling matrix answer and leave, by what they
--- take of the record. Definitions only; that they are the entries' own for these kinds is proved in record_entries.
+-- The rows of the table for an entry over a record of kinds 1 and 2, and what the calls of the scaling matrix answer and leave, by what
+-- they take of the record. Definitions only; that they are the entries' own for these kinds is proved in record_entries.
 use Prim.Native.Nat.{ℕ}
 use mathlib.Core.Bool.{Bool, true, false, not, _||_, _&&_}
 use mathlib.Core.List.{List}

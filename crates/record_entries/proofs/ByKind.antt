@@ -49,7 +49,8 @@ module _ (r : Scaling) (k : r .cone .kind ≡ 3 → ⊥) where
 
   pub get-hs-3D
       : (serial : ℕ) (block : List Float)
-      → blocks.getHsOf (r .cone .kind) (r .cone .rule) (α r) (neverScaled r) (otherSerial serial r) (r .three) block ≡ getHsOf r serial block
+      → blocks.getHsOf (r .cone .kind) (r .cone .rule) (α r) (neverScaled r) (otherSerial serial r) (r .three) block
+      ≡ getHsOf r serial block
   unfolding blocks.getHsOf blocks.rowsOf getHsOf blockRows
   get-hs-3D serial block = simp (ne-eqb _ _ k, cone-3D (r .cone) k, block-3D (r .cone) k, record-3D r k)
 

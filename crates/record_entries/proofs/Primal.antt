@@ -1,5 +1,5 @@
--- The primal entries use the record's cone alone: of the rest, their definitions have only whether its numbers are finite. And none gives 5: their rows do
--- not, and behind them stand 0, 6 and 7. Assumes nothing.
+-- The primal entries use the record's cone alone: of the rest, their definitions have only whether its numbers are finite. And none gives
+-- 5: their rows do not, and behind them stand 0, 6 and 7. Assumes nothing.
 use mathlib.Core.Path.{_≡_, refl, sym, _∙_}
 use mathlib.Core.Bool.{Bool, true, false, cond}
 use mathlib.Core.List.{List}

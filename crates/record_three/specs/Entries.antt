@@ -1,5 +1,5 @@
--- What each entry over a record answers and leaves for kinds 1 and 2, by what it takes of the record; the scaling matrix and the rows are in
--- record_blocks. Definitions only; that they are the entries' own for these kinds is proved in record_entries.
+-- What each entry over a record answers and leaves for kinds 1 and 2, by what it takes of the record; the scaling matrix and the rows are
+-- in record_blocks. Definitions only; that they are the entries' own for these kinds is proved in record_entries.
 use Prim.Native.Nat.{ℕ}
 use mathlib.Core.Bool.{Bool, false, cond, _||_, _&&_}
 use mathlib.Core.List.{List}

@@ -1,4 +1,5 @@
--- A row of doubles read into an array of m places, one a turn: after i turns the first i stand there and the others are +0. Assumes nothing.
+-- A row of doubles read into an array of m places, one a turn: after i turns the first i stand there and the others are +0. Assumes
+-- nothing.
 use mathlib.Core.Path.{_≡_, refl, sym, ap, _∙_}
 use mathlib.Core.List.{List, [], _∷_, _++_}
 use Prim.Native.Nat.{ℕ, zero, suc, _+_, _*_, _-_, _<_, _≤_}

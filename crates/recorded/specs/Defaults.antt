@@ -16,7 +16,8 @@ abbrev pub #firstStep : Float
 abbrev pub #defaultSmallest : Float
 #defaultSmallest = ofBits binary64 0x3f1a_36e2_eb1c_432d
 
--- 02, Order 8: "A trace of edition 1 means 0.8 by its flag; new traces are edition 2 and mean 0.5"; Order 9: edition 3 with "the default 0.5"
+-- 02, Order 8: "A trace of edition 1 means 0.8 by its flag; new traces are edition 2 and mean 0.5"; Order 9: edition 3 with "the default
+-- 0.5"
 unfoldable pub defaultStep : ℕ → Float
 defaultStep edition = cond (eqb edition 1) #firstStep #½
 

@@ -99,8 +99,8 @@ fn cone_at(edition: u32, t: &[u8], shape: Shape) -> Cone
     }
 }
 
-// 02, Order 8: "A trace of edition 1 means 0.8 by its flag; new traces are edition 2 and mean 0.5"; Order 9: edition 3 has "the default 0.5". An edition
-// keeps its step, whatever the house does.
+// 02, Order 8: "A trace of edition 1 means 0.8 by its flag; new traces are edition 2 and mean 0.5"; Order 9: edition 3 has "the default
+// 0.5". An edition keeps its step, whatever the house does.
 fn default_step(edition: u32) -> f64
     ensures { λ r. ⌜ r ≡ defaultStep edition ⌝ }
 {

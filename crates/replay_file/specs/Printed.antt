@@ -9,7 +9,8 @@ use Rattle.lines.specs.Lines.{refusedText}
 use Rattle.replay_text.specs.Text.{replayText}
 use Rattle.replayed.specs.Replay.{sameCount, differing}
 
--- "print three lines: `records N`, `same N`, `differ N`, followed by one line `at OFFSET` per differing record in file order". Of a good trace
+-- "print three lines: `records N`, `same N`, `differ N`, followed by one line `at OFFSET` per differing record in file order". Of a good
+-- trace
 unfoldable pub traceText : List ℕ → List ℕ
 traceText bs =
     let e = editionAt bs in

@@ -1,4 +1,5 @@
-// What a replay prints of the bytes of a file. 02, Order 2: "a file above 65,536 bytes prints only `refused 8`, otherwise a broken trace only `refused 9`".
+// What a replay prints of the bytes of a file. 02, Order 2: "a file above 65,536 bytes prints only `refused 8`, otherwise a broken trace
+// only `refused 9`".
 ghost use mathlib.Core.Path.{_≡_};
 ghost use Prim.Native.Nat.{_≤_};
 ghost use lib.ListN.{length};

@@ -1,5 +1,5 @@
--- The cone of a record has what a search reads of it (Cones); a search that was made is run again with the same answer (Again); the theorems (Replays).
--- A replay passes its edition's step outright (Outright).
+-- The cone of a record has what a search reads of it (Cones); a search that was made is run again with the same answer (Again); the
+-- theorems (Replays). A replay passes its edition's step outright (Outright).
 pub mod Cones
 pub mod Again
 pub mod Replays

@@ -21,7 +21,8 @@ use Rattle.recorded.specs.Defaults.{defaultOf}
 use Rattle.trace_kept.specs.Appended.{traceIn}
 use Rattle.replayed.specs.Replay.{sameRecord, differing}
 
--- what a record holds comes of a search that was made: `step_length` was called with these arguments, with the edition's default settings at flag 1, and answered these steps
+-- what a record holds comes of a search that was made: `step_length` was called with these arguments, with the edition's default settings
+-- at flag 1, and answered these steps
 pub record Searched (e : ℕ) (c : Cone) (flag : ℕ) (settings : Settings) (dz ds z s : List Float) (steps : Steps) : Type 0 where
   pub dualPoint : List Float
   pub primalPoint : List Float
@@ -43,6 +44,7 @@ pub record ReplaysSame : Type 0 where
       → differing (editionAt (take used bs)) 0 (recordsOf (traceIn (appendOf bs used c flag settings dz ds z s steps)))
       ≡ differing (editionAt (take used bs)) 0 (recordsOf (take used bs))
 
--- 02, Order 9: a rule that is none "in a trace .. is no layout fault", and its search is refused: the record differs, whatever answers it holds
+-- 02, Order 9: a rule that is none "in a trace .. is no layout fault", and its search is refused: the record differs, whatever answers it
+-- holds
 abbrev pub NoRuleDiffers : Type 0
 NoRuleDiffers = (e : ℕ) (r : Record) → ruleOk (r .rule) ≡ false → sameRecord e r ≡ false

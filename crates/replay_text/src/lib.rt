@@ -1,5 +1,5 @@
-// What a replay prints, as bytes in a lent slice. 02, Order 2: "print three lines: `records N`, `same N`, `differ N`, followed by one line `at OFFSET` per
-// differing record in file order".
+// What a replay prints, as bytes in a lent slice. 02, Order 2: "print three lines: `records N`, `same N`, `differ N`, followed by one line
+// `at OFFSET` per differing record in file order".
 ghost use mathlib.Core.Path.{_≡_};
 ghost use Prim.Native.Nat.{_+_, _*_, _≤_};
 ghost use lib.ListN.{length};

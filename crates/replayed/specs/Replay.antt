@@ -12,7 +12,8 @@ use Rattle.recorded.specs.Recorded.{recordedOf}
 use Rattle.rerun.specs.Rerun.{agreesOf}
 use Rattle.replayed.specs.declared.Replayed.{Replayed}
 
--- "run every search again, compare steps and counts bit for bit": whether the search of the record gives what the record holds. Its offset, here 0, is no part of its search
+-- "run every search again, compare steps and counts bit for bit": whether the search of the record gives what the record holds. Its offset,
+-- here 0, is no part of its search
 unfoldable pub sameRecord : ℕ → Record → Bool
 sameRecord edition r = agreesOf (recordedOf edition 0 r)
 

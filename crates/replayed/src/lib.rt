@@ -49,7 +49,8 @@ fn note(offsets: &mut [u64], n: usize, same: bool, at: u64) -> usize
     n + 1
 }
 
-// The offsets of the records that differ, from the row's first place on. The answer is their count. A trace that was refused has no records.
+// The offsets of the records that differ, from the row's first place on. The answer is their count. A trace that was refused has no
+// records.
 fn note_all(trace: &[u8], opened: Opened, offsets: &mut [u64]) -> usize
     requires { ⌜ (opened ≡ openOf (now trace)) × (4096 ≤ length (now offsets)) ⌝ }
     ensures { λ r. ⌜ (r ≡ length (differingIn (now (trace .entry)) opened))
@@ -73,7 +74,8 @@ fn note_all(trace: &[u8], opened: Opened, offsets: &mut [u64]) -> usize
     n
 }
 
-// Room for an offset of each record that a trace may have. What it holds is written before it is read: the length is all that is told of it.
+// Room for an offset of each record that a trace may have. What it holds is written before it is read: the length is all that is told of
+// it.
 fn row() -> [u64; 4096]
     ensures { λ r. ⌜ length r ≡ 4096 ⌝ }
 {

@@ -1,6 +1,7 @@
-// rescue IN OUT [EDITION]: a cut trace rescued. 02, Orders 7 and 8. It reads, calls and writes; what it prints is `printedOf` and what it writes `writtenOf` of
-// the crate rescue_file. EDITION is the one that the new trace has where IN does not end in one; without it that is the newest. OUT is opened when all is known,
-// and may be IN: a file that is refused leaves it alone. The file, its text and the output lie on the stack.
+// rescue IN OUT [EDITION]: a cut trace rescued. 02, Orders 7 and 8. It reads, calls and writes; what it prints is `printedOf` and what it
+// writes `writtenOf` of the crate rescue_file. EDITION is the one that the new trace has where IN does not end in one; without it that is
+// the newest. OUT is opened when all is known, and may be IN: a file that is refused leaves it alone. The file, its text and the output lie
+// on the stack.
 ghost use mathlib.Core.Path.{_≡_};
 ghost use lib.ListN.{length};
 use libc::STDERR_FILENO;

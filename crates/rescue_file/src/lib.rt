@@ -1,4 +1,5 @@
-// What a rescue prints and writes of the bytes of a file: the lines `kept N`, `dropped N`, and `rebuilt` or `right`, or only `refused N`; and the new trace.
+// What a rescue prints and writes of the bytes of a file: the lines `kept N`, `dropped N`, and `rebuilt` or `right`, or only `refused N`;
+// and the new trace.
 ghost use mathlib.Core.Path.{_≡_};
 ghost use Prim.Native.Nat.{_+_, _≤_};
 ghost use lib.ListN.{length};
@@ -49,8 +50,8 @@ pub fn put_text(text: &mut [u8], kept: u32, dropped: u64, right: bool) -> usize
     put_verdict(text, third, right)
 }
 
-// Text and output, each from its first byte on. 74,916 bytes have room for every trace that comes of a file that is taken: its records have at most as many
-// bytes, and each at least 56.
+// Text and output, each from its first byte on. 74,916 bytes have room for every trace that comes of a file that is taken: its records have
+// at most as many bytes, and each at least 56.
 pub fn put_rescue(file: &[u8], text: &mut [u8], output: &mut [u8], edition: u32) -> Lengths
     requires { ⌜ (63 ≤ length (now text)) × (74916 ≤ length (now output)) ⌝ }
     ensures { λ r. ⌜ (r ≡ lengthsOf (now (file .entry)) edition)

@@ -1,5 +1,5 @@
--- Which edition is written, and what is written of an input in an edition: a good trace, if the edition is known; of a good trace in its own edition the trace
--- itself. Assumes nothing.
+-- Which edition is written, and what is written of an input in an edition: a good trace, if the edition is known; of a good trace in its
+-- own edition the trace itself. Assumes nothing.
 use mathlib.Core.Path.{_≡_, sym, ap, _∙_}
 use mathlib.Core.Bool.{Bool, true, false, _&&_}
 use mathlib.Core.List.{List}

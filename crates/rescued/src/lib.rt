@@ -1,5 +1,6 @@
-// A cut trace rescued. 02, Order 7: "Walk from byte 0, keep every whole record until the first that is cut or malformed, write a good list and trailer, and
-// report records kept, bytes dropped, and whether list and trailer were rebuilt or already right (the input was a good trace)".
+// A cut trace rescued. 02, Order 7: "Walk from byte 0, keep every whole record until the first that is cut or malformed, write a good list
+// and trailer, and report records kept, bytes dropped, and whether list and trailer were rebuilt or already right (the input was a good
+// trace)".
 ghost use mathlib.Core.Path.{_≡_};
 ghost use mathlib.Core.Bool.{cond};
 ghost use lib.ListN.{length};
@@ -44,8 +45,8 @@ fn refused(code: u32) -> Rescued
     }
 }
 
-// The edition of what is written. 02, Order 8: "Rescue keeps the edition if the input ends in a known edition and `BACK`, and otherwise takes it from its
-// caller".
+// The edition of what is written. 02, Order 8: "Rescue keeps the edition if the input ends in a known edition and `BACK`, and otherwise
+// takes it from its caller".
 fn edition_for(input: &[u8], given: u32) -> u32
     ensures { λ r. ⌜ r ≡ editionFor (now (input .entry)) given ⌝ }
 {
@@ -61,8 +62,8 @@ fn taken(right: bool, length: usize, end: usize) -> usize
     if right { length } else { end }
 }
 
-// A good trace is written anew as every other input is, and comes out byte for byte. The output's length is known before its first byte is written.
-// Beside the equation the contract says what every call has and the theorems ask: the input holds bytes.
+// A good trace is written anew as every other input is, and comes out byte for byte. The output's length is known before its first byte is
+// written. Beside the equation the contract says what every call has and the theorems ask: the input holds bytes.
 pub fn rescue(input: &[u8], output: &mut [u8], edition: u32) -> Rescued
     ensures { λ r. ⌜ (record { answer = r; output = now (output .exit) } ≡ rescueOf (now (input .entry)) (now (output .entry)) edition)
         × AllBelow 256 (now (input .entry)) ⌝ }

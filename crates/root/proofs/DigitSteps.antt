@@ -10,7 +10,8 @@ use lib.Pow.{pow-mono}
 use Rattle.root.specs.Steps.{nearRoot}
 use Rattle.root.proofs.RoundedRoots.{by-rest}
 
--- The state after i turns on the number m * 2^64. The digits passed, and rest, which has those still to come at the top of 64 bits, are m * 4^i:
+-- The state after i turns on the number m * 2^64. The digits passed, and rest, which has those still to come at the top of 64 bits, are m *
+-- 4^i:
 -- said in this way no shift depends on i.
 pub record Turn (m i root rem rest : ℕ) : Type 0 where
   pub held : (root * root + rem) * 2 ^ 64 + rest ≡ m * 4 ^ i

@@ -1,4 +1,5 @@
--- The middle of a root and another double, by squares. The root is q of c units, and what it is the root of is n of c² square units. Assumes nothing.
+-- The middle of a root and another double, by squares. The root is q of c units, and what it is the root of is n of c² square units.
+-- Assumes nothing.
 use mathlib.Core.Path.{_≡_, sym, ap, subst}
 use Prim.Native.Nat.{ℕ, _+_, _-_, _*_, _≤_, _<_}
 use native.Mathlib.Nat.{mul-le-mul, mul-le-mul-right, mul-lt-mul-of-pos-right, mul-mul-mul-comm, mul-assoc, mul-pos, lt-of-le-of-lt}

@@ -1,6 +1,6 @@
 -- `sqrtOf` is IEEE 754's square root: at a positive finite double the nearest double, and no other is as near. Assumes nothing.
--- Below the root's binade the doubles lie closer together; there either q is the least of its binade and not above the root, or they are more than a
--- last place away.
+-- Below the root's binade the doubles lie closer together; there either q is the least of its binade and not above the root, or they are
+-- more than a last place away.
 use mathlib.Core.Path.{_≡_, sym, ap, subst, _∙_}
 use mathlib.Core.Logic.{_⊎_, inl, inr}
 use mathlib.Core.Bool.{false}

@@ -1,5 +1,5 @@
--- `roundRoot` makes the nearest whole number of the whole part of a root, and there is no tie. Which number it is can be told with no root taken.
--- Assumes nothing.
+-- `roundRoot` makes the nearest whole number of the whole part of a root, and there is no tie. Which number it is can be told with no root
+-- taken. Assumes nothing.
 use mathlib.Core.Path.{_≡_, refl, sym, ap, _∙_}
 use mathlib.Core.Bool.{Bool, true, false, cond, not}
 use Prim.Native.Nat.{ℕ, zero, suc, _+_, _-_, _*_, _^_, _≤_, _<_}
@@ -43,8 +43,8 @@ pub product-below : (r : ℕ) → r * (r - 1) + r ≡ r * r
 product-below zero = refl
 product-below (suc q) = ap (λ (k : ℕ). suc q * k + suc q) (omega arith) ∙ sym (mul-suc (suc q) q)
 
--- The number nearest to the root of a positive n is the r with r (r - 1) < n ≤ r (r + 1): the root lies between the middles r - ½ and r + ½, whose squares are
--- r (r - 1) + ¼ and r (r + 1) + ¼, and n is whole, so the quarters fall away.
+-- The number nearest to the root of a positive n is the r with r (r - 1) < n ≤ r (r + 1): the root lies between the middles r - ½ and r +
+-- ½, whose squares are r (r - 1) + ¼ and r (r + 1) + ¼, and n is whole, so the quarters fall away.
 pub is-nearest : (n r : ℕ) → n < 4 ^ 53 → r * (r - 1) < n → n ≤ r * (r + 1) → r ≡ nearRoot n
 is-nearest n r l a b = go (decLe (r * r) n)
   where

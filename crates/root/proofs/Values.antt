@@ -1,4 +1,5 @@
--- Roots of written-out doubles, by computing: the square root of 2, and of the smallest double, whose digits are shifted the farthest. Assumes nothing.
+-- Roots of written-out doubles, by computing: the square root of 2, and of the smallest double, whose digits are shifted the farthest.
+-- Assumes nothing.
 use mathlib.Core.Path.{_≡_, refl}
 use lib.Count.{leadingZeros}
 use lib.Ieee.{binary64, isNan, size, span, climb, toBits, ofBits}

@@ -8,13 +8,14 @@ use Rattle.double.specs.Fields.{Sized, Units}
 use Rattle.root.specs.Steps.{sqrtOf}
 
 -- 01: "IEEE 754, nearest, ties to even, stated by comparing whole-number squares"
--- r is the double nearest to the root of x, and no other is as near: for each other double y the root lies strictly on r's side of the middle of y and r,
--- (y + r)² < 4 x for a smaller y, and 4 x < (r + y)² for a larger. In units of the smallest double x is n, r is v and y is w, and a unit times a unit
--- is 2^-1074 units.
--- There are no real numbers here, so "the root lies below the middle" is said with both sides squared. Ties to even asks for nothing: the middle of
--- two neighbours is
--- an odd number of half places, 54 digits long, and its square is longer than any double; so no root is a middle, and "strictly" holds throughout.
--- y runs over the finite doubles without sign: a negative one is farther from the root than +0 is, and no root is near an infinity.
+-- r is the double nearest to the root of x, and no other is as near: for each other double y the root lies strictly on r's side of the
+-- middle of y and r, (y + r)² < 4 x for a smaller y, and 4 x < (r + y)² for a larger. In units of the smallest double x is n, r is v and y
+-- is w, and a unit times a unit is 2^-1074 units.
+-- There are no real numbers here, so "the root lies below the middle" is said with both sides squared. Ties to even asks for nothing: the
+-- middle of two neighbours is
+-- an odd number of half places, 54 digits long, and its square is longer than any double; so no root is a middle, and "strictly" holds
+-- throughout. y runs over the finite doubles without sign: a negative one is farther from the root than +0 is, and no root is near an
+-- infinity.
 pub record IsSqrt (x r : Float) : Type 0 where
   pub n : ℕ
   pub v : ℕ

@@ -11,7 +11,8 @@ unfoldable pub wholeRoot : ℕ → ℕ → ℕ
 wholeRoot zero n = 0
 wholeRoot (suc k) n = let r = 2 * wholeRoot k (n / 4) in cond (leb ((r + 1) * (r + 1)) n) (r + 1) r
 
--- q, or the next number up where the rest n - q² is above q. The middle of the two has the square q² + q + 1/4, which no whole number is: there is no tie.
+-- q, or the next number up where the rest n - q² is above q. The middle of the two has the square q² + q + 1/4, which no whole number is:
+-- there is no tie.
 unfoldable pub roundRoot : ℕ → ℕ → ℕ
 roundRoot n q = cond (ltb q (n - q * q)) (q + 1) q
 
@@ -20,8 +21,9 @@ unfoldable pub nearRoot : ℕ → ℕ
 unfolding wholeRoot roundRoot
 nearRoot n = roundRoot n (wholeRoot 53 n)
 
--- The root of the positive number m * 2^(k - 1126). With an even exponent its half is the root's; an odd one is made even by doubling m first.
--- The 52 binary digits set behind m give the root 53 digits. In units of 2^-1074 it is then that root times 2^(k/2 + 485): 485 is 1074 less half of 1126 + 52.
+-- The root of the positive number m * 2^(k - 1126). With an even exponent its half is the root's; an odd one is made even by doubling m
+-- first. The 52 binary digits set behind m give the root 53 digits. In units of 2^-1074 it is then that root times 2^(k/2 + 485): 485 is
+-- 1074 less half of 1126 + 52.
 unfoldable pub rootOf : Normal → Float
 unfolding nearRoot ofBits
 rootOf n = ofBits binary64 ((n .k / 2 + 485) * 2 ^ 52 + nearRoot (n .m * 2 ^ (n .k % 2) * 2 ^ 52))

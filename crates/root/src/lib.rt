@@ -32,21 +32,23 @@ fn digit_by_digit(m: u64) -> u64
     if root < rem { root + 1 } else { root }
 }
 
-// The same, by an estimate that is checked: it is the r with r (r - 1) < m * 2^52 ≤ r (r + 1). Where the check does not tell, the digits do.
+// The same, by an estimate that is checked: it is the r with r (r - 1) < m * 2^52 ≤ r (r + 1). Where the check does not tell, the digits
+// do.
 fn near_root(m: u64) -> u64
     requires { ⌜ m < 2 ^ 54 ⌝ }
     ensures { λ r. ⌜ r ≡ nearRoot (m * 2 ^ 52) ⌝ }
 {
-    // An estimate, of which nothing is proved: the root of x = m / 2^52, from 1 up to 4. A line is within 3 % of it, and Newton's turns make of that
-    // twice, four times and eight times the root. A turn's error is half the square of the one before, and never below 0: the factors 1 and 4
-    // are lessened by as much, so that it lies on both sides.
+    // An estimate, of which nothing is proved: the root of x = m / 2^52, from 1 up to 4. A line is within 3 % of it, and Newton's turns
+    // make of that twice, four times and eight times the root. A turn's error is half the square of the one before, and never below 0: the
+    // factors 1 and 4 are lessened by as much, so that it lies on both sides.
     let odd = m / 0x20_0000_0000_0000;
     let x = f64::from_bits((1022 + odd) * 0x10_0000_0000_0000 + (m >> odd));
     let y = 0.34307 * (x + 2.0);
     let y = y + 0.99955 * x / y;
     let y = y + 3.9999999 * x / y;
     let y = y + 16.0 * x / y;
-    // One below the 53 digits of y, which is from 8 up to 16: there the field is even and falls away. At 16 it is odd and makes the digits 2^53.
+    // One below the 53 digits of y, which is from 8 up to 16: there the field is even and falls away. At 16 it is odd and makes the digits
+    // 2^53.
     let r = double::to_bits(y) % 0x20_0000_0000_0000 + 0xf_ffff_ffff_ffff;
     let n = Halves {
         hi: m / 0x1000,

@@ -1,5 +1,5 @@
--- What overflows is an infinity and no NaN: a rounded fraction is a number, a product of finite numbers is one, and so is the sum of a finite number
--- and any number. Assumes nothing.
+-- What overflows is an infinity and no NaN: a rounded fraction is a number, a product of finite numbers is one, and so is the sum of a
+-- finite number and any number. Assumes nothing.
 use Prim.Native.Nat.{ℕ, suc, _+_, _-_, _*_, _^_}
 use mathlib.Core.Path.{sym, subst}
 use mathlib.Core.Bool.{Bool, true, false, not, cond, _&&_, Bool·beq}

@@ -1,8 +1,9 @@
--- A fraction rounded to p binary digits is within 2^-p of itself, in the normal range; what is subnormal is within 2^-p of the normal range's least.
--- Assumes nothing.
--- n / den is the fraction in units of the format's smallest value; `kept` * 2 ^ `drop` is what lib.Ieee's `round` makes of it, in the same units, for
--- a format of p digits.
--- Both laws hold against any bound N of n that is in the normal range: N = n gives the relative error, N a smallest normal number covers what is subnormal.
+-- A fraction rounded to p binary digits is within 2^-p of itself, in the normal range; what is subnormal is within 2^-p of the normal
+-- range's least. Assumes nothing.
+-- n / den is the fraction in units of the format's smallest value; `kept` * 2 ^ `drop` is what lib.Ieee's `round` makes of it, in the same
+-- units, for a format of p digits.
+-- Both laws hold against any bound N of n that is in the normal range: N = n gives the relative error, N a smallest normal number covers
+-- what is subnormal.
 use mathlib.Core.Path.{_≡_, refl, ap}
 use Prim.Native.Nat.{ℕ, zero, suc, _+_, _-_, _*_, _/_, _^_, _≤_, _<_}
 use native.Mathlib.Nat.{le-refl, le-trans, le-of-eq, mul-one, mul-comm, mul-assoc, mul-left-comm, mul-le-mul-left, mul-le-mul-right}

@@ -1,4 +1,5 @@
--- A finite value that is not negative, as a whole number of its format's smallest value: the units of every law on rounding. Definitions only.
+-- A finite value that is not negative, as a whole number of its format's smallest value: the units of every law on rounding. Definitions
+-- only.
 use Prim.Native.Nat.{ℕ, _*_, _/_, _^_}
 use mathlib.Core.Bool.{false}
 use lib.Ieee.{Float, Format, low}

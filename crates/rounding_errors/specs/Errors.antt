@@ -1,5 +1,5 @@
--- The value of a finite number as a difference of two whole numbers of its format's smallest value, and how near one rounded operation comes. Definitions only.
--- A sum of differences is a difference again, so that no law has to go by signs.
+-- The value of a finite number as a difference of two whole numbers of its format's smallest value, and how near one rounded operation
+-- comes. Definitions only. A sum of differences is a difference again, so that no law has to go by signs.
 use Prim.Native.Nat.{ℕ, _+_, _-_, _*_, _^_}
 use mathlib.Core.Bool.{Bool, cond}
 use lib.Ieee.{Float, Format, prec, low}

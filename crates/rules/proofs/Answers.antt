@@ -1,5 +1,5 @@
--- Every entry looks at a cone's rule in row 1 alone: with the row's answer known, what is left of a call is the same under any rule, but for the
--- record that it hands back. Assumes nothing.
+-- Every entry looks at a cone's rule in row 1 alone: with the row's answer known, what is left of a call is the same under any rule, but
+-- for the record that it hands back. Assumes nothing.
 use Prim.Native.Nat.{ℕ, zero, suc}
 use mathlib.Core.Path.{_≡_, refl, ap}
 use mathlib.Core.Bool.{Bool, true, false, cond, _&&_}
@@ -27,7 +27,8 @@ use Rattle.record_entries.specs.Entries as records
 use Rattle.rules.specs.Entries.{Entry, call, codeOf, under, recordUnder, updatedUnder, carrying}
 use Rattle.rules.specs.Entries.{withCone, updated, fresh, isPrimalFeasible, isDualFeasible, barrierDual, dualGradH}
 use Rattle.rules.specs.Entries.{unitInitialization, rectifyEquilibration, affineDs, dsFromDzOffset, backtrackSearch, stepLength}
-use Rattle.rules.specs.Entries.{updateScaling, gradientPrimal, barrierPrimal, computeBarrier, getHs, mulHs, higherCorrection, combinedDsShift}
+use Rattle.rules.specs.Entries.{updateScaling, gradientPrimal, barrierPrimal, computeBarrier}
+use Rattle.rules.specs.Entries.{getHs, mulHs, higherCorrection, combinedDsShift}
 use Rattle.rules.specs.Rules.{InRowOne, Answers}
 use Rattle.rules.proofs.Tolerances.{wider}
 

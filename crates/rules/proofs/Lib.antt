@@ -1,5 +1,5 @@
--- What rule 2 takes, rule 1 takes: the order of doubles, the tolerances, the answers, those of a plan, the sums at the tolerances; and a rule in a
--- trace.
+-- What rule 2 takes, rule 1 takes: the order of doubles, the tolerances, the answers, those of a plan, the sums at the tolerances; and a
+-- rule in a trace.
 pub mod Order
 pub mod Tolerances
 pub mod Answers

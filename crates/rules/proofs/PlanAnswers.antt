@@ -1,5 +1,5 @@
--- The common step looks at the rules of its cones in row 1 alone: neither the length of a cone's part nor its test reads the rule, so that lists which
--- differ in their rules have one search. Assumes nothing.
+-- The common step looks at the rules of its cones in row 1 alone: neither the length of a cone's part nor its test reads the rule, so that
+-- lists which differ in their rules have one search. Assumes nothing.
 use Prim.Native.Nat.{ℕ, zero, suc, _+_, _<_}
 use native.Mathlib.Nat.{le-of-suc-le-suc, not-suc-le-zero}
 use mathlib.Core.Path.{_≡_, refl, sym, ap, _∙_, fun-ext}

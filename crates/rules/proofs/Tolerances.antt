@@ -1,4 +1,5 @@
--- What a tolerance takes, a larger one takes: the sum's distance from 1 goes on through the smaller tolerance, above and below. Assumes nothing.
+-- What a tolerance takes, a larger one takes: the sum's distance from 1 goes on through the smaller tolerance, above and below. Assumes
+-- nothing.
 use Prim.Native.Nat.{ℕ}
 use mathlib.Core.Path.{_≡_, refl}
 use mathlib.Core.Bool.{Bool, true, false, cond, _&&_}

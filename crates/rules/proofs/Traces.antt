@@ -1,5 +1,5 @@
--- An edition without a rule is read with 1 in its place. An append looks at the rule in one test, which edition 3 passes; and the bytes of a record are as
--- many under every rule. Assumes nothing.
+-- An edition without a rule is read with 1 in its place. An append looks at the rule in one test, which edition 3 passes; and the bytes of
+-- a record are as many under every rule. Assumes nothing.
 use Prim.Native.Nat.{ℕ, zero, suc, _+_, _<_}
 use mathlib.Core.Path.{_≡_, refl, sym, ap, _∙_}
 use mathlib.Core.Bool.{Bool, true, false, not, _&&_}

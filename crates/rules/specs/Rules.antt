@@ -1,5 +1,6 @@
--- 02, Order 9: "Every cone that rule 2 takes, rule 1 takes as well, with equal answers but for the rule number carried; prove that once over
--- both tolerances." Statements, of the calls themselves; proofs/Tolerances, proofs/Answers, proofs/PlanAnswers and proofs/AtTolerance have the proofs.
+-- 02, Order 9: "Every cone that rule 2 takes, rule 1 takes as well, with equal answers but for the rule number carried; prove that once
+-- over both tolerances." Statements, of the calls themselves; proofs/Tolerances, proofs/Answers, proofs/PlanAnswers and proofs/AtTolerance
+-- have the proofs.
 use Prim.Native.Nat.{ℕ, _<_}
 use mathlib.Core.Path.{_≡_}
 use mathlib.Core.Bool.{Bool, true, false}
@@ -28,8 +29,8 @@ pub record Wider : Type 0 where
 
 -- ---- the answers
 
--- The shape that all entries share: a cone's rule is looked at in row 1 alone. Of two cones that differ in the rule and are both taken, each call
--- has one answer, but for the rule carried.
+-- The shape that all entries share: a cone's rule is looked at in row 1 alone. Of two cones that differ in the rule and are both taken,
+-- each call has one answer, but for the rule carried.
 abbrev pub InRowOne : Entry → Type 0
 InRowOne e = (c : Cone) (rule : ℕ) → coneOk c ≡ true → coneOk (under rule c) ≡ true → call e (under rule c) ≡ carrying rule (call e c)
 

@@ -1,5 +1,5 @@
--- What a search hands back holds no NaN: its step is a trial or +0, and its point, where q and dq are finite, may overflow and then holds infinities.
--- Assumes nothing.
+-- What a search hands back holds no NaN: its step is a trial or +0, and its point, where q and dq are finite, may overflow and then holds
+-- infinities. Assumes nothing.
 use mathlib.Core.Path.{_≡_, refl, ap, _∙_}
 use mathlib.Core.Bool.{Bool, true, not}
 use mathlib.Core.List.{List, [], _∷_}

@@ -1,4 +1,5 @@
--- Demand 3 of the entries: a call with number 0 was let through by its rows, so its answer is the search's, and its settings are usable. Assumes nothing.
+-- Demand 3 of the entries: a call with number 0 was let through by its rows, so its answer is the search's, and its settings are usable.
+-- Assumes nothing.
 use mathlib.Core.Path.{_≡_, refl, sym, ap, subst, _∙_}
 use mathlib.Core.Bool.{Bool, true, false}
 use mathlib.Core.List.{List}
@@ -73,7 +74,7 @@ step-meets c dz ds z s dualPoint primalPoint settings d e =
       searched c true ds s primalPoint settings d (r .1) (f .1) (f .3),
     )
 
--- ---- the functions: `Post` is the claim of `ensures`, and `GoodsP` what holds of the arguments of every call, so that each f64 is a double
+-- ---- the functions: `Post` is the claim of `ensures`, and `GoodsP` what holds of the arguments of every call: each f64 is a double
 
 module _ (κs : Lfts 3) (a : Dens κs search-kinds.ps) where
   -- the arguments: cone, side, direction, point, lent point, settings

@@ -48,7 +48,8 @@ pub fn backtrack_search(
     }
 }
 
-// Both searches of 000, 001 and 002: the dual side with dz and z, then the primal side with ds and s. What is wrong on one side refuses both.
+// Both searches of 000, 001 and 002: the dual side with dz and z, then the primal side with ds and s. What is wrong on one side refuses
+// both.
 pub fn step_length(
     cone: Cone,
     dz: &[f64],

@@ -1,5 +1,5 @@
-// Runs step searches, a line for each: the number that refuses the call or 0, the step's bits, how many points were tested, the bits of the lent
-// point at exit.
+// Runs step searches, a line for each: the number that refuses the call or 0, the step's bits, how many points were tested, the bits of the
+// lent point at exit.
 use cone::Cone;
 use cone::Settings;
 use cone::house_settings;

@@ -1,6 +1,6 @@
 -- The addition law: S((xy-1)/(xy+1)) is S((x-1)/(x+1)) + S((y-1)/(y+1)), but for steps that may be made as small as one likes.
--- Both sides are walked from y = 1 in m equal steps. A step of either lies between d/(y+d) and d/y, so the steps differ by what telescopes. In whole
--- numbers of 1/u. Assumes nothing.
+-- Both sides are walked from y = 1 in m equal steps. A step of either lies between d/(y+d) and d/y, so the steps differ by what telescopes.
+-- In whole numbers of 1/u. Assumes nothing.
 use mathlib.Core.Path.{_≡_, refl, sym, ap, ap₂, _∙_}
 use Prim.Native.Nat.{ℕ, zero, suc, _+_, _*_, _^_, _/_, _≤_, _<_}
 use native.Mathlib.Nat.{le-refl, le-trans, le-of-eq, le-step, mul-assoc, mul-le-mul-left, mul-le-mul-right, mul-pos, one-le-pow}

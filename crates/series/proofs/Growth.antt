@@ -1,4 +1,5 @@
--- How much the odd sum at (y-b)/(y+b) grows when y becomes y + d: between d/(y+d), but for a tail, and d/y. Everything multiplied out. Assumes nothing.
+-- How much the odd sum at (y-b)/(y+b) grows when y becomes y + d: between d/(y+d), but for a tail, and d/y. Everything multiplied out.
+-- Assumes nothing.
 use mathlib.Core.Path.{_≡_, sym, ap, subst}
 use Prim.Native.Nat.{ℕ, suc, _+_, _*_, _^_, _≤_, _<_}
 use native.Mathlib.Nat.{le-of-eq, mul-comm, mul-le-mul-left}

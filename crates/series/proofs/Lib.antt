@@ -1,4 +1,5 @@
--- The laws of S and L. The way in: Order (S grows, and how fast), Addition (S of a product), Written and SameFraction (L), SignedFractions (bounds by L).
+-- The laws of S and L. The way in: Order (S grows, and how fast), Addition (S of a product), Written and SameFraction (L), SignedFractions
+-- (bounds by L).
 pub mod OddPowers
 pub mod Growth
 pub mod Terms

@@ -44,7 +44,8 @@ lAt rise fall c d = record {
   over = sDen 3 * sDen (c + d);
 }
 
--- The k of a/b: from 1 up, a/b has rise + 1 binary digits before the point; below 1, fall is how often it is to be doubled to reach 1. One of the two is 0.
+-- The k of a/b: from 1 up, a/b has rise + 1 binary digits before the point; below 1, fall is how often it is to be doubled to reach 1. One
+-- of the two is 0.
 unfoldable pub rise : ℕ → ℕ → ℕ
 rise a b = size (a / b) - 1
 

@@ -1,5 +1,5 @@
--- L grows with its fraction, and no faster than the fraction does: L(x + h) lies between L(x) and L(x) + h/x, for h up to x. Exact, on any fractions.
--- Assumes nothing.
+-- L grows with its fraction, and no faster than the fraction does: L(x + h) lies between L(x) and L(x) + h/x, for h up to x. Exact, on any
+-- fractions. Assumes nothing.
 -- x = m·2^k. Up to 2^(k+1) the k is the same and the law is that of S. From there on it is walked in two steps, to 2^(k+1) and from there.
 use mathlib.Core.Path.{_≡_, refl, sym, ap, ap₂, _∙_, subst}
 use Prim.Native.Nat.{ℕ, suc, _+_, _-_, _*_, _^_, _≤_, _<_}

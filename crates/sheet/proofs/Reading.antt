@@ -35,7 +35,8 @@ unfolding addAll
 add-last h [] bs = refl
 add-last h (one ∷ files) bs = add-last (addOf h one) files bs
 
-pub one-more : (n : ℕ) (before mid after : Held) (bs : List ℕ) → Added n before mid → AllBelow 256 bs → after ≡ addOf mid bs → Added (n + 1) before after
+pub one-more : (n : ℕ) (before mid after : Held) (bs : List ℕ) → Added n before mid → AllBelow 256 bs → after ≡ addOf mid bs
+    → Added (n + 1) before after
 one-more n before mid after bs so-far bytes e = record {
   files = so-far .files ++ (bs ∷ []);
   bytes = bytes-append (so-far .files) (bs ∷ []) (so-far .bytes) (one-bytes bs bytes);
@@ -55,7 +56,8 @@ module _ (asked : ℕ) (old new : List ℕ) (before after : Held) (few : asked �
   sheet-printed done is counted answer told =
       let files = counted .added .files in
       let all : length files ≡ asked = counted .added .all ∙ counted .all is in
-      let fit : Countable (length (before .skipped)) files = record { bytes = counted .added .bytes; few = omega arith; flags = omega arith } in
+      let fit : Countable (length (before .skipped)) files =
+      record { bytes = counted .added .bytes; few = omega arith; flags = omega arith } in
       let whole = told ∙ ap (printOf old) (counted .added .held) ∙ files-printed .one-by-one old before files room begun fit in
       record {
         files = files;

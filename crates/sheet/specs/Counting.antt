@@ -1,5 +1,5 @@
--- What the program's loop leaves of the files that it reads. What stands in them the system says: a contract can say only that there are such files. 02, Order 14.
--- Definitions only.
+-- What the program's loop leaves of the files that it reads. What stands in them the system says: a contract can say only that there are
+-- such files. 02, Order 14. Definitions only.
 use Prim.Native.Nat.{ℕ, _≤_}
 use mathlib.Core.Path.{_≡_}
 use mathlib.Core.Bool.{Bool, true}

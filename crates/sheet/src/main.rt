@@ -1,6 +1,7 @@
-// sheet FILE ..: the monthly sheet of traces, files numbered from 1 as given. 02, Order 14. It reads, calls and writes; what it prints is `sheetText` of the crate
-// sheet_text of `sheetOf` of the crate sheet_counts, of the files that were read: `put_files` says so. A file that cannot be read is said in one line, and then no sheet
-// is printed. Where there are many files, a line on standard error tells how far it is. One file at a time, the rows and the text lie on the stack.
+// sheet FILE ..: the monthly sheet of traces, files numbered from 1 as given. 02, Order 14. It reads, calls and writes; what it prints is
+// `sheetText` of the crate sheet_text of `sheetOf` of the crate sheet_counts, of the files that were read: `put_files` says so. A file that
+// cannot be read is said in one line, and then no sheet is printed. Where there are many files, a line on standard error tells how far it
+// is. One file at a time, the rows and the text lie on the stack.
 ghost use mathlib.Core.Path.{_≡_};
 ghost use mathlib.Core.List.{[]};
 ghost use Prim.Native.Nat.{_≤_};
@@ -86,7 +87,8 @@ struct Counted {
     totals: Totals,
 }
 
-// The files one after the other, each into the same room. What stands in them is no argument: the contract says that there are such files, and what their rows hold.
+// The files one after the other, each into the same room. What stands in them is no argument: the contract says that there are such files,
+// and what their rows hold.
 fn count_files(
     files: usize,
     file: &mut [u8],

@@ -169,7 +169,8 @@ many-few k (e ∷ es) = omega (arith, is-few (placeOf (e .step)) k _ refl, many-
 counts-at : (es : List Entry) (k : ℕ) (b : Bool) → ltb k places ≡ b → getD (countsOf es) k 0 ≤ length es
 counts-at es k true early = omega (arith, getD-counts es k (ltb-true k places early), many-few k es)
 counts-at es k false late =
-    let none : getD (countsOf es) k 0 ≡ 0 = List·getD-eq-default (countsOf es) 0 (omega (arith, length-counts es, ltb-false k places late)) in
+    let none : getD (countsOf es) k 0 ≡ 0 = List·getD-eq-default (countsOf es) 0
+    (omega (arith, length-counts es, ltb-false k places late)) in
     omega arith
 
 -- ---- the laws

@@ -132,7 +132,8 @@ module _ (xs ys : List (List ℕ)) where
       ∙ ap (λ (n : ℕ). length (first false xs ys) + n) (length-map (second false xs ys) (upEntry (length xs)))
 
   together : {m n : ℕ} {f g : List ℕ} {d e p q : Side} → m ≡ n → f ≡ g → d ≡ e → p ≡ q
-      → _≡_ {A = Sheet} (record { records = m; skipped = f; dual = d; primal = p }) (record { records = n; skipped = g; dual = e; primal = q })
+      → _≡_ {A = Sheet} (record { records = m; skipped = f; dual = d; primal = p })
+      (record { records = n; skipped = g; dual = e; primal = q })
   together h i j k = rw (h, i, j, k)
 
   pub groups : sheetOf (xs ++ ys) ≡ sheetsAdded (sheetOf xs) (sheetOf ys)

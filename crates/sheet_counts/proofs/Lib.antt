@@ -1,5 +1,5 @@
--- Rows place by place (Rows), the largest of several (Tops), the law of two groups (Groups), that the lines add up to the records (AddsUp), closed cases
--- (Cases), and that any two outcomes agree (Agree).
+-- Rows place by place (Rows), the largest of several (Tops), the law of two groups (Groups), that the lines add up to the records (AddsUp),
+-- closed cases (Cases), and that any two outcomes agree (Agree).
 pub mod Rows
 pub mod Tops
 pub mod Groups

@@ -53,7 +53,8 @@ none-larger es =
 pub largest-append : (xs ys : List Entry) → largestOf (xs ++ ys) ≡ largerOf (largestOf xs) (largestOf ys)
 unfolding largestOf
 largest-append [] ys = sym (none-larger ys)
-largest-append (x ∷ xs) ys = ap (largerOf (largestIn x)) (largest-append xs ys) ∙ sym (larger-assoc (largestIn x) (largestOf xs) (largestOf ys))
+largest-append (x ∷ xs) ys = ap (largerOf (largestIn x)) (largest-append xs ys)
+    ∙ sym (larger-assoc (largestIn x) (largestOf xs) (largestOf ys))
 
 -- ---- file numbers moved up
 

@@ -16,8 +16,9 @@ pub record Entry : Type 0 where
 
 -- ---- steps by binary exponent
 
--- "zero steps, and steps by binary exponent, .. subnormal steps on one line of their own": 0 for zero, 1 for the subnormal ones, whose exponent field is 0, and
--- f + 1 for the field f, which stands for the exponent f - 1023. The field is what lies above the 52 bits of the fraction
+-- "zero steps, and steps by binary exponent, .. subnormal steps on one line of their own": 0 for zero, 1 for the subnormal ones, whose
+-- exponent field is 0, and f + 1 for the field f, which stands for the exponent f - 1023. The field is what lies above the 52 bits of the
+-- fraction
 unfoldable pub placeOf : ℕ → ℕ
 placeOf step = cond (eqb step 0) 0 (step / 0x10_0000_0000_0000 + 1)
 

@@ -1,5 +1,5 @@
--- Parts written one behind the other, and how long lines are (Writing); the lines that loops write (Lines); the document's own lines (Cases); and that any two
--- outcomes agree (Agree).
+-- Parts written one behind the other, and how long lines are (Writing); the lines that loops write (Lines); the document's own lines
+-- (Cases); and that any two outcomes agree (Agree).
 pub mod Writing
 pub mod Lines
 pub mod Cases

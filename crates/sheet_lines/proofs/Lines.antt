@@ -10,7 +10,8 @@ use lib.Seq.{sets, drop-cons}
 use Rattle.lines.specs.Lines.{lineOf}
 use Rattle.sheet_counts.specs.declared.Largest.{Largest}
 use Rattle.sheet_counts.specs.Sheet.{Side}
-use Rattle.sheet_lines.specs.Text.{nameOf, recordsWord, zeroWord, subnormalWord, countLine, expLines, mostLine, sideText, flagLine, skippedLines}
+use Rattle.sheet_lines.specs.Text.{nameOf, recordsWord, zeroWord, subnormalWord, countLine}
+use Rattle.sheet_lines.specs.Text.{expLines, mostLine, sideText, flagLine, skippedLines}
 use Rattle.sheet_lines.proofs.Writing.{Wrote, and-then, wrote-as, count-most, named-most, most-most, flag-most}
 
 -- ---- what was written, and what is left of the whole

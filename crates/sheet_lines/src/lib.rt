@@ -1,5 +1,5 @@
-// The sheet's lines, as bytes in a lent slice. 02, Order 14: "Lines read, for the side `dual` and then `primal`: `dual records 3`, `dual zero 1`, `dual exp 0 1`,
-// `dual exp -3 1`, `dual subnormal 0`, `dual most 42 file 1 at 0`".
+// The sheet's lines, as bytes in a lent slice. 02, Order 14: "Lines read, for the side `dual` and then `primal`: `dual records 3`, `dual
+// zero 1`, `dual exp 0 1`, `dual exp -3 1`, `dual subnormal 0`, `dual most 42 file 1 at 0`".
 ghost use mathlib.Core.Path.{_≡_};
 ghost use mathlib.Core.List.{_++_};
 ghost use Prim.Native.Nat.{_+_, _*_, _≤_, _<_};
@@ -16,8 +16,8 @@ use lines::put_line;
 use sheet_counts::Largest;
 use words::put;
 
-// Words as numbers of so many bytes, the first byte lowest: `dual `, `primal `, `records `, `zero `, `sub` and `normal `, `exp ` and `exp -`, `most `, ` file `,
-// ` at `, `skipped ` and `file `, a blank.
+// Words as numbers of so many bytes, the first byte lowest: `dual `, `primal `, `records `, `zero `, `sub` and `normal `, `exp ` and `exp
+// -`, `most `, ` file `, ` at `, `skipped ` and `file `, a blank.
 const DUAL: u64 = 0x20_6c61_7564;
 
 const PRIMAL: u64 = 0x20_6c61_6d69_7270;
@@ -166,7 +166,8 @@ pub fn put_side(
 ) -> usize
     requires { ⌜ (place + 131232 ≤ length (now text)) × (length (now row) ≡ places) ⌝ }
     ensures { λ r. ⌜ (r ≡ place + length (sideText primal records (record { counts = now (row .entry); largest = largest })))
-        × (now (text .exit) ≡ sets (now (text .entry)) place (sideText primal records (record { counts = now (row .entry); largest = largest }))) ⌝ }
+        × (now (text .exit)
+        ≡ sets (now (text .entry)) place (sideText primal records (record { counts = now (row .entry); largest = largest }))) ⌝ }
 {
     let second = put_named(text, place, primal, 8, RECORDS, records);
     let third = put_named(text, second, primal, 5, ZERO, row[0]);
@@ -186,7 +187,8 @@ fn put_skipped(text: &mut [u8], place: usize, file: u64) -> usize
 // A line for a file that is skipped.
 fn put_flag(text: &mut [u8], place: usize, file: u64, flag: u8) -> usize
     requires { ⌜ place + 64 ≤ length (now text) ⌝ }
-    ensures { λ r. ⌜ (r ≡ place + length (flagLine file flag)) × (now (text .exit) ≡ sets (now (text .entry)) place (flagLine file flag)) ⌝ }
+    ensures { λ r. ⌜ (r ≡ place + length (flagLine file flag))
+        × (now (text .exit) ≡ sets (now (text .entry)) place (flagLine file flag)) ⌝ }
 {
     if flag == 0 {
         return place;

@@ -15,7 +15,8 @@ use Rattle.sheet_counts.specs.declared.Largest.{Largest}
 use Rattle.sheet_counts.specs.Counts.{places, summed, largerOf, movedUp}
 use Rattle.sheet_counts.specs.Sheet.{sheetsAdded}
 use Rattle.sheet_rows.specs.Added.{joinedTotals}
-use Rattle.sheet_rows.specs.Rows.{Held, sheetIn, totalsOf, holding, rowsOk, rowsIn, namedIn, namesOk, spills, noRoom, sheetRow, joinCode}
+use Rattle.sheet_rows.specs.Rows.{Held, sheetIn, totalsOf, holding, rowsOk, rowsIn}
+use Rattle.sheet_rows.specs.Rows.{namedIn, namesOk, spills, noRoom, sheetRow, joinCode}
 use Rattle.sheet_rows.proofs.Summing.{most}
 
 -- ---- no row applies
@@ -75,7 +76,8 @@ module _ (a b : Held) (on : joinCode a b ≡ 0) where
   abbrev none : Bool
   none = noRoom fa fb (length (a .skipped)) (a .totals .records) (b .totals .records)
 
-  off : (not (rowsIn a && rowsIn b) ≡ false) × (not named ≡ false) × ((none || spills (a .dual) (b .dual) || spills (a .primal) (b .primal)) ≡ false)
+  off : (not (rowsIn a && rowsIn b) ≡ false) × (not named ≡ false)
+      × ((none || spills (a .dual) (b .dual) || spills (a .primal) (b .primal)) ≡ false)
   unfolding joinCode
   off = sheet-row-off _ _ _ on
 
@@ -114,7 +116,8 @@ module _ (a b : Held) (on : joinCode a b ≡ 0) where
     files = room-on .0;
     flags = room-on .1;
     records = room-on .2;
-    dual = or-right none (spills (a .dual) (b .dual)) (or-left (none || spills (a .dual) (b .dual)) (spills (a .primal) (b .primal)) (off .2));
+    dual = or-right none (spills (a .dual) (b .dual))
+        (or-left (none || spills (a .dual) (b .dual)) (spills (a .primal) (b .primal)) (off .2));
     primal = or-right (none || spills (a .dual) (b .dual)) (spills (a .primal) (b .primal)) (off .2);
   }
 

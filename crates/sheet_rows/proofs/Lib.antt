@@ -1,5 +1,5 @@
--- Sums of rows that have room (Summing), what adding two sheets leaves (Joining), that a sheet's largest stand in its files (Named), files added one by one and in
--- two groups (Sums), and that any two outcomes agree (Agree).
+-- Sums of rows that have room (Summing), what adding two sheets leaves (Joining), that a sheet's largest stand in its files (Named), files
+-- added one by one and in two groups (Sums), and that any two outcomes agree (Agree).
 pub mod Summing
 pub mod Joining
 pub mod Named

@@ -48,7 +48,8 @@ named-by files t stands false e =
     rw (e, le-leb 1 (t .file) (s .0), le-leb (t .file) files (omega arith))
 
 named : (p : Bool) (files : List (List ℕ)) → namedIn (length files) (largestOf (entriesFrom p 1 files)) ≡ true
-named p files = named-by (length files) (largestOf (entriesFrom p 1 files)) (from-files p 1 files) (eqb (largestOf (entriesFrom p 1 files) .size) 0) refl
+named p files = named-by (length files) (largestOf (entriesFrom p 1 files)) (from-files p 1 files)
+    (eqb (largestOf (entriesFrom p 1 files) .size) 0) refl
 
 pub sheet-named : (files : List (List ℕ))
     → namesOk (totalsOf (sheetOf files) .files) (totalsOf (sheetOf files) .dual) (totalsOf (sheetOf files) .primal) ≡ true

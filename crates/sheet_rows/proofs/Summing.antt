@@ -6,7 +6,8 @@ use Prim.Native.Nat.{ℕ, zero, suc, _+_, _-_, _<_, _≤_}
 use native.Mathlib.Omega.{arith}
 use native.Mathlib.Numerals.{add-one}
 use lib.Dec.{ltb}
-use lib.ListN.{length, take, drop, getD, set, replicate, length-set, length-replicate, getD-replicate, drop-of-length-le, List·getD-eq-default}
+use lib.ListN.{length, take, drop, getD, set}
+use lib.ListN.{replicate, length-set, length-replicate, getD-replicate, drop-of-length-le, List·getD-eq-default}
 use lib.Seq.{drop-cons, drop-drop, drop-set-lt, getD-drop}
 use borrow.Author.Tests.{lt-ltb, le-ltb, ltb-true, ltb-false}
 use Rattle.arith.proofs.Branches.{or-left, or-right}

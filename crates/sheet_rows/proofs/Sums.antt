@@ -1,5 +1,5 @@
--- Two sheets of files that are joined give the sheet of all of them: the sum is let through, since counts stay far below their bound, and by the law of two groups
--- the rows then hold it. So do files that are added one by one, each a group of one. Assumes nothing.
+-- Two sheets of files that are joined give the sheet of all of them: the sum is let through, since counts stay far below their bound, and
+-- by the law of two groups the rows then hold it. So do files that are added one by one, each a group of one. Assumes nothing.
 use mathlib.Core.Path.{_≡_, refl, sym, ap, _∙_}
 use mathlib.Core.Bool.{Bool, true, false, cond}
 use mathlib.Core.List.{List, [], _∷_, _++_, map, append-nil, append-assoc}
@@ -265,7 +265,8 @@ add-holds : (n : ℕ) (h : Held) (xs : List (List ℕ)) (bs : List ℕ) → Hold
     → length xs < n → Holds n (addOf h bs) (xs ++ (bs ∷ []))
 unfolding addOf
 add-holds n h xs bs holds before bytes early free =
-    join-holds n (length (bs ∷ [])) h (held (sheetOf (bs ∷ []))) xs (bs ∷ []) holds (held-holds (bs ∷ [])) before bytes (omega arith) (omega arith)
+    join-holds n (length (bs ∷ [])) h (held (sheetOf (bs ∷ []))) xs (bs ∷ []) holds (held-holds (bs ∷ [])) before bytes (omega arith)
+    (omega arith)
 
 add-all : (n : ℕ) (h : Held) (xs files : List (List ℕ)) → Holds n h xs → AllBytes xs → AllBytes files → length xs + length files ≤ 1000
     → length xs + length files ≤ n → Holds n (addAll h files) (xs ++ files)
@@ -276,7 +277,8 @@ add-all n h xs (bs ∷ files) holds before bytes few free =
     let next = add-holds n h xs bs holds before (parts .0) (omega arith) (omega arith) in
     let size = length-append xs (bs ∷ []) in
     rw (append-assoc xs (bs ∷ []) files) at
-    (add-all n (addOf h bs) (xs ++ (bs ∷ [])) files next (bytes-append xs (bs ∷ []) before (parts .0)) (parts .1) (omega arith) (omega arith))
+    (add-all n (addOf h bs) (xs ++ (bs ∷ [])) files next (bytes-append xs (bs ∷ []) before (parts .0)) (parts .1) (omega arith)
+    (omega arith))
 
 begun-holds : (h : Held) → Begun h → Holds (length (h .skipped)) h []
 unfolding sheetOf entriesFrom
@@ -296,9 +298,11 @@ no-bytes = tt
 pub all-hold : (h : Held) (files : List (List ℕ)) → Begun h → Countable (length (h .skipped)) files
     → Holds (length (h .skipped)) (addAll h files) files
 all-hold h files begun fit =
-    add-all (length (h .skipped)) h [] files (begun-holds h begun) no-bytes (fit .bytes) (omega (arith, fit .few)) (omega (arith, fit .flags))
+    add-all (length (h .skipped)) h [] files (begun-holds h begun) no-bytes (fit .bytes) (omega (arith, fit .few))
+    (omega (arith, fit .flags))
 
-pub groups-hold : (a b : Held) (xs ys : List (List ℕ)) → Begun a → Begun b → Countable (length (a .skipped)) (xs ++ ys) → length ys ≤ length (b .skipped)
+pub groups-hold : (a b : Held) (xs ys : List (List ℕ)) → Begun a → Begun b → Countable (length (a .skipped)) (xs ++ ys)
+    → length ys ≤ length (b .skipped)
     → Holds (length (a .skipped)) (joinOf (addAll a xs) (addAll b ys)) (xs ++ ys)
 groups-hold a b xs ys a-begun b-begun fit flags =
     let bytes = bytes-parts xs ys (fit .bytes) in

@@ -1,5 +1,5 @@
-// A sheet in lent rows, for hosts that sum their own: a row of 2,048 counts for each side, a row of flags for the files, and the totals by value. 02, Order 14.
-// All zeros are the sheet of no files.
+// A sheet in lent rows, for hosts that sum their own: a row of 2,048 counts for each side, a row of flags for the files, and the totals by
+// value. 02, Order 14. All zeros are the sheet of no files.
 ghost use mathlib.Core.Path.{_≡_};
 ghost use mathlib.Core.Bool.{false, cond};
 ghost use lib.ListN.{length};
@@ -109,7 +109,8 @@ fn join_code(
     primal2: &[u64],
     skipped2: &[u8],
 ) -> u32
-    ensures { λ r. ⌜ r ≡ joinCode (record { totals = sheet; dual = now (dual .entry); primal = now (primal .entry); skipped = now (skipped .entry) })
+    ensures { λ r. ⌜ r ≡ joinCode
+        (record { totals = sheet; dual = now (dual .entry); primal = now (primal .entry); skipped = now (skipped .entry) })
         (record { totals = second; dual = now (dual2 .entry); primal = now (primal2 .entry); skipped = now (skipped2 .entry) }) ⌝ }
 {
     let first_ok = rows_ok(dual.len(), primal.len(), skipped.len(), sheet.files);
@@ -171,7 +172,8 @@ fn joined_totals(sheet: Totals, second: Totals) -> Totals
     }
 }
 
-// 02, Order 14: "Traces joined in two groups and their sheets added". The second sheet stands behind the first, whose rows become the sum's.
+// 02, Order 14: "Traces joined in two groups and their sheets added". The second sheet stands behind the first, whose rows become the
+// sum's.
 pub fn join(
     sheet: Totals,
     dual: &mut [u64],
@@ -222,8 +224,8 @@ fn flag_of(taken: bool) -> u8
     if taken { 0 } else { 1 }
 }
 
-// The bytes of one file more: the sheet of that file alone, added. Beside the equation the contract says what every call has and the theorems ask: the file holds
-// bytes.
+// The bytes of one file more: the sheet of that file alone, added. Beside the equation the contract says what every call has and the
+// theorems ask: the file holds bytes.
 pub fn add(
     sheet: Totals,
     dual: &mut [u64],

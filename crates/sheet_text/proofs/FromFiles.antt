@@ -1,4 +1,5 @@
--- Rows that hold the sheet of files are let through and print its text, which has room: no line is longer than 64 bytes but the last of a side. Assumes nothing.
+-- Rows that hold the sheet of files are let through and print its text, which has room: no line is longer than 64 bytes but the last of a
+-- side. Assumes nothing.
 use mathlib.Core.Path.{_≡_}
 use mathlib.Core.Bool.{true, false}
 use mathlib.Core.List.{List, _++_}
@@ -20,7 +21,12 @@ holds-printed : (old : List ℕ) (n : ℕ) (h : Held) (files : List (List ℕ)) 
 unfolding printOf sheetRow traceRow settle
 holds-printed old n h files room few holds =
     let few-files : h .totals .files ≤ 1000 = omega (arith, holds-files n h files holds) in
-    rw (holds-rows n h files holds, le-ltb 1000 (h .totals .files) few-files, le-ltb (length old) textRoom room, holds-sheet n h files holds)
+    rw (
+      holds-rows n h files holds,
+      le-ltb 1000 (h .totals .files) few-files,
+      le-ltb (length old) textRoom room,
+      holds-sheet n h files holds,
+    )
 
 text-most : (s : Sheet) → length (s .skipped) ≤ 1000 → length (sheetText s) ≤ textRoom
 unfolding sheetText

@@ -18,7 +18,8 @@ printed old files = record {
 
 pub record OfFiles : Type 0 where
   -- files added one by one, then printed
-  pub one-by-one : (old : List ℕ) (h : Held) (files : List (List ℕ)) → textRoom ≤ length old → Begun h → Countable (length (h .skipped)) files
+  pub one-by-one : (old : List ℕ) (h : Held) (files : List (List ℕ)) → textRoom ≤ length old → Begun h
+      → Countable (length (h .skipped)) files
       → printOf old (addAll h files) ≡ printed old files
   -- two groups of them, joined and then printed
   pub two-groups : (old : List ℕ) (a b : Held) (xs ys : List (List ℕ)) → textRoom ≤ length old → Begun a → Begun b

@@ -21,7 +21,8 @@ pub struct Printed {
     pub length: u64,
 }
 
-// The whole text, from the slice's first byte on. A slice that would not hold every sheet's text is refused, so that nothing is measured first.
+// The whole text, from the slice's first byte on. A slice that would not hold every sheet's text is refused, so that nothing is measured
+// first.
 pub fn put_sheet(
     text: &mut [u8],
     sheet: Totals,

@@ -115,7 +115,8 @@ fn nothing() -> Part
     }
 }
 
-// 02, Order 14: "a broken one, or one above 65,536 bytes, is .. left uncounted". Beside the equations the contract says what every call has and the laws ask:
+// 02, Order 14: "a broken one, or one above 65,536 bytes, is .. left uncounted". Beside the equations the contract says what every call has
+// and the laws ask:
 // the file holds bytes.
 pub fn one_file(bytes: &[u8], dual: &mut [u64], primal: &mut [u64]) -> Part
     requires { ⌜ Fresh (now dual) × Fresh (now primal) ⌝ }

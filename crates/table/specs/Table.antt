@@ -17,8 +17,8 @@ firstRow f =
     (cond (f .serial) 10
     0))))))
 
--- 02, Order 1: "Refusals, the only ones here: 9 a trace or record that breaks the layout; then 8 no room for record plus list plus trailer, or 4,096
--- records already. Both follow 4."
+-- 02, Order 1: "Refusals, the only ones here: 9 a trace or record that breaks the layout; then 8 no room for record plus list plus trailer,
+-- or 4,096 records already. Both follow 4."
 unfoldable pub traceRow : Bool → Bool → ℕ
 traceRow broken full = cond broken 9 (cond full 8 0)
 

@@ -1,5 +1,5 @@
--- One correction step, over any number v near to 1 over twice the root: it never goes above the root, and what it leaves of the rest is little.
--- N = r² + R is the number under the root, v stands for v / M, and M is 2 v times the root or more. Assumes nothing.
+-- One correction step, over any number v near to 1 over twice the root: it never goes above the root, and what it leaves of the rest is
+-- little. N = r² + R is the number under the root, v stands for v / M, and M is 2 v times the root or more. Assumes nothing.
 use mathlib.Core.Path.{_≡_, sym, ap, subst}
 use mathlib.Core.Logic.{_⊎_, inl, inr}
 use Prim.Native.Nat.{ℕ, _+_, _-_, _*_, _^_, _≤_, _<_}

@@ -1,4 +1,5 @@
--- The first root, m times v: its square is not above, what is left is below 2^48 square units, and v is near to 1 over twice the root. Assumes nothing.
+-- The first root, m times v: its square is not above, what is left is below 2^48 square units, and v is near to 1 over twice the root.
+-- Assumes nothing.
 use mathlib.Core.Path.{_≡_, refl, sym, subst}
 use Prim.Native.Nat.{ℕ, _+_, _-_, _*_, _/_, _^_, _≤_, _<_}
 use native.Mathlib.Nat.{le-trans, le-of-eq, mul-le-mul, mul-le-mul-left, mul-le-mul-right, le-of-mul-le-mul-right}

@@ -1,5 +1,5 @@
--- A guess and the one that a correction step makes of it: not above the root either, with a rest that has fallen, and every number in between fits its
--- place. Assumes nothing.
+-- A guess and the one that a correction step makes of it: not above the root either, with a rest that has fallen, and every number in
+-- between fits its place. Assumes nothing.
 use mathlib.Core.Path.{_≡_, ap}
 use Prim.Native.Nat.{ℕ, _+_, _-_, _*_, _/_, _^_, _≤_, _<_}
 use native.Mathlib.Nat.{le-of-lt, lt-of-le-of-lt, mul-le-mul, mul-le-mul-right, mul-pos, div-mul-le-self, lt-div-mul-add}

@@ -1,5 +1,5 @@
--- The estimate of 1 over the root: it is never above, and it is near. With X = x e², Newton's step e (3 - X) / 2 has the square X (3 - X)² / 4 in units
--- of 1 / x, and 4 - X (3 - X)² is (1 - X)² (4 - X): never below 0, and small where X is near to 1. Assumes nothing.
+-- The estimate of 1 over the root: it is never above, and it is near. With X = x e², Newton's step e (3 - X) / 2 has the square X (3 - X)²
+-- / 4 in units of 1 / x, and 4 - X (3 - X)² is (1 - X)² (4 - X): never below 0, and small where X is near to 1. Assumes nothing.
 use mathlib.Core.Path.{_≡_, refl, sym, ap, subst}
 use Prim.Native.Nat.{ℕ, zero, suc, _+_, _-_, _*_, _/_, _%_, _^_, _≤_, _<_}
 use native.Mathlib.Decide.{decLe}

@@ -1,5 +1,5 @@
--- The second root is the plain one, and takes four correction steps at most: at a positive number by the nearest whole number, elsewhere by the same
--- cases. Assumes nothing.
+-- The second root is the plain one, and takes four correction steps at most: at a positive number by the nearest whole number, elsewhere by
+-- the same cases. Assumes nothing.
 use mathlib.Core.Path.{_≡_, refl, sym, ap, subst, _∙_}
 use mathlib.Core.Bool.{Bool, true, false, cond}
 use Prim.Native.Nat.{ℕ, _+_, _*_, _/_, _%_, _^_, _≤_, _<_}

@@ -1,5 +1,5 @@
--- The correction steps, one after the other: how large each root and each rest is, that after three the root is the nearest number or one below it, and
--- that the fourth step is taken where it is one below. Assumes nothing.
+-- The correction steps, one after the other: how large each root and each rest is, that after three the root is the nearest number or one
+-- below it, and that the fourth step is taken where it is one below. Assumes nothing.
 use mathlib.Core.Path.{_≡_, refl, ap, _∙_}
 use mathlib.Core.Bool.{Bool, true, false, cond}
 use Prim.Native.Nat.{ℕ, _+_, _-_, _*_, _^_, _≤_, _<_}

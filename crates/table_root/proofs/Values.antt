@@ -1,5 +1,5 @@
--- Roots of written-out doubles, by computing: 1 and 2 take four correction steps, so that no bound below four would hold; 1.5 takes three and 0 none.
--- Assumes nothing.
+-- Roots of written-out doubles, by computing: 1 and 2 take four correction steps, so that no bound below four would hold; 1.5 takes three
+-- and 0 none. Assumes nothing.
 use mathlib.Core.Path.{_≡_, refl}
 use lib.Ieee.{binary64, isNan, size, span, climb, toBits, ofBits}
 use Rattle.double.specs.Fields.{normalOf}

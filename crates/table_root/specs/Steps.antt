@@ -1,5 +1,5 @@
--- The square root of a double by a table estimate and correction steps. Definitions only. That it is the plain root, and the most steps that it takes,
--- is stated in specs/SameRoot.
+-- The square root of a double by a table estimate and correction steps. Definitions only. That it is the plain root, and the most steps
+-- that it takes, is stated in specs/SameRoot.
 use mathlib.Core.Bool.{cond}
 use Prim.Native.Nat.{ℕ, zero, suc, _+_, _-_, _*_, _/_, _%_, _^_}
 use lib.Dec.{leb, eqb}
@@ -28,12 +28,13 @@ firstOf m v = let r = m / 2 ^ 28 * v / 2 ^ 25 in record { root = r; rest = m * 2
 
 -- ---- the correction steps
 
--- What a step adds to the root, in units of which `scale` make one of the guess: half the rest times v. 2^18 keeps the product in 64 bits, and `unit` is
--- what is left of the units.
+-- What a step adds to the root, in units of which `scale` make one of the guess: half the rest times v. 2^18 keeps the product in 64 bits,
+-- and `unit` is what is left of the units.
 unfoldable pub addition : ℕ → ℕ → Guess → ℕ
 addition v unit g = g .rest / 2 ^ 18 * v / unit
 
--- 02, Order 11: "corrects it with whole-number steps". A step: the root in units that are finer by `scale`, with the addition, and the rest that this leaves.
+-- 02, Order 11: "corrects it with whole-number steps". A step: the root in units that are finer by `scale`, with the addition, and the rest
+-- that this leaves.
 unfoldable pub stepOf : ℕ → ℕ → ℕ → Guess → Guess
 unfolding addition
 stepOf v scale unit g =
@@ -58,7 +59,8 @@ unfolding firstOf correctionOf
 correctedOf m v zero = firstOf m v
 correctedOf m v (suc n) = correctionOf v n (correctedOf m v n)
 
--- How many it takes: three, and a fourth where the rest after three is above the root. The middle to the next number has the square r² + r + 1/4.
+-- How many it takes: three, and a fourth where the rest after three is above the root. The middle to the next number has the square r² + r
+-- + 1/4.
 unfoldable pub stepsOf : ℕ → ℕ → ℕ
 unfolding correctedOf
 stepsOf m v = cond (leb (correctedOf m v 3 .rest) (correctedOf m v 3 .root)) 3 4

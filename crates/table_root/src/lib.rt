@@ -1,9 +1,9 @@
-// The second square root. 02, Order 11: "add another that starts from a table estimate and corrects it with whole-number steps. The two agree in
-// every bit on all 2^64 inputs."
+// The second square root. 02, Order 11: "add another that starts from a table estimate and corrects it with whole-number steps. The two
+// agree in every bit on all 2^64 inputs."
 //
-// The table gives 1 over the root of m / 2^52 to seven bits, and one of Newton's steps for it makes them fourteen; it is never above. Times m it is a
-// first root, never above either. Each correction step adds the rest, times that number, halved: the rest falls by 2^14 and is never below zero, so that
-// no number here has a sign and none is above 64 bits.
+// The table gives 1 over the root of m / 2^52 to seven bits, and one of Newton's steps for it makes them fourteen; it is never above. Times
+// m it is a first root, never above either. Each correction step adds the rest, times that number, halved: the rest falls by 2^14 and is
+// never below zero, so that no number here has a sign and none is above 64 bits.
 ghost use mathlib.Core.Path.{_≡_};
 ghost use Prim.Native.Nat.{_*_, _^_, _<_, _≤_};
 ghost use Rattle.table_root.specs.Steps.{reciprocalOf, firstOf, stepOf, foundOf, tableRootOf, tableSqrtOf};

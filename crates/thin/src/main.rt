@@ -1,6 +1,6 @@
-// thin IN OUT: a trace without the records that are equal to an earlier one. 02, Order 13. It reads, calls and writes; what it prints is `printedOf` and what
-// it writes `writtenOf` of the crate thin_file. OUT is opened when all is known, and may be IN: a file that is refused leaves it alone. The file, its text and
-// the output lie on the stack.
+// thin IN OUT: a trace without the records that are equal to an earlier one. 02, Order 13. It reads, calls and writes; what it prints is
+// `printedOf` and what it writes `writtenOf` of the crate thin_file. OUT is opened when all is known, and may be IN: a file that is refused
+// leaves it alone. The file, its text and the output lie on the stack.
 ghost use mathlib.Core.Path.{_≡_};
 ghost use lib.ListN.{length};
 use libc::STDERR_FILENO;

@@ -1,4 +1,5 @@
--- From the answer of a thinning to its text and output (Answers), closed cases of the text (Cases), and that any two outcomes agree (Agree).
+-- From the answer of a thinning to its text and output (Answers), closed cases of the text (Cases), and that any two outcomes agree
+-- (Agree).
 pub mod Answers
 pub mod Cases
 pub mod Agree

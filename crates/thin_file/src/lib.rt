@@ -1,4 +1,5 @@
-// What a thinning prints and writes of the bytes of a file: the lines `length N`, `kept N` and `dropped N`, or only `refused N`; and the new trace.
+// What a thinning prints and writes of the bytes of a file: the lines `length N`, `kept N` and `dropped N`, or only `refused N`; and the
+// new trace.
 ghost use mathlib.Core.Path.{_≡_};
 ghost use Prim.Native.Nat.{_≤_};
 ghost use lib.ListN.{length};

@@ -1,6 +1,6 @@
-// A trace thinned. 02, Order 13: "Take a trace and write one in which a record byte-equal to an earlier kept record is dropped, the others in their old order,
-// offsets and trailer new, edition kept". The old list and trailer are read by the judge alone, so that within one buffer nothing is overwritten before it
-// is read.
+// A trace thinned. 02, Order 13: "Take a trace and write one in which a record byte-equal to an earlier kept record is dropped, the others
+// in their old order, offsets and trailer new, edition kept". The old list and trailer are read by the judge alone, so that within one
+// buffer nothing is overwritten before it is read.
 ghost use mathlib.Core.Path.{_≡_};
 ghost use lib.ListN.{length};
 ghost use Rattle.words.specs.Words.{AllBelow};
@@ -40,8 +40,8 @@ fn refused(code: u32) -> Thinned
     }
 }
 
-// Into a separate output. Its length is known before its first byte is written. A trace that was refused counts as one without records until the rows are
-// looked at. Beside the equation the contract says what every call has and the theorems ask: the trace holds bytes.
+// Into a separate output. Its length is known before its first byte is written. A trace that was refused counts as one without records
+// until the rows are looked at. Beside the equation the contract says what every call has and the theorems ask: the trace holds bytes.
 pub fn thin(trace: &[u8], output: &mut [u8]) -> Thinned
     ensures { λ r. ⌜ (record { answer = r; output = now (output .exit) } ≡ thinOf (now (trace .entry)) (now (output .entry)))
         × AllBelow 256 (now (trace .entry)) ⌝ }

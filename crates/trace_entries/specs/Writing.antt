@@ -39,7 +39,8 @@ goodFront bs used = leb used (length bs) && goodTrace (take used bs)
 unfoldable pub longer : List ℕ → ℕ → Record → List ℕ
 longer bs used r = let old = take used bs in traceOf (editionAt old) (recordsOf old ++ (r ∷ []))
 
--- 02: "Refusals, the only ones here: 9 a trace or record that breaks the layout; then 8 no room for record plus list plus trailer, or 4,096 records already"
+-- 02: "Refusals, the only ones here: 9 a trace or record that breaks the layout; then 8 no room for record plus list plus trailer, or 4,096
+-- records already"
 unfoldable pub appendRows : List ℕ → ℕ → Record → ℕ
 appendRows bs used r =
     traceRow (not (goodFront bs used && canLay (editionAt (take used bs)) r))

@@ -1,5 +1,6 @@
 // The public entries that judge a trace and write one into a lent slice. A refused call has written nothing. 02, Order 1:
-// "Refusals, the only ones here: 9 a trace or record that breaks the layout; then 8 no room for record plus list plus trailer, or 4,096 records already"
+// "Refusals, the only ones here: 9 a trace or record that breaks the layout; then 8 no room for record plus list plus trailer, or 4,096
+// records already"
 ghost use mathlib.Core.Path.{_≡_};
 ghost use Rattle.words.specs.Words.{AllBelow};
 ghost use Rattle.trace_entries.specs.Values.{Passed};

@@ -1,5 +1,5 @@
-// Files by the arguments that a program over traces is started with, and standard output. What fails is said in one line on standard error: a program has no exit
-// status of its own. What the system hands over is no argument of a function here, so their contracts leave it open.
+// Files by the arguments that a program over traces is started with, and standard output. What fails is said in one line on standard error:
+// a program has no exit status of its own. What the system hands over is no argument of a function here, so their contracts leave it open.
 ghost use Rattle.io.specs.Counts.{Counts};
 
 // Whether a file was read to its end or to the slice's, and how many of its bytes stand at the slice's start.
@@ -40,8 +40,8 @@ pub fn read_argument(i: usize, name: &[u8], file: &mut [u8]) -> Got
     Got { done: true, count }
 }
 
-// Writes the file that argument i names, which the usage line calls `name`, and says whether that was done. A file that could not be written whole is
-// emptied: half a trace is none.
+// Writes the file that argument i names, which the usage line calls `name`, and says whether that was done. A file that could not be
+// written whole is emptied: half a trace is none.
 pub fn write_argument(i: usize, name: &[u8], bytes: &[u8]) -> bool {
     let mut path = io::buffer();
     let n = os::arg(i, &mut path);

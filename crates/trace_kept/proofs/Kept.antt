@@ -1,4 +1,5 @@
--- After a done append, the last record that is read has the values that were given, and each earlier one those that it had. Assumes nothing.
+-- After a done append, the last record that is read has the values that were given, and each earlier one those that it had. Assumes
+-- nothing.
 use mathlib.Core.Path.{_≡_, refl, sym, ap, _∙_}
 use mathlib.Core.Bool.{Bool, true, false, cond}
 use mathlib.Core.List.{List, [], _∷_, _++_}

@@ -1,4 +1,5 @@
--- A trace that `create` and calls of `append` make, one after another, refused ones included. Definitions, and the statement that it is good.
+-- A trace that `create` and calls of `append` make, one after another, refused ones included. Definitions, and the statement that it is
+-- good.
 use Prim.Native.Nat.{ℕ, _≤_}
 use mathlib.Core.Path.{_≡_}
 use mathlib.Core.Bool.{true, cond}

@@ -49,9 +49,9 @@ settingsIn flag = cond (eqb flag 0) 2 0
 abbrev pub run : ℕ → ℕ → Run
 run width count = record { width = width; count = count }
 
--- The parts of a record in 02's order: "the four bytes `STEP`, whole record length, kind, dim1, dim2", the rule, "exponents", "start", the flag, the settings,
--- "dz, ds, z, s, then dual step, dual count, primal step, primal count. Counts are u32, all else f64". Kinds 1 and 2 have the dims 3 and 0, so that dim1 + dim2
--- is every vector's length.
+-- The parts of a record in 02's order: "the four bytes `STEP`, whole record length, kind, dim1, dim2", the rule, "exponents", "start", the
+-- flag, the settings, "dz, ds, z, s, then dual step, dual count, primal step, primal count. Counts are u32, all else f64". Kinds 1 and 2
+-- have the dims 3 and 0, so that dim1 + dim2 is every vector's length.
 unfoldable pub runsFor : ℕ → ℕ → ℕ → ℕ → ℕ → List Run
 runsFor edition kind dim1 dim2 flag =
     run 4 1 ∷ run 4 1 ∷ run 4 1 ∷ run 4 1 ∷ run 4 1 ∷ run 4 (rulesIn edition)

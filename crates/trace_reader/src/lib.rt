@@ -1,6 +1,7 @@
 // 02, Order 2: "The reader keeps hold of the trace and its place between records; the engineers want the same reader for later tools".
-// The borrow checker covers no function over a struct that holds a slice: each of these is a thin walk proved by hand and leaves the work to a covered function
-// over the slice and the place. `current_in` and `place_in` make a Reader for one call, so that a loop over a plain slice and a place needs no such walk.
+// The borrow checker covers no function over a struct that holds a slice: each of these is a thin walk proved by hand and leaves the work
+// to a covered function over the slice and the place. `current_in` and `place_in` make a Reader for one call, so that a loop over a plain
+// slice and a place needs no such walk.
 ghost use mathlib.Core.Path.{_≡_};
 ghost use Rattle.trace_reader.specs.Reading.{foundFrom, placeAfter};
 use trace::Found;

@@ -1,5 +1,5 @@
--- A search with single tests followed along its trials. `Stands` is the invariant of a loop that counts them, and what is left of most · bound its
--- measure, as every trial takes one at least. Assumes nothing.
+-- A search with single tests followed along its trials. `Stands` is the invariant of a loop that counts them, and what is left of most ·
+-- bound its measure, as every trial takes one at least. Assumes nothing.
 use mathlib.Core.Path.{_≡_, refl, sym, ap, _∙_}
 use mathlib.Core.Bool.{true, false}
 use mathlib.Core.List.{List}

@@ -1,5 +1,5 @@
--- The number of binary digits of a normal double's units is its exponent field and 52: the field less 1023 is the exponent E with x from 2^E up to
--- 2^(E+1). Assumes nothing.
+-- The number of binary digits of a normal double's units is its exponent field and 52: the field less 1023 is the exponent E with x from
+-- 2^E up to 2^(E+1). Assumes nothing.
 use mathlib.Core.Path.{_≡_, ap, _∙_}
 use Prim.Native.Nat.{ℕ, zero, suc, _+_, _^_, _≤_, _<_}
 use native.Mathlib.Nat.{le-trans, le-of-eq, not-le-of-lt, zero-lt-suc}

@@ -1,7 +1,7 @@
--- The allowed trials fall, and there are at most `bound` of them: each product leaves at most 0.99 + 2^-53 of a trial, so 69 of them take a binary
--- exponent. Assumes nothing.
--- The trials are followed in units, that is as whole numbers. A start below the smallest step may be subnormal; then the first product is below the
--- smallest step too.
+-- The allowed trials fall, and there are at most `bound` of them: each product leaves at most 0.99 + 2^-53 of a trial, so 69 of them take a
+-- binary exponent. Assumes nothing.
+-- The trials are followed in units, that is as whole numbers. A start below the smallest step may be subnormal; then the first product is
+-- below the smallest step too.
 use mathlib.Core.Path.{_≡_, refl, sym, ap, _∙_, subst}
 use Prim.Native.Nat.{ℕ, zero, suc, _+_, _-_, _*_, _^_, _≤_, _<_}
 use mathlib.Core.Logic.{inl, inr}

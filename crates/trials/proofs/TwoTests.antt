@@ -1,6 +1,7 @@
--- Two tests that a search can be made with, by themselves and together, as computed. One passes at the start alone, the other from the second trial on.
--- The smallest of their own steps is 1/2, where the first fails; no trial passes both. So the common step of a plan is not the smallest of its cones'
--- steps: a cone that passes at a trial need not pass at a smaller one, when it comes from outside. Assumes nothing.
+-- Two tests that a search can be made with, by themselves and together, as computed. One passes at the start alone, the other from the
+-- second trial on. The smallest of their own steps is 1/2, where the first fails; no trial passes both. So the common step of a plan is not
+-- the smallest of its cones' steps: a cone that passes at a trial need not pass at a smaller one, when it comes from outside. Assumes
+-- nothing.
 use mathlib.Core.Path.{_≡_, refl}
 use mathlib.Core.Bool.{Bool, _&&_}
 use mathlib.Core.List.{List, [], _∷_}

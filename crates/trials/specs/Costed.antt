@@ -1,4 +1,5 @@
--- A search whose test of a point is made of single tests, and how many of those it makes. For any test and any cost of it. Definitions only.
+-- A search whose test of a point is made of single tests, and how many of those it makes. For any test and any cost of it. Definitions
+-- only.
 use Prim.Native.Nat.{ℕ, zero, suc, _+_}
 use mathlib.Core.List.{List}
 use lib.Ieee.{Float}

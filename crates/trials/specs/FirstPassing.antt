@@ -1,5 +1,5 @@
--- What a search owes, demand 3: "each search returns the first allowed trial whose computed point passes the cone test, and zero exactly if none passes.
--- It hands back that tested point (the start point for zero) and the true number of tests.
+-- What a search owes, demand 3: "each search returns the first allowed trial whose computed point passes the cone test, and zero exactly if
+-- none passes. It hands back that tested point (the start point for zero) and the true number of tests.
 -- That number is at most 69 times (start's binary exponent minus smallest's, plus one), or 1 if the start is below the smallest."
 -- Definitions and the statement only; proofs/FirstPassing shows it of `searchOf`, and that it leaves one outcome.
 use Prim.Native.Nat.{ℕ, suc, _≤_, _<_}

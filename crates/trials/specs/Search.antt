@@ -8,8 +8,8 @@ use Rattle.double.specs.Numbers.{#0}
 use Rattle.cone.specs.declared.Settings.{Settings}
 use Rattle.trials.specs.Trials.{bound}
 
--- What a search is about: the test of a point, the computed point of a trial, the point of step zero, the settings. No cone: whoever tests points
--- otherwise has the same laws.
+-- What a search is about: the test of a point, the computed point of a trial, the point of step zero, the settings. No cone: whoever tests
+-- points otherwise has the same laws.
 pub record Problem : Type 0 where
   pub test : List Float → Bool
   pub pointAt : Float → List Float

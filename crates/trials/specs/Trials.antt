@@ -23,13 +23,13 @@ Allowed how k = (j : ℕ) → 0 < j → j ≤ k → (trial how j ≺ how .smalle
 abbrev pub exponentOf : Float → ℕ
 exponentOf x = fieldOf (toBits binary64 x)
 
--- How many rounded products with a step of 0.99 or less take a binary exponent for certain: 2 · (0.99 + 2^-53)^69 is at most 1, and with 68 it is
--- not.
+-- How many rounded products with a step of 0.99 or less take a binary exponent for certain: 2 · (0.99 + 2^-53)^69 is at most 1, and with 68
+-- it is not.
 abbrev pub productsPerExponent : ℕ
 productsPerExponent = 69
 
--- Demand 3, of the tests made: "That number is at most 69 times (start's binary exponent minus smallest's, plus one), or 1 if the start is below the smallest."
--- The loop falls by it. 01: "The empty-handed `loop` of the search gets a falling number from exponents."
+-- Demand 3, of the tests made: "That number is at most 69 times (start's binary exponent minus smallest's, plus one), or 1 if the start is
+-- below the smallest." The loop falls by it. 01: "The empty-handed `loop` of the search gets a falling number from exponents."
 abbrev pub bound : Settings → ℕ
 bound how = cond (how .start ≺ how .smallest) 1 (productsPerExponent * (exponentOf (how .start) - exponentOf (how .smallest) + 1))
 

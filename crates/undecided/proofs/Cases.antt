@@ -1,5 +1,5 @@
--- Two points that the border table lacks, computed: a no given on the residue, and a finite point of the power cone whose margin is infinite, which is
--- undecided. Assumes nothing.
+-- Two points that the border table lacks, computed: a no given on the residue, and a finite point of the power cone whose margin is
+-- infinite, which is undecided. Assumes nothing.
 use mathlib.Core.Path.{_≡_, refl}
 use mathlib.Core.Bool.{false}
 use mathlib.Core.List.{List, [], _∷_}

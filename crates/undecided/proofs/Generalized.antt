@@ -1,5 +1,5 @@
--- The generalized power cone, both sides, of any lists of exponents and coordinates: a margin has no sign, and is boundless where a coordinate is not
--- finite: one of the heads makes the sum of logarithms boundless, one of the tail the sumsq. Assumes nothing.
+-- The generalized power cone, both sides, of any lists of exponents and coordinates: a margin has no sign, and is boundless where a
+-- coordinate is not finite: one of the heads makes the sum of logarithms boundless, one of the tail the sumsq. Assumes nothing.
 use mathlib.Core.Path.{_≡_, refl, sym, subst, ap, _∙_}
 use mathlib.Core.Bool.{Bool, true, false, not, _&&_}
 use mathlib.Core.List.{List, [], _∷_}

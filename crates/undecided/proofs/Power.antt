@@ -1,5 +1,5 @@
--- The power cone, both sides: a margin has no sign, and is boundless where a coordinate is not finite. For an exponent that row 1 lets through, whose
--- factors have no sign. Assumes nothing.
+-- The power cone, both sides: a margin has no sign, and is boundless where a coordinate is not finite. For an exponent that row 1 lets
+-- through, whose factors have no sign. Assumes nothing.
 use mathlib.Core.Path.{_≡_, refl, subst, sym}
 use mathlib.Core.Bool.{Bool, true, false, not, cond, _&&_}
 use mathlib.Core.List.{List}

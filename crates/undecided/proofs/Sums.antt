@@ -1,4 +1,5 @@
--- A sum that runs from the left: one boundless term makes it boundless, terms without a sign make it unsigned, and it is a double. Assumes nothing.
+-- A sum that runs from the left: one boundless term makes it boundless, terms without a sign make it unsigned, and it is a double. Assumes
+-- nothing.
 use mathlib.Core.Path.{_≡_, refl, subst}
 use mathlib.Core.Bool.{Bool, true, false}
 use Prim.Native.Nat.{ℕ, zero, suc, _<_, _≤_}

@@ -1,4 +1,5 @@
--- What a residue and a margin tell: nothing beside a boundless margin, and beside one without a sign what the residue's own sign tells. Assumes nothing.
+-- What a residue and a margin tell: nothing beside a boundless margin, and beside one without a sign what the residue's own sign tells.
+-- Assumes nothing.
 use mathlib.Core.Path.{_≡_, refl, sym, subst}
 use mathlib.Core.Bool.{Bool, true, false, cond, _&&_}
 use Prim.Native.Nat.{ℕ, _*_, _<_}

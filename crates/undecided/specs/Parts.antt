@@ -1,4 +1,5 @@
--- What an answer is made of, by the cone's kind and by side: sign tests, residue, margin; and the test of document 01 before Order 5. Definitions only.
+-- What an answer is made of, by the cone's kind and by side: sign tests, residue, margin; and the test of document 01 before Order 5.
+-- Definitions only.
 use mathlib.Core.Bool.{Bool, false, cond, _&&_}
 use mathlib.Core.List.{List}
 use lib.ListN.{take}

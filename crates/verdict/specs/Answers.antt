@@ -6,7 +6,8 @@ use Rattle.double.specs.Operators.{_≺_}
 use Rattle.verdict.specs.declared.Answer.{Answer}
 use Rattle.verdict.specs.declared.Answer.the-variants.{No, Yes, Undecided}
 
--- 02, Order 5: "Yes if the residue is above the margin, no if it is below minus the margin .., else undecided, NaN and infinite margins included."
+-- 02, Order 5: "Yes if the residue is above the margin, no if it is below minus the margin .., else undecided, NaN and infinite margins
+-- included."
 unfoldable pub toldOf : Float → Float → Answer
 toldOf res margin = cond (margin ≺ res) Yes (cond (res ≺ neg margin) No Undecided)
 

@@ -7,7 +7,8 @@ use Rattle.trace_layout.specs.Records.{Record, laidAt, sizeAt, recordAt}
 use Rattle.trace_layout.specs.Traces.{mostRecords, recordsBytes}
 use Rattle.whole_records.specs.declared.Walked.{Walked}
 
--- "Walk from byte 0, keep every whole record until the first that is cut or malformed", at most n of them. "Bytes after the first bad record are not searched"
+-- "Walk from byte 0, keep every whole record until the first that is cut or malformed", at most n of them. "Bytes after the first bad
+-- record are not searched"
 unfoldable pub wholeIn : ℕ → ℕ → List ℕ → List Record
 wholeIn e zero t = []
 wholeIn e (suc n) t = cond (laidAt e t) (recordAt e t ∷ wholeIn e n (drop (sizeAt e t) t)) []

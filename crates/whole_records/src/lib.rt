@@ -1,5 +1,5 @@
-// The whole records at the front of bytes, whatever follows them. 02, Order 7: "Walk from byte 0, keep every whole record until the first that is cut or
-// malformed".
+// The whole records at the front of bytes, whatever follows them. 02, Order 7: "Walk from byte 0, keep every whole record until the first
+// that is cut or malformed".
 ghost use mathlib.Core.Path.{_≡_};
 ghost use Prim.Native.Nat.{_≤_};
 ghost use lib.ListN.{length};

@@ -26,9 +26,9 @@ fn below(x: u64, y: u64) -> u64
     if x < y { 1 } else { 0 }
 }
 
-// a * b, by three partial products of 32-bit digits: a1 b0 + a0 b1 is (a1 + a0) (b1 + b0) less a1 b1 and a0 b0. The sums have up to 33 bits;
-// their lower digits are multiplied, and what a 33rd bit adds is the other sum, so that no product has more than 64 bits. `beyond` and `below`
-// become no branches.
+// a * b, by three partial products of 32-bit digits: a1 b0 + a0 b1 is (a1 + a0) (b1 + b0) less a1 b1 and a0 b0. The sums have up to 33
+// bits; their lower digits are multiplied, and what a 33rd bit adds is the other sum, so that no product has more than 64 bits. `beyond`
+// and `below` become no branches.
 pub fn product(a: u64, b: u64) -> Halves
     ensures { λ r. ⌜ r ≡ productOf a b ⌝ }
 {

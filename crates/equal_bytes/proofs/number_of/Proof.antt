@@ -1,5 +1,5 @@
--- `number_of` meets its contract. The loop's invariant: the number so far, carried on over the bytes that are left, is the row's number. The measure is
--- their count. Assumes nothing.
+-- `number_of` meets its contract. The loop's invariant: the number so far, carried on over the bytes that are left, is the row's number.
+-- The measure is their count. Assumes nothing.
 use mathlib.Core.Path.{_≡_, refl, sym, _∙_}
 use Prim.Native.Nat.{_-_, _≤_, _<_}
 use native.Mathlib.Omega.{arith}

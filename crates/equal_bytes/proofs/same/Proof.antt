@@ -1,5 +1,5 @@
--- `same` meets its contract. The loop's invariant: the bytes before i are equal, so that what is left decides. The measure is the count of bytes left.
--- Assumes nothing.
+-- `same` meets its contract. The loop's invariant: the bytes before i are equal, so that what is left decides. The measure is the count of
+-- bytes left. Assumes nothing.
 use mathlib.Core.Path.{_≡_, refl, sym}
 use Prim.Native.Nat.{_-_}
 use native.Mathlib.Omega.{arith}

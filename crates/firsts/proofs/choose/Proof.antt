@@ -1,5 +1,5 @@
--- `choose` meets its contract. The loop's invariant: what was chosen and what is still to be chosen are the whole choice. The measure is the count of pieces
--- that are left. Assumes nothing.
+-- `choose` meets its contract. The loop's invariant: what was chosen and what is still to be chosen are the whole choice. The measure is
+-- the count of pieces that are left. Assumes nothing.
 use Prim.Native.Nat.{_+_, _-_, _≤_, _<_}
 use native.Mathlib.Omega.{arith}
 use lib.ListN.{length}

@@ -1,5 +1,5 @@
--- `clear` meets its contract. The loop's invariant: zeros in the places that are left give what the call is to leave. The measure is their count.
--- Assumes nothing.
+-- `clear` meets its contract. The loop's invariant: zeros in the places that are left give what the call is to leave. The measure is their
+-- count. Assumes nothing.
 use mathlib.Core.Path.{_≡_, refl, _∙_}
 use Prim.Native.Nat.{_-_}
 use native.Mathlib.Omega.{arith}

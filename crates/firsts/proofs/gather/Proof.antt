@@ -1,5 +1,5 @@
--- `gather` meets its contract. The loop's invariant: the pieces that are left, written behind those that were, give what the call is to leave, and the places
--- that are left are as they were. The measure is their count. Assumes nothing.
+-- `gather` meets its contract. The loop's invariant: the pieces that are left, written behind those that were, give what the call is to
+-- leave, and the places that are left are as they were. The measure is their count. Assumes nothing.
 use mathlib.Core.Path.{_≡_, ap, _∙_}
 use mathlib.Core.List.{List}
 use Prim.Native.Nat.{ℕ, _+_, _-_, _≤_}

@@ -1,5 +1,5 @@
--- `move_down` meets its contract. The loop's invariant: that of `gather`, and the bytes from the next new place on are as they were, where every piece lies
--- that is left. The measure is the count of pieces left. Assumes nothing.
+-- `move_down` meets its contract. The loop's invariant: that of `gather`, and the bytes from the next new place on are as they were, where
+-- every piece lies that is left. The measure is the count of pieces left. Assumes nothing.
 use mathlib.Core.Path.{_≡_, refl, ap, _∙_}
 use mathlib.Core.List.{List}
 use Prim.Native.Nat.{ℕ, _+_, _-_, _≤_}

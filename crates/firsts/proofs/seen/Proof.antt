@@ -1,5 +1,5 @@
--- `seen` meets its contract. The loop's invariant: the pieces before place j are other ones, so that those that are left decide. The measure is their count.
--- Assumes nothing.
+-- `seen` meets its contract. The loop's invariant: the pieces before place j are other ones, so that those that are left decide. The
+-- measure is their count. Assumes nothing.
 use mathlib.Core.Path.{_≡_, refl, sym, _∙_}
 use Prim.Native.Nat.{_-_, _≤_}
 use native.Mathlib.Omega.{arith}

@@ -1,5 +1,5 @@
--- `slide` meets its contract. The loop's invariant: writing the bytes that are left gives what the call is to leave, and what lies behind is as it was. The
--- measure is their count. Assumes nothing.
+-- `slide` meets its contract. The loop's invariant: writing the bytes that are left gives what the call is to leave, and what lies behind
+-- is as it was. The measure is their count. Assumes nothing.
 use Prim.Native.Nat.{_-_}
 use native.Mathlib.Omega.{arith}
 use Rattle.firsts.proofs.Sliding.{Slid, sliding, slid, slid-all}

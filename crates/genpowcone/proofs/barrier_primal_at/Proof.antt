@@ -1,4 +1,5 @@
--- `barrier_primal_at` is its definition: the calls are replaced by what they promise, and an array's used places by the list they hold. Assumes nothing.
+-- `barrier_primal_at` is its definition: the calls are replaced by what they promise, and an array's used places by the list they hold.
+-- Assumes nothing.
 use Prim.Native.Nat.{_≤_}
 use native.Mathlib.Omega.{arith}
 use lib.ListN.{length, length-take}

@@ -1,4 +1,5 @@
--- `compute_barrier` is its definition: the calls are replaced by what they promise, and an array's used places by the point they hold. Assumes nothing.
+-- `compute_barrier` is its definition: the calls are replaced by what they promise, and an array's used places by the point they hold.
+-- Assumes nothing.
 use Prim.Native.Nat.{ℕ, min, _≤_}
 use mathlib.Core.Path.{_≡_, _∙_, ap}
 use mathlib.Core.List.{List}

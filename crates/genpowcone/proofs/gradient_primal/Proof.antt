@@ -1,4 +1,5 @@
--- `gradient_primal` is its definition, whether norm_r is above ε or not; the logarithms of the heads stand in the first places of an array. Assumes nothing.
+-- `gradient_primal` is its definition, whether norm_r is above ε or not; the logarithms of the heads stand in the first places of an array.
+-- Assumes nothing.
 use Prim.Native.Nat.{_+_, _≤_}
 use mathlib.Core.Path.{_≡_, _∙_, ap}
 use mathlib.Core.Bool.{true}

@@ -1,5 +1,5 @@
--- `newton_raphson_genpowcone` is its definition: the rounds at this kind's equation, from x0 as computed; the ratios stand in the first places of an
--- array. Assumes nothing.
+-- `newton_raphson_genpowcone` is its definition: the rounds at this kind's equation, from x0 as computed; the ratios stand in the first
+-- places of an array. Assumes nothing.
 use Prim.Native.Nat.{_≤_}
 use mathlib.Core.Path.{_≡_}
 use mathlib.Core.List.{List, map}

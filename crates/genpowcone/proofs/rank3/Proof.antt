@@ -1,4 +1,5 @@
--- `rank3` is its definition: the calls are replaced by what they promise. The tail has at most 32 places, by the cone's dims. Assumes nothing.
+-- `rank3` is its definition: the calls are replaced by what they promise. The tail has at most 32 places, by the cone's dims. Assumes
+-- nothing.
 use native.Mathlib.Omega.{arith}
 use lib.ListN.{length-drop}
 use borrow.Author.Needs.{needs}

@@ -1,5 +1,5 @@
--- `all_finite` meets its contract. The loop's invariant: all of the slice passes exactly if what is behind does and what is left of it does. The measure is
--- what is left of the length. Assumes nothing.
+-- `all_finite` meets its contract. The loop's invariant: all of the slice passes exactly if what is behind does and what is left of it
+-- does. The measure is what is left of the length. Assumes nothing.
 use mathlib.Core.Path.{_≡_, refl, sym, _∙_, ap}
 use mathlib.Core.Bool.{Bool, _&&_}
 use Prim.Native.Nat.{_≤_, _-_, _+_}

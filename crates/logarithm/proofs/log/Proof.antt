@@ -1,4 +1,5 @@
--- `log` meets its contract: the tests of the code are those of the specification, whose field is the upper bits of a pattern without sign. Assumes nothing.
+-- `log` meets its contract: the tests of the code are those of the specification, whose field is the upper bits of a pattern without sign.
+-- Assumes nothing.
 use mathlib.Core.Path.{_≡_, ap, _∙_}
 use Prim.Native.Nat.{ℕ, _+_, _/_, _^_, _<_}
 use native.Mathlib.Omega.{arith}

@@ -1,5 +1,5 @@
--- `long_division` meets its contract: each rest is below n, so a digit more fits, and the sum of the digits is the quotient, which is below 2^51.
--- Assumes nothing.
+-- `long_division` meets its contract: each rest is below n, so a digit more fits, and the sum of the digits is the quotient, which is below
+-- 2^51. Assumes nothing.
 use Prim.Native.Nat.{_*_, _%_}
 use native.Mathlib.Nat.{mod-lt}
 use native.Mathlib.Omega.{arith}

@@ -1,4 +1,5 @@
--- `mantissa` meets its contract: the entry, the quotient and the series are each small enough for their sum, which is the specification's. Assumes nothing.
+-- `mantissa` meets its contract: the entry, the quotient and the series are each small enough for their sum, which is the specification's.
+-- Assumes nothing.
 use mathlib.Core.Path.{ap, _∙_}
 use Prim.Native.Nat.{ℕ, _+_, _*_, _/_, _%_}
 use native.Mathlib.Omega.{arith}

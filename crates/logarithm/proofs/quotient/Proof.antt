@@ -1,5 +1,5 @@
--- `quotient` meets its contract: d·2^60 + n has a rest below 2·n over q·n, and then the rest tells whether q is the quotient or one more, wherever q
--- came from. Every other q
+-- `quotient` meets its contract: d·2^60 + n has a rest below 2·n over q·n, and then the rest tells whether q is the quotient or one more,
+-- wherever q came from. Every other q
 -- is left to `long_division`. Assumes nothing.
 use mathlib.Core.Path.{_≡_, sym, ap, _∙_}
 use Prim.Native.Nat.{ℕ, zero, suc, _+_, _-_, _*_, _/_, _%_, _^_, _<_, _≤_}

@@ -1,5 +1,5 @@
--- `of_row` meets its contract: each place is in the row, and the arm k reads the place k where j is k. In the last arm j is below 16 and none of the
--- others. Assumes nothing.
+-- `of_row` meets its contract: each place is in the row, and the arm k reads the place k where j is k. In the last arm j is below 16 and
+-- none of the others. Assumes nothing.
 use lib.Dec.{lit<}
 use Rattle.arith.proofs.Tables.{last-arm}
 use Rattle.logarithm_table.proofs.of_row.Statement.{statement}

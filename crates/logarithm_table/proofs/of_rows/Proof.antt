@@ -1,4 +1,5 @@
--- `of_rows` meets its contract, as `of_row` does: row n is among the rows and j in it, and the arm n asks row n where k is n. Assumes nothing.
+-- `of_rows` meets its contract, as `of_row` does: row n is among the rows and j in it, and the arm n asks row n where k is n. Assumes
+-- nothing.
 use lib.Dec.{lit<}
 use Rattle.arith.proofs.Tables.{last-arm}
 use Rattle.logarithm_table.proofs.of_rows.Statement.{statement}

@@ -1,4 +1,5 @@
--- `genpowcone_f0` meets its contract: after i turns the loop holds the first i terms. The measure is what is left of the shorter length. Assumes nothing.
+-- `genpowcone_f0` meets its contract: after i turns the loop holds the first i terms. The measure is what is left of the shorter length.
+-- Assumes nothing.
 use Prim.Native.Nat.{_≤_, _-_, min}
 use mathlib.Core.Path.{_≡_}
 use lib.ListN.{length}

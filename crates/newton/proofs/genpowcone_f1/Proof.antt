@@ -1,4 +1,5 @@
--- `genpowcone_f1` meets its contract: after i turns the loop holds the first i terms. The measure is what is left of the length. Assumes nothing.
+-- `genpowcone_f1` meets its contract: after i turns the loop holds the first i terms. The measure is what is left of the length. Assumes
+-- nothing.
 use Prim.Native.Nat.{_≤_, _-_}
 use mathlib.Core.Path.{_≡_}
 use lib.ListN.{length}

@@ -1,5 +1,5 @@
--- `newton_raphson_onesided` meets its contract: with iter rounds done, what is left of the hundred from x is the answer. The measure is what is left
--- of the hundred. Assumes nothing.
+-- `newton_raphson_onesided` meets its contract: with iter rounds done, what is left of the hundred from x is the answer. The measure is
+-- what is left of the hundred. Assumes nothing.
 use Prim.Native.Nat.{_≤_, _-_}
 use mathlib.Core.Path.{_≡_, refl, _∙_}
 use Rattle.newton.specs.Equations.{f0Of, f1Of}

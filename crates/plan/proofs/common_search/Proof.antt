@@ -1,5 +1,5 @@
--- `common_search` is the definition, trial by trial. The invariant is `Stands`: the trial α is allowed, all before it failed, and the count is of their
--- single tests. The measure is what is left of 1,024 times `bound`, since every trial tests one cone at least. Assumes nothing.
+-- `common_search` is the definition, trial by trial. The invariant is `Stands`: the trial α is allowed, all before it failed, and the count
+-- is of their single tests. The measure is what is left of 1,024 times `bound`, since every trial tests one cone at least. Assumes nothing.
 use mathlib.Core.Path.{_≡_, refl, sym, ap, _∙_, subst}
 use mathlib.Core.Bool.{false}
 use mathlib.Core.List.{List}
@@ -41,8 +41,8 @@ cones s = conesOf (now (s .args .cones))
 abbrev plan : tie.Start Inv-loop μ-loop → Costed
 plan s = let a = s .args in planOf (cones s) (a .primal) (now (a .dq)) (now (a .q)) (a .how)
 
--- its settings are usable; that their numbers are doubles is known of every parameter, and stands in `good`: how is the fifth, start and smallest
--- are its first and third field
+-- its settings are usable; that their numbers are doubles is known of every parameter, and stands in `good`: how is the fifth, start and
+-- smallest are its first and third field
 usable : (s : tie.Start Inv-loop μ-loop) → Usable (s .args .how)
 usable s =
     let f = s .good .1 .1 .1 .1 .0 .1 .1 in

@@ -1,5 +1,5 @@
--- `plan_ok` meets its contract. The loop's invariant: the plan is good exactly if what is behind is and the cones that are left are. The measure is
--- the cones left. Assumes nothing.
+-- `plan_ok` meets its contract. The loop's invariant: the plan is good exactly if what is behind is and the cones that are left are. The
+-- measure is the cones left. Assumes nothing.
 use mathlib.Core.Path.{_≡_, refl, sym, ap, _∙_}
 use mathlib.Core.Bool.{Bool, _&&_}
 use mathlib.Core.List.{List, []}

@@ -1,5 +1,5 @@
--- `test_cones` meets its contract. The loop's invariant is `PassedTo`: the cones behind passed, on the numbers behind. The measure is the cones left.
--- Assumes nothing.
+-- `test_cones` meets its contract. The loop's invariant is `PassedTo`: the cones behind passed, on the numbers behind. The measure is the
+-- cones left. Assumes nothing.
 use mathlib.Core.Path.{_≡_, refl, sym, _∙_, subst}
 use mathlib.Core.Bool.{Bool}
 use mathlib.Core.List.{List, []}

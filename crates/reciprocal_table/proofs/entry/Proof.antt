@@ -1,4 +1,5 @@
--- `entry` meets its contract: the arm k answers with the number at place k. In the last arm i is below 128 and none of the others. Assumes nothing.
+-- `entry` meets its contract: the arm k answers with the number at place k. In the last arm i is below 128 and none of the others. Assumes
+-- nothing.
 use Rattle.arith.proofs.Tables.{last-arm}
 use Rattle.reciprocal_table.specs.Estimates.{estimates}
 use Rattle.reciprocal_table.proofs.entry.Statement.{statement}

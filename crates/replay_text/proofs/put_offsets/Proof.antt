@@ -1,5 +1,5 @@
--- `put_offsets` meets its contract. The loop's invariant: writing the lines that are left gives what the call is to leave, and no line was longer than 24 bytes.
--- The measure is their count. Assumes nothing.
+-- `put_offsets` meets its contract. The loop's invariant: writing the lines that are left gives what the call is to leave, and no line was
+-- longer than 24 bytes. The measure is their count. Assumes nothing.
 use mathlib.Core.Path.{_≡_, refl, sym, ap, _∙_}
 use mathlib.Core.List.{List}
 use Prim.Native.Nat.{ℕ, _+_, _*_, _-_, _≤_, _<_}

@@ -1,5 +1,5 @@
--- `note_all` meets its contract. The loop's invariant: noting what is left gives what the call is to leave, and the walk from here on succeeds. The measure is the count of records left.
--- Assumes nothing.
+-- `note_all` meets its contract. The loop's invariant: noting what is left gives what the call is to leave, and the walk from here on
+-- succeeds. The measure is the count of records left. Assumes nothing.
 use mathlib.Core.Path.{_≡_, refl, sym, ap, _∙_}
 use mathlib.Core.List.{List}
 use Prim.Native.Nat.{ℕ, _+_, _-_, _≤_, _<_}

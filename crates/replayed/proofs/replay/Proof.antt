@@ -1,4 +1,5 @@
--- `replay` meets its contract: the trace is judged, the offsets are noted in a row of its own, and only where they have room they go out. Assumes nothing.
+-- `replay` meets its contract: the trace is judged, the offsets are noted in a row of its own, and only where they have room they go out.
+-- Assumes nothing.
 use mathlib.Core.Path.{_≡_, sym, ap, _∙_}
 use mathlib.Core.List.{List}
 use Prim.Native.Nat.{ℕ, _≤_}

@@ -1,4 +1,5 @@
--- `store` meets its contract. The loop's invariant: writing what is left of the row gives what the call is to leave. The measure is its length. Assumes nothing.
+-- `store` meets its contract. The loop's invariant: writing what is left of the row gives what the call is to leave. The measure is its
+-- length. Assumes nothing.
 use mathlib.Core.Path.{_≡_, refl, sym, ap, _∙_}
 use mathlib.Core.List.{List}
 use Prim.Native.Nat.{ℕ, _+_, _-_, _≤_, _<_}

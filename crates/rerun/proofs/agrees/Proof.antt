@@ -1,4 +1,5 @@
--- `agrees` meets its contract: the search gets the numbers of the record, cut to the cone's length, and points of that length. Assumes nothing.
+-- `agrees` meets its contract: the search gets the numbers of the record, cut to the cone's length, and points of that length. Assumes
+-- nothing.
 use mathlib.Core.Path.{_≡_, refl, sym, ap, _∙_}
 use mathlib.Core.List.{List}
 use Prim.Native.Nat.{ℕ, _≤_}

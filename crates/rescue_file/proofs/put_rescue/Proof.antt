@@ -1,4 +1,5 @@
--- `put_rescue` meets its contract: a file above the limit, an edition that is not known, and text and output of the answer. Assumes nothing.
+-- `put_rescue` meets its contract: a file above the limit, an edition that is not known, and text and output of the answer. Assumes
+-- nothing.
 use mathlib.Core.Path.{refl}
 use borrow.Author.Needs.{needs}
 use Rattle.rescue_file.proofs.Answers.{written, lengths, large-printed, large-written, other-printed, other-written, other-left}

@@ -1,5 +1,5 @@
--- `rescue` meets its contract: the trace is judged, its edition is chosen, its records are walked over, and only where no row applies they go out, list and
--- trailer behind them. Assumes nothing.
+-- `rescue` meets its contract: the trace is judged, its edition is chosen, its records are walked over, and only where no row applies they
+-- go out, list and trailer behind them. Assumes nothing.
 use mathlib.Core.Path.{_≡_, sym, ap, _∙_}
 use mathlib.Core.List.{List}
 use Prim.Native.Nat.{ℕ, _+_, _*_, _≤_}

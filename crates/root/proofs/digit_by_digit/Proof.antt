@@ -1,5 +1,5 @@
--- `digit_by_digit` meets its contract. The loop's invariant is `Turn`: what the digits passed and the rest hold is the number times 4^i. The measure
--- is the turns left.
+-- `digit_by_digit` meets its contract. The loop's invariant is `Turn`: what the digits passed and the rest hold is the number times 4^i.
+-- The measure is the turns left.
 -- Assumes nothing.
 use Prim.Native.Nat.{ℕ, _+_, _-_, _*_, _^_, _<_}
 use mathlib.Core.Path.{_≡_, sym, ap, subst, _∙_}

@@ -1,6 +1,7 @@
--- `near_root` meets its contract: a rest that passes a test is what the number under the root has over r (r - 1), and two tests are the two bounds of
--- the nearest root.
--- Nothing is used of the estimate: r is in range since it is a remainder and a constant. Where the check fails, the digits answer. Assumes nothing.
+-- `near_root` meets its contract: a rest that passes a test is what the number under the root has over r (r - 1), and two tests are the two
+-- bounds of the nearest root.
+-- Nothing is used of the estimate: r is in range since it is a remainder and a constant. Where the check fails, the digits answer. Assumes
+-- nothing.
 use borrow.Author.Needs.{needs}
 use mathlib.Core.Path.{_≡_, ap, _∙_}
 use Prim.Native.Nat.{ℕ, _+_, _-_, _*_, _/_, _%_, _^_, _≤_, _<_}

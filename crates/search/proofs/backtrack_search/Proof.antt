@@ -1,5 +1,5 @@
--- `backtrack_search` is the definition, trial by trial. The invariant is `Reached`: the trial α is allowed, and all before it failed. The measure is
--- what is left of `bound`. Assumes nothing.
+-- `backtrack_search` is the definition, trial by trial. The invariant is `Reached`: the trial α is allowed, and all before it failed. The
+-- measure is what is left of `bound`. Assumes nothing.
 use mathlib.Core.Path.{_≡_, refl, sym, ap, _∙_, subst}
 use mathlib.Core.Bool.{false}
 use mathlib.Core.List.{List}
@@ -35,8 +35,8 @@ abbrev problem : tie.Start Inv-loop μ-loop → Problem
 problem s =
     let a = s .args in problemIn (a .kind) (a .dim1) (now (a .exps)) (a .primal) (now (a .dq)) (now (a .q)) (a .how)
 
--- its settings are usable; that their numbers are doubles is known of every parameter, and stands in `good`: how is the seventh, start and smallest
--- are its first and third field
+-- its settings are usable; that their numbers are doubles is known of every parameter, and stands in `good`: how is the seventh, start and
+-- smallest are its first and third field
 usable : (s : tie.Start Inv-loop μ-loop) → Usable (s .args .how)
 usable s =
     let f = s .good .1 .1 .1 .1 .1 .1 .0 .1 .1 in

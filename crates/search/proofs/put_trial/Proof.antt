@@ -1,5 +1,5 @@
--- `put_trial` fills the lent slice from the front: after i turns its first i places are those of the trial's point. The measure is the places left.
--- Assumes nothing.
+-- `put_trial` fills the lent slice from the front: after i turns its first i places are those of the trial's point. The measure is the
+-- places left. Assumes nothing.
 use mathlib.Core.Path.{_≡_, sym, _∙_}
 use mathlib.Core.List.{List}
 use Prim.Native.Nat.{_-_, _<_}

@@ -1,5 +1,5 @@
--- `count_files` meets its contract. The loop's invariant: as many files as turns were read and added, and the slices keep their lengths. The measure is the count
--- of files left. Assumes nothing.
+-- `count_files` meets its contract. The loop's invariant: as many files as turns were read and added, and the slices keep their lengths.
+-- The measure is the count of files left. Assumes nothing.
 use mathlib.Core.Path.{_≡_, refl, _∙_}
 use mathlib.Core.List.{List, []}
 use Prim.Native.Nat.{ℕ, _-_, _≤_, _<_}

@@ -42,9 +42,12 @@ returns-2 c =
     let f = roomed k in
     let s = started f in
     let before = first-rows f in
-    let begun : Begun before = record { totals = refl; dual = f .before .before .count-room .ensures; primal = f .before .count-room2 .ensures } in
-    inr (sheet-printed (s .args .files) (now (s .args .text)) (p .put-sheet .last .0) before _ (s .pre .0) (s .pre .1) begun (f .flag-room .ensures)
-    (k .count-files .result .done) (not-false (k .count-files .result .done) (e .if1 .left)) (k .count-files .ensures) (p .put-sheet .result) (p .put-sheet .ensures))
+    let begun : Begun before =
+    record { totals = refl; dual = f .before .before .count-room .ensures; primal = f .before .count-room2 .ensures } in
+    inr (sheet-printed (s .args .files) (now (s .args .text)) (p .put-sheet .last .0) before _ (s .pre .0) (s .pre .1) begun
+    (f .flag-room .ensures)
+    (k .count-files .result .done) (not-false (k .count-files .result .done) (e .if1 .left)) (k .count-files .ensures)
+    (p .put-sheet .result) (p .put-sheet .ensures))
 
 pub put-files-spec : {M : Type 1} → statement M
 put-files-spec =

@@ -1,5 +1,5 @@
--- `put_exps` meets its contract. The loop's invariant: writing the lines that are left gives what the call is to leave, and no line was longer than 64 bytes.
--- The measure is the count of fields left. Assumes nothing.
+-- `put_exps` meets its contract. The loop's invariant: writing the lines that are left gives what the call is to leave, and no line was
+-- longer than 64 bytes. The measure is the count of fields left. Assumes nothing.
 use mathlib.Core.Path.{_≡_, ap, _∙_}
 use mathlib.Core.List.{_++_}
 use Prim.Native.Nat.{ℕ, _+_, _*_, _-_, _≤_, _<_}

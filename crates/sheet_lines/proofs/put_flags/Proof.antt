@@ -1,5 +1,5 @@
--- `put_flags` meets its contract. The loop's invariant: writing the lines that are left gives what the call is to leave, and no line was longer than 64 bytes.
--- The measure is the count of files left. Assumes nothing.
+-- `put_flags` meets its contract. The loop's invariant: writing the lines that are left gives what the call is to leave, and no line was
+-- longer than 64 bytes. The measure is the count of files left. Assumes nothing.
 use mathlib.Core.Path.{_≡_, refl, sym, ap, _∙_}
 use Prim.Native.Nat.{ℕ, _+_, _*_, _-_, _≤_, _<_}
 use native.Mathlib.Omega.{arith}

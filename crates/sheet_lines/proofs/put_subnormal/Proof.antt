@@ -51,7 +51,8 @@ returns c =
     (nameOf (a .primal)) (lineOf subnormalWord (a .n))
     (p .put-name .ensures)
     (wrote-as (p .put-name .last .0) (r .put-line .last .0) (p .put-name .result) (r .put-line .result) (line-behind sub normal (a .n))
-    (and-then (p .put-name .last .0) (q .put .last .0) (r .put-line .last .0) (p .put-name .result) (p .put-name .result + 3) (r .put-line .result)
+    (and-then (p .put-name .last .0) (q .put .last .0) (r .put-line .last .0) (p .put-name .result) (p .put-name .result + 3)
+    (r .put-line .result)
     sub (lineOf normal (a .n)) (refl, q .put .ensures) (r .put-line .ensures))))
 
 pub put-subnormal-spec : {M : Type 1} → statement M

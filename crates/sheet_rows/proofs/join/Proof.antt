@@ -47,7 +47,8 @@ returns c =
     let j = c .before .before in
     with-totals (first j) (c .refused .ensures)
     ∙ refused (joinCode (first j) (second j)) (j .join-code .result)
-    (holding (first j) (sheetsAdded (sheetIn (first j)) (sheetIn (second j)))) (refuse (first j)) (j .join-code .ensures) (c .before .if1 .taken)
+    (holding (first j) (sheetsAdded (sheetIn (first j)) (sheetIn (second j)))) (refuse (first j)) (j .join-code .ensures)
+    (c .before .if1 .taken)
 
 sum-requires : tie.Need-sum-requires
 sum-requires c κs = let f = fit (c .before) in (f .first .dual ∙ sym (f .second .dual), f .dual)
@@ -68,7 +69,8 @@ copy-requires c κs =
 
 joined-totals-requires : tie.Need-joined-totals-requires
 joined-totals-requires c κs =
-    let f = fit (c .before .before .before .before .before .before .before .before .before .before .before .before .before .before .before) in
+    let f = fit
+    (c .before .before .before .before .before .before .before .before .before .before .before .before .before .before .before) in
     record { files = f .files; dual = f .dual-file; primal = f .primal-file; records = f .records }
 
 abbrev copied : tie.After-joined-totals → tie.After-copy
@@ -90,7 +92,8 @@ returns-2 c =
     let j = e .before in
     let a = first j in
     let b = second j in
-    through (joinCode a b) (j .join-code .result) (holding a (sheetsAdded (sheetIn a) (sheetIn b))) (refuse a) (j .join-code .ensures) (e .if1 .left)
+    through (joinCode a b) (j .join-code .result) (holding a (sheetsAdded (sheetIn a) (sheetIn b))) (refuse a) (j .join-code .ensures)
+    (e .if1 .left)
     (with-rows (c .joined-totals .ensures) (d .sum .ensures) (p .sum2 .ensures)
     (k .copy .ensures ∙ ap (sets (a .skipped) (a .totals .files)) (k .before .front .ensures))
     ∙ joined a b (fit e))

@@ -1,4 +1,5 @@
--- `spills` meets its contract. The loop's invariant: the answer is that of the places from here on. The measure is their count. Assumes nothing.
+-- `spills` meets its contract. The loop's invariant: the answer is that of the places from here on. The measure is their count. Assumes
+-- nothing.
 use mathlib.Core.Path.{_≡_, refl, sym, _∙_}
 use Prim.Native.Nat.{_-_, _≤_, _<_, _+_}
 use native.Mathlib.Omega.{arith}
@@ -52,7 +53,8 @@ loop-again c =
     let s = c .before in
     let l = turn (one-more s) in
     let a = given l .args in
-    let room : getD (a .row .now) (l .loop .i) 0 + getD (a .more .now) (l .loop .i) 0 ≤ most = omega (arith, c .if2 .left, s .before .shared-slice-known .given (l .loop .i)) in
+    let room : getD (a .row .now) (l .loop .i) 0 + getD (a .more .now) (l .loop .i) 0 ≤ most =
+    omega (arith, c .if2 .left, s .before .shared-slice-known .given (l .loop .i)) in
     (omega (arith, early s), refl, fitted (a .row .now) (a .more .now) (l .loop .i) (early s) (others s) room ∙ l .loop .inv .2)
 
 returns-3 : tie.Need-returns-3 Inv-loop μ-loop

@@ -1,4 +1,5 @@
--- `sum` meets its contract. The loop's invariant: the first i places hold the sum. The measure is the count of those that are left. Assumes nothing.
+-- `sum` meets its contract. The loop's invariant: the first i places hold the sum. The measure is the count of those that are left. Assumes
+-- nothing.
 use mathlib.Core.Path.{_≡_, refl, ap}
 use Prim.Native.Nat.{ℕ, _+_, _-_, _≤_, _<_}
 use native.Mathlib.Omega.{arith}

@@ -1,4 +1,5 @@
--- `put_sheet` meets its contract: the sheet is judged, and only where no row applies its three parts are written, one behind the other. Assumes nothing.
+-- `put_sheet` meets its contract: the sheet is judged, and only where no row applies its three parts are written, one behind the other.
+-- Assumes nothing.
 use mathlib.Core.Path.{_≡_, sym, ap, _∙_}
 use mathlib.Core.Bool.{Bool, false, true, not}
 use mathlib.Core.List.{List}

@@ -1,5 +1,5 @@
--- `one_file` meets its contract: a file above the limit or a broken one leaves the rows as they were, which are fresh; of another both sides are counted.
--- Assumes nothing.
+-- `one_file` meets its contract: a file above the limit or a broken one leaves the rows as they were, which are fresh; of another both
+-- sides are counted. Assumes nothing.
 use mathlib.Core.Path.{_≡_, ap, _∙_}
 use mathlib.Core.Bool.{true, false}
 use mathlib.Core.List.{List}

@@ -1,5 +1,5 @@
--- `tally_side` meets its contract. The loop's invariant: what was counted and what is left are the whole. The measure is the count of records that may
--- still come. Assumes nothing.
+-- `tally_side` meets its contract. The loop's invariant: what was counted and what is left are the whole. The measure is the count of
+-- records that may still come. Assumes nothing.
 use mathlib.Core.Path.{_≡_, sym, ap, _∙_}
 use mathlib.Core.Bool.{Bool, true, cond}
 use mathlib.Core.List.{List}
@@ -16,7 +16,8 @@ use Rattle.trace_layout.specs.Records.{kindAt, dim1At, dim2At, flagAt, laidAt, 
 use Rattle.trace_layout.proofs.Records.{size-least}
 use Rattle.sheet_counts.specs.declared.Largest.{Largest}
 use Rattle.sheet_counts.specs.Counts.{placeOf, places, counted, largerOf}
-use Rattle.sheet_trace.proofs.Tallying.{Reached, begun, reached-as, turn-inside, has-place, turned, all-counted, all-told, none-laid, none-more}
+use Rattle.sheet_trace.proofs.Tallying.{Reached, begun, reached-as, turn-inside, has-place}
+use Rattle.sheet_trace.proofs.Tallying.{turned, all-counted, all-told, none-laid, none-more}
 use Rattle.sheet_trace.proofs.tally_side.Statement.{statement}
 use Rattle.sheet_trace.proofs.tally_side.Tie as tie
 
@@ -95,12 +96,14 @@ module _ (c : tie.After-tests-at Inv-loop μ-loop) where
   step-is : step ≡ cond (p at-shape) (wordAt 8 (rest loop) (n - 12)) (wordAt 8 (rest loop) (n - 24))
   step-is =
       c .before .step-at .ensures
-      ∙ ap (λ (t : List ℕ). cond (p at-shape) (wordAt 8 t (n - 12)) (wordAt 8 t (n - 24))) (at-shape .before .before .before .behind .ensures)
+      ∙ ap (λ (t : List ℕ). cond (p at-shape) (wordAt 8 t (n - 12)) (wordAt 8 t (n - 24)))
+      (at-shape .before .before .before .behind .ensures)
 
   tests-is : tests ≡ cond (p at-shape) (wordAt 4 (rest loop) (n - 4)) (wordAt 4 (rest loop) (n - 16))
   tests-is =
       c .tests-at .ensures
-      ∙ ap (λ (t : List ℕ). cond (p at-shape) (wordAt 4 t (n - 4)) (wordAt 4 t (n - 16))) (at-shape .before .before .before .behind .ensures)
+      ∙ ap (λ (t : List ℕ). cond (p at-shape) (wordAt 4 t (n - 4)) (wordAt 4 t (n - 16)))
+      (at-shape .before .before .before .behind .ensures)
 
   placed : placeOf step < places
   placed =

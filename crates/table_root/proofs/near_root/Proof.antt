@@ -1,5 +1,5 @@
--- `near_root` meets its contract: the calls are the steps of the definition, each on the guess that the one before it leaves, and the test tells whether
--- it takes the fourth. Assumes nothing.
+-- `near_root` meets its contract: the calls are the steps of the definition, each on the guess that the one before it leaves, and the test
+-- tells whether it takes the fourth. Assumes nothing.
 use mathlib.Core.Path.{_≡_, sym, ap, subst, _∙_}
 use Prim.Native.Nat.{ℕ, _+_, _^_, _≤_, _<_}
 use native.Mathlib.Omega.{arith}

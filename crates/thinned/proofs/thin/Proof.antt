@@ -1,5 +1,5 @@
--- `thin` meets its contract: the trace is judged and the first of each kind are chosen; only where no row applies they go out, list and trailer behind them.
--- Assumes nothing.
+-- `thin` meets its contract: the trace is judged and the first of each kind are chosen; only where no row applies they go out, list and
+-- trailer behind them. Assumes nothing.
 use mathlib.Core.Path.{_≡_, sym, ap, _∙_}
 use mathlib.Core.Bool.{true}
 use mathlib.Core.List.{List}

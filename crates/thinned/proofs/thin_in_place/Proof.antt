@@ -1,5 +1,5 @@
--- `thin_in_place` meets its contract: a good trace has its first of each kind chosen and moved down, list and trailer put behind them, and the rest cleared.
--- Assumes nothing.
+-- `thin_in_place` meets its contract: a good trace has its first of each kind chosen and moved down, list and trailer put behind them, and
+-- the rest cleared. Assumes nothing.
 use mathlib.Core.Path.{_≡_, refl, sym, ap, _∙_}
 use mathlib.Core.Bool.{true}
 use mathlib.Core.List.{List}

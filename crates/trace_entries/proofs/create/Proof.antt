@@ -1,4 +1,5 @@
--- `create` meets its contract: fewer than twenty bytes stay as they are; else the trailer is stored, which is the trace of no record. Assumes nothing.
+-- `create` meets its contract: fewer than twenty bytes stay as they are; else the trailer is stored, which is the trace of no record.
+-- Assumes nothing.
 use Rattle.words.specs.Words.{le}
 use Rattle.words.specs.Runs.{runsBytes}
 use Prim.Native.Nat.{ℕ}

@@ -1,4 +1,5 @@
--- `has_room` meets its contract: where no room is left for an entry the sum does not fit; else the test of the sum is moved to the other side. Assumes nothing.
+-- `has_room` meets its contract: where no room is left for an entry the sum does not fit; else the test of the sum is moved to the other
+-- side. Assumes nothing.
 use Rattle.trace_places.proofs.Room.{and-off, leb-moved}
 use Rattle.trace_places.specs.Places.{hasRoom}
 use lib.Dec.{ltb}

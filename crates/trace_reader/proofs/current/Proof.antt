@@ -1,5 +1,5 @@
--- `current` meets its contract: a walk of its MIR by hand. One copy of the `Reader` is taken apart for `found_from`, the other is kept for the exit.
--- All that the proof knows of `found_from` is its contract. Assumes nothing.
+-- `current` meets its contract: a walk of its MIR by hand. One copy of the `Reader` is taken apart for `found_from`, the other is kept for
+-- the exit. All that the proof knows of `found_from` is its contract. Assumes nothing.
 use mathlib.Core.Path.{_≡_, refl}
 use Prim.Native.Nat.{_<_, _^_}
 use mathlib.Core.List.{[], _∷_}

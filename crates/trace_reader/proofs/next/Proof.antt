@@ -1,5 +1,6 @@
--- `next` meets its contract: a walk of its MIR by hand. One copy of the `Reader` is taken apart for `place_after`; the `Reader` that is handed back is made of
--- the slice of the other and of the number that the call answers. All that the proof knows of `place_after` is its contract. Assumes nothing.
+-- `next` meets its contract: a walk of its MIR by hand. One copy of the `Reader` is taken apart for `place_after`; the `Reader` that is
+-- handed back is made of the slice of the other and of the number that the call answers. All that the proof knows of `place_after` is its
+-- contract. Assumes nothing.
 use mathlib.Core.Path.{_≡_, refl, ap}
 use Prim.Native.Nat.{ℕ, _<_, _^_}
 use mathlib.Core.List.{List, [], _∷_}

@@ -1,5 +1,5 @@
--- `place` meets its contract: a walk of its MIR by hand. The second field is copied to the result; that the number fits is in the struct's relation.
--- Assumes nothing.
+-- `place` meets its contract: a walk of its MIR by hand. The second field is copied to the result; that the number fits is in the struct's
+-- relation. Assumes nothing.
 use mathlib.Core.Path.{refl}
 use Prim.Native.Nat.{_<_, _^_}
 use mathlib.Core.List.{[], _∷_}

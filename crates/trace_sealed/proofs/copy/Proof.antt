@@ -1,5 +1,5 @@
--- `copy` meets its contract. The loop's invariant: writing the bytes that are left gives what the call is to leave. The measure is their count.
--- Assumes nothing.
+-- `copy` meets its contract. The loop's invariant: writing the bytes that are left gives what the call is to leave. The measure is their
+-- count. Assumes nothing.
 use mathlib.Core.Path.{_≡_, refl, sym, ap, _∙_}
 use mathlib.Core.List.{List}
 use Prim.Native.Nat.{ℕ, _+_, _-_, _≤_}

@@ -1,5 +1,5 @@
--- `walk` meets its contract. The loop's invariant: what was walked and what is left are the whole walk. The measure is the count of records that may
--- still come. Assumes nothing.
+-- `walk` meets its contract. The loop's invariant: what was walked and what is left are the whole walk. The measure is the count of records
+-- that may still come. Assumes nothing.
 use mathlib.Core.Path.{_≡_, sym, ap, _∙_}
 use mathlib.Core.Bool.{true}
 use mathlib.Core.List.{List}

@@ -1,5 +1,5 @@
--- `left` meets its contract: a difference is told where the upper halves are equal, or one apart with a borrow; every other is below 0 or does not
--- fit. Assumes nothing.
+-- `left` meets its contract: a difference is told where the upper halves are equal, or one apart with a borrow; every other is below 0 or
+-- does not fit. Assumes nothing.
 use Prim.Native.Nat.{_^_}
 use native.Mathlib.Omega.{arith}
 use borrow.Author.Needs.{needs}

@@ -1,4 +1,5 @@
--- `cholesky_3x3_explicit_factor` meets its contract: each pivot's test picks the definition's branch, and each root is the kernel's. Assumes nothing.
+-- `cholesky_3x3_explicit_factor` meets its contract: each pivot's test picks the definition's branch, and each root is the kernel's.
+-- Assumes nothing.
 use mathlib.Core.Path.{refl, ap, _∙_}
 use Rattle.arith.proofs.Branches.{taken, left}
 use Rattle.algebra.specs.Cholesky.{factorOf, withFirst, withSecond, withThird}

@@ -1,4 +1,5 @@
--- `dot` meets its contract: after i turns the loop holds the sum of the first i products. The measure is what is left of the shorter length. Assumes nothing.
+-- `dot` meets its contract: after i turns the loop holds the sum of the first i products. The measure is what is left of the shorter
+-- length. Assumes nothing.
 use Prim.Native.Nat.{_≤_, _-_, min}
 use mathlib.Core.Path.{_≡_}
 use lib.ListN.{length}

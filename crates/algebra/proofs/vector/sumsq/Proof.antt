@@ -1,4 +1,5 @@
--- `sumsq` meets its contract: after i turns the loop holds the first i terms' sum. The measure is what is left of the length. Assumes nothing.
+-- `sumsq` meets its contract: after i turns the loop holds the first i terms' sum. The measure is what is left of the length. Assumes
+-- nothing.
 use Prim.Native.Nat.{_≤_, _-_}
 use mathlib.Core.Path.{_≡_}
 use lib.ListN.{length}

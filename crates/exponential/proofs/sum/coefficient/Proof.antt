@@ -1,4 +1,5 @@
--- `coefficient` meets its contract: each arm is the definition computed at its index. In the last arm i is below 21 and none of the others. Assumes nothing.
+-- `coefficient` meets its contract: each arm is the definition computed at its index. In the last arm i is below 21 and none of the others.
+-- Assumes nothing.
 use Rattle.arith.proofs.Tables.{last-arm}
 use Rattle.exponential.specs.Steps.{coefficient}
 use Rattle.exponential.proofs.sum.coefficient.Statement.{statement}

@@ -1,5 +1,5 @@
--- `sum` meets its contract. Invariant: v is the sum of the terms from i on; measure: i. That no thirdIn53 overflows is the bound of the whole sum.
--- Assumes nothing.
+-- `sum` meets its contract. Invariant: v is the sum of the terms from i on; measure: i. That no thirdIn53 overflows is the bound of the
+-- whole sum. Assumes nothing.
 use mathlib.Core.Path.{_≡_, sym, _∙_, ap}
 use Prim.Native.Nat.{ℕ, suc, _+_, _-_, _*_, _/_, _^_, _≤_, _<_}
 use native.Mathlib.Omega.{arith}

@@ -1,5 +1,5 @@
--- `all_above_zero` meets its contract: after i turns the loop holds whether the first i numbers are above 0. The measure is what is left of the
--- length. Assumes nothing.
+-- `all_above_zero` meets its contract: after i turns the loop holds whether the first i numbers are above 0. The measure is what is left of
+-- the length. Assumes nothing.
 use Prim.Native.Nat.{_-_, _≤_}
 use mathlib.Core.Bool.{true}
 use mathlib.Core.Path.{_≡_}

@@ -1,5 +1,5 @@
--- `less_logs` meets its contract: after i turns the loop holds the start less the first i terms. The measure is what is left of the shorter length.
--- Assumes nothing.
+-- `less_logs` meets its contract: after i turns the loop holds the start less the first i terms. The measure is what is left of the shorter
+-- length. Assumes nothing.
 use Prim.Native.Nat.{_-_, _≤_, min}
 use mathlib.Core.Path.{_≡_}
 use native.Mathlib.Omega.{arith}

@@ -1,5 +1,5 @@
--- `primal_phi` meets its contract: after i turns the loop holds the product of the first i powers. The measure is what is left of the shorter length.
--- Assumes nothing.
+-- `primal_phi` meets its contract: after i turns the loop holds the product of the first i powers. The measure is what is left of the
+-- shorter length. Assumes nothing.
 use Prim.Native.Nat.{_-_, _≤_, min}
 use mathlib.Core.Path.{_≡_}
 use native.Mathlib.Omega.{arith}

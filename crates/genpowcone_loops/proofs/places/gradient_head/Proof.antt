@@ -1,4 +1,5 @@
--- `gradient_head` meets its contract: after i turns the first i places are written. The measure is what is left of the shorter length. Assumes nothing.
+-- `gradient_head` meets its contract: after i turns the first i places are written. The measure is what is left of the shorter length.
+-- Assumes nothing.
 use Prim.Native.Nat.{_-_, _≤_, min}
 use mathlib.Core.Path.{_≡_}
 use native.Mathlib.Omega.{arith}

@@ -1,4 +1,5 @@
--- `product_head` meets its contract: after i turns the first i places are written. The measure is what is left of the count. Assumes nothing.
+-- `product_head` meets its contract: after i turns the first i places are written. The measure is what is left of the count. Assumes
+-- nothing.
 use Prim.Native.Nat.{_-_, _≤_}
 use mathlib.Core.Path.{_≡_}
 use native.Mathlib.Omega.{arith}

@@ -1,4 +1,5 @@
--- `product_tail` meets its contract: after j turns the first j places of the tail are written. The measure is what is left of the count. Assumes nothing.
+-- `product_tail` meets its contract: after j turns the first j places of the tail are written. The measure is what is left of the count.
+-- Assumes nothing.
 use Prim.Native.Nat.{_-_, _≤_}
 use mathlib.Core.Path.{_≡_}
 use native.Mathlib.Omega.{arith}

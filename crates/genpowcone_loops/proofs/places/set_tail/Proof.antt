@@ -1,4 +1,5 @@
--- `set_tail` meets its contract: after j turns the first j places of the tail are written. The measure is what is left of the count. Assumes nothing.
+-- `set_tail` meets its contract: after j turns the first j places of the tail are written. The measure is what is left of the count.
+-- Assumes nothing.
 use Prim.Native.Nat.{_-_, _≤_}
 use mathlib.Core.Path.{_≡_}
 use native.Mathlib.Omega.{arith}

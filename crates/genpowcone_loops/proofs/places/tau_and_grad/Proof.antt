@@ -1,5 +1,5 @@
--- `tau_and_grad` meets its contract: after i turns the first i places of both arrays are written. The measure is what is left of the shorter length.
--- Assumes nothing.
+-- `tau_and_grad` meets its contract: after i turns the first i places of both arrays are written. The measure is what is left of the
+-- shorter length. Assumes nothing.
 use Prim.Native.Nat.{_-_, _≤_, min}
 use mathlib.Core.List.{List}
 use mathlib.Core.Path.{_≡_, ap₂}

@@ -1,4 +1,5 @@
--- `times_from` meets its contract: after j turns j places are written from place n on. The measure is what is left of the count. Assumes nothing.
+-- `times_from` meets its contract: after j turns j places are written from place n on. The measure is what is left of the count. Assumes
+-- nothing.
 use Prim.Native.Nat.{_-_, _≤_}
 use mathlib.Core.Path.{_≡_}
 use native.Mathlib.Omega.{arith}

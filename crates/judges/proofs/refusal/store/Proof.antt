@@ -1,4 +1,5 @@
--- `store` meets its contract. The loop's invariant: the first i places hold the answer's. The measure is what is left of the slice. Assumes nothing.
+-- `store` meets its contract. The loop's invariant: the first i places hold the answer's. The measure is what is left of the slice. Assumes
+-- nothing.
 use mathlib.Core.Path.{_≡_, refl}
 use Prim.Native.Nat.{_≤_, _-_}
 use native.Mathlib.Omega.{arith}

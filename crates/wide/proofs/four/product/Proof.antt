@@ -1,5 +1,5 @@
--- `four::product` meets its contract: each partial product leaves room for the digits that are added to it, and together they are the product.
--- Assumes nothing.
+-- `four::product` meets its contract: each partial product leaves room for the digits that are added to it, and together they are the
+-- product. Assumes nothing.
 use native.Mathlib.Omega.{arith}
 use borrow.Author.Needs.{needs}
 use Rattle.wide.proofs.PartialProducts.{room, four-products}

@@ -1,5 +1,5 @@
--- What the program's loop leaves of the files that it reads. What stands in them the system says: a contract can say only that there are
--- such files. 02, Order 14. Definitions only.
+-- What the program leaves of the files that it is given. What stands in them is no argument of a function: a contract can say that there are
+-- files of which this is the sheet, and not that they are those that the system hands over. 02, Order 14. Definitions only.
 use Prim.Native.Nat.{ℕ, _≤_}
 use mathlib.Core.Path.{_≡_}
 use mathlib.Core.Bool.{Bool, true}
@@ -13,14 +13,14 @@ use Rattle.sheet_rows.specs.Rows.{Held}
 use Rattle.sheet_rows.specs.Sums.{addAll}
 use Rattle.sheet_text.specs.Printed.{sheetText}
 
--- so many files were read, and added one by one
+-- so many files, each of bytes, were added one by one
 pub record Added (n : ℕ) (before after : Held) : Type 0 where
   pub files : List (List ℕ)
   pub bytes : AllBytes files
   pub all : length files ≡ n
   pub held : after ≡ addAll before files
 
--- .. as many as asked for, where every one was read
+-- .. as many as asked for, where every one could be read
 pub record FilesCounted (asked : ℕ) (done : Bool) (before after : Held) : Type 0 where
   pub n : ℕ
   pub few : n ≤ asked
@@ -35,6 +35,6 @@ pub record SheetPrinted (asked n : ℕ) (old new : List ℕ) : Type 0 where
   pub end : n ≡ length (sheetText (sheetOf files))
   pub text : new ≡ sets old 0 (sheetText (sheetOf files))
 
--- .. or nothing, where one was not read
+-- .. or nothing, where one could not be read
 abbrev pub FilesPrinted : ℕ → ℕ → List ℕ → List ℕ → Type 0
 FilesPrinted asked n old new = ((n ≡ 0) × (new ≡ old)) ⊎ SheetPrinted asked n old new

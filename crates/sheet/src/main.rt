@@ -1,7 +1,7 @@
 // sheet FILE ..: the monthly sheet of traces, files numbered from 1 as given. 02, Order 14. It reads, calls and writes; what it prints is
-// `sheetText` of the crate sheet_text of `sheetOf` of the crate sheet_counts, of the files that were read: `put_files` says so. A file that
-// cannot be read is said in one line, and then no sheet is printed. Where there are many files, a line on standard error tells how far it
-// is. One file at a time, the rows and the text lie on the stack.
+// `sheetText` of the crate sheet_text of `sheetOf` of the crate sheet_counts, by the contract of `put_files`. A file that cannot be read is
+// said in one line, and then no sheet is printed. Where there are many files, a line on standard error tells how far it is. One file at a
+// time, the rows and the text lie on the stack.
 ghost use mathlib.Core.Path.{_≡_};
 ghost use mathlib.Core.List.{[]};
 ghost use Prim.Native.Nat.{_≤_};
@@ -87,8 +87,8 @@ struct Counted {
     totals: Totals,
 }
 
-// The files one after the other, each into the same room. What stands in them is no argument: the contract says that there are such files,
-// and what their rows hold.
+// The files one after the other, each into the same room. What stands in them is no argument, so that the contract says of some files what
+// the rows hold.
 fn count_files(
     files: usize,
     file: &mut [u8],
@@ -115,7 +115,7 @@ fn count_files(
     Counted { done: true, totals }
 }
 
-// The text of their sheet, and its length; 0 where one was not read.
+// The text of their sheet, and its length; 0 where one could not be read.
 fn put_files(files: usize, text: &mut [u8]) -> usize
     requires { ⌜ (files ≤ 1000) × (textRoom ≤ length (now text)) ⌝ }
     ensures { λ r. ⌜ FilesPrinted files r (now (text .entry)) (now (text .exit)) ⌝ }

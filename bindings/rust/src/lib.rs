@@ -24,8 +24,8 @@
 //! A call that is refused changes nothing that it was lent: slices keep their contents, a record stays as it was. The numbers of a
 //! [`Refusal`] are those of the library's scope document. No call allocates, and none panics.
 //!
-//! The library is x86-64 alone. Structs pass by value: a call with a [`Scaling`] copies its 2,744 bytes, and takes up to 25 KB of stack, as
-//! bench/run says; [`thin`] and [`thin_in_place`] take 66 KB, [`Trace::replay`] 42, [`rescue`] and [`Sheet::add`] 33.
+//! The library is x86-64 alone. Structs pass by value: a call with a [`Scaling`] copies its 2,744 bytes. The calls of a round take up to
+//! 25 KB of stack each, as bench/run measures them; [`thin`] and [`thin_in_place`] take 66 KB, [`Trace::replay`] 42, [`rescue`] and [`Sheet::add`] 33.
 //!
 //! Why the calls are safe to make: the library takes every number, length and code and answers all of them; a lent slice is the pointer and
 //! length of a Rust slice, read or written within that length alone; and the borrows keep the slices of one call from overlapping, which is

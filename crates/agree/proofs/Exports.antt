@@ -31,6 +31,7 @@ use Rattle.spindle.proofs.spindle_house_strategy.Reads as house-strategy
 use Rattle.spindle.proofs.spindle_backtrack_search.Reads as backtrack-search
 use Rattle.spindle.proofs.spindle_step_length.Reads as step-length
 use Rattle.spindle.proofs.spindle_common_step.Reads as common-step
+use Rattle.spindle.proofs.spindle_plan_step.Reads as plan-step
 use Rattle.spindle.proofs.spindle_unit_initialization.Reads as unit-initialization
 use Rattle.spindle.proofs.spindle_rectify_equilibration.Reads as rectify-equilibration
 use Rattle.spindle.proofs.spindle_affine_ds.Reads as affine-ds
@@ -97,6 +98,10 @@ step-length-agrees κs a x y s t p q = two {A = Steps} (p ∙ sym q)
 
 pub common-step-agrees : OneOutcome common-step.Post {A = List Float} (λ κs s. now (s .1 .1 .1 .1 .0))
 common-step-agrees κs a x y s t p q = one {A = Found} (p ∙ sym q)
+
+pub plan-step-agrees :
+    OneOutcome plan-step.Post {A = List Float × List Float} (λ κs s. (now (s .1 .1 .1 .1 .1 .0), now (s .1 .1 .1 .1 .1 .1 .0)))
+plan-step-agrees κs a x y s t p q = two {A = Found} (p ∙ sym q)
 
 pub unit-initialization-agrees :
     OneOutcome unit-initialization.Post {A = List Float × List Float} (λ κs s. (now (s .1 .0), now (s .1 .1 .0)))

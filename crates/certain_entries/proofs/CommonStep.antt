@@ -1,7 +1,7 @@
 -- Order 12 of the common step: where the step is not +0 every cone of the list has passed on its part of the point, and that part is the
 -- point of a trial of the cone alone. Assumes nothing.
 use mathlib.Core.Path.{_≡_, refl, ap, _∙_}
-use mathlib.Core.Bool.{Bool}
+use mathlib.Core.Bool.{Bool, true}
 use mathlib.Core.List.{List}
 use Prim.Native.Nat.{ℕ, zero, suc, _<_}
 use lib.Ieee.{Float}
@@ -15,30 +15,36 @@ use Rattle.trials.specs.Costed.{costedOf}
 use Rattle.kinds.specs.Answers.{answerOf}
 use Rattle.kinds.specs.Passes.{passesIn}
 use Rattle.search_entries.specs.Entries.{found, refuseFound}
-use Rattle.plan.specs.Plans.{planProblem, planOf}
+use Rattle.search.specs.Points.{trialPoint}
+use Rattle.plan.specs.Plans.{allPass, planProblem, planOf}
 use Rattle.plan.specs.EachCone.{coneAt, partOf}
 use Rattle.plan.proofs.EachCone.{tested-in-order, parts-of-trials}
 use Rattle.plan_entries.specs.Rows.{planRows}
 use Rattle.plan_entries.specs.Entries.{commonStepOf}
 use Rattle.plan_entries.proofs.LetThrough.{plannable}
+use Rattle.certain_entries.specs.Points.{AllInRange, ExactlyInside}
 use Rattle.certain_entries.specs.Searches.{StepCertain, CommonStepCertain}
 use Rattle.certain_entries.proofs.Tests.{yes-inside}
 use Rattle.certain_entries.proofs.Searches.{searched, point-of, yes-of}
 
-module _ (cs : List Cone) (i : ℕ) (here : i < length cs) (one : coneAt cs i .kind ≡ 1)
-    (primal : Bool) (dq q : List Float) (s : Settings) where
-  part-certain : length dq ≡ length q
+module _ (cs : List Cone) (i : ℕ) (here : i < length cs) (one : coneAt cs i .kind ≡ 1) where
+  -- all pass at the point of a trial, so this one does on its part
+  pub part-inside : (primal : Bool) (dq q : List Float) (α : Float) (p : List Float) → length dq ≡ length q → p ≡ trialPoint q dq α
+      → allPass cs primal p ≡ true → AllInRange (partOf cs i p) → ExactlyInside primal (partOf cs i p)
+  unfolding passesIn
+  part-inside primal dq q α p same is passed r =
+      let part = partOf cs i p in
+      let moved = ap (partOf cs i) is ∙ parts-of-trials cs i q dq α same in
+      let passes = tested-in-order cs primal p .each-if-all passed i here in
+      yes-inside (coneAt cs i) one primal part (point-of (partOf cs i q) α (partOf cs i dq) part moved r)
+      (yes-of (answerOf (coneAt cs i) primal part) passes)
+
+  part-certain : (primal : Bool) (dq q : List Float) (s : Settings) → length dq ≡ length q
       → let o = searchOf (planProblem cs primal dq q s) in
       StepCertain primal (o .step) (partOf cs i (o .point))
-  unfolding passesIn
-  part-certain same h r =
-      let o = searchOf (planProblem cs primal dq q s) in
+  part-certain primal dq q s same h =
       let t = searched (planProblem cs primal dq q s) h in
-      let part = partOf cs i (o .point) in
-      let is = ap (partOf cs i) (t .is) ∙ parts-of-trials cs i q dq (o .step) same in
-      let passes = tested-in-order cs primal (o .point) .each-if-all (t .passes) i here in
-      yes-inside (coneAt cs i) one primal part (point-of (partOf cs i q) (o .step) (partOf cs i dq) part is r)
-      (yes-of (answerOf (coneAt cs i) primal part) passes)
+      part-inside primal dq q _ _ same (t .is) (t .passes)
 
 -- k is the number of the call's rows
 pub common-step-certain : CommonStepCertain

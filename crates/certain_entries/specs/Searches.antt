@@ -1,5 +1,5 @@
 -- Order 12 of the searches: a step other than zero hands back a point that lies exactly inside. Of the definitions that the contracts of
--- the three calls name. Definitions only; proofs/Searches and proofs/CommonStep prove it. A refused call has the step +0.
+-- the four calls name. Definitions only; proofs/Searches, proofs/CommonStep and proofs/PlanStep prove it. A refused call has the step +0.
 use Prim.Native.Nat.{ℕ, _<_}
 use mathlib.Core.Path.{_≡_}
 use mathlib.Core.Bool.{Bool, true, false}
@@ -9,11 +9,12 @@ use lib.ListN.{length}
 use Rattle.double.specs.Numbers.{#0}
 use Rattle.cone.specs.declared.Cone.{Cone}
 use Rattle.cone.specs.declared.Settings.{Settings}
+use Rattle.cone.specs.declared.Found.{Found}
 use Rattle.cone.specs.declared.Steps.{Steps}
 use Rattle.judges.specs.Refusals.{LentTwo}
 use Rattle.search_entries.specs.Entries.{backtrackSearchOf, stepLengthOf}
 use Rattle.plan.specs.EachCone.{coneAt, partOf}
-use Rattle.plan_entries.specs.Entries.{commonStepOf}
+use Rattle.plan_entries.specs.Entries.{commonStepOf, planStepOf}
 use Rattle.certain_entries.specs.Points.{AllInRange, ExactlyInside}
 
 -- a step with the point that is handed back beside it
@@ -43,3 +44,14 @@ CommonStepCertain =
     (cs : List Cone) (i : ℕ) → i < length cs → coneAt cs i .kind ≡ 1 → (primal : Bool) (dq q point : List Float) (s : Settings)
     → let l = commonStepOf cs primal dq q point s in
     StepCertain primal (l .answer .step) (partOf cs i (l .slice))
+
+-- one step for both sides of a plan: such a cone on both of its parts
+pub record PartsCertain (cs : List Cone) (i : ℕ) (l : LentTwo Found) : Type 0 where
+  pub dual-side : StepCertain false (l .answer .step) (partOf cs i (l .first))
+  pub primal-side : StepCertain true (l .answer .step) (partOf cs i (l .second))
+
+abbrev pub PlanStepCertain : Type 0
+PlanStepCertain =
+    (cs : List Cone) (i : ℕ) → i < length cs → coneAt cs i .kind ≡ 1
+    → (dz ds z s dualPoint primalPoint : List Float) (settings : Settings)
+    → PartsCertain cs i (planStepOf cs dz ds z s dualPoint primalPoint settings)

@@ -4,10 +4,13 @@ use mathlib.Core.List.{List}
 use lib.Ieee.{Float}
 use denote.Ref.{now}
 use Rattle.arith.specs.Outcomes.{OneAnswer, OneOutcome}
+use Rattle.judges.proofs.Outcomes.{two}
+use Rattle.search.specs.declared.Searched.{Searched}
 use Rattle.search.proofs.Agree.{searched}
 use Rattle.plan.proofs.plan_ok.Reads as plan-ok
 use Rattle.plan.proofs.total.Reads as total
 use Rattle.plan.proofs.common_search.Reads as common-search
+use Rattle.plan.proofs.sides_search.Reads as sides-search
 
 pub plan-ok-agrees : OneAnswer plan-ok.Post
 plan-ok-agrees κs a x y s t p q = p ∙ sym q
@@ -18,3 +21,8 @@ total-agrees κs a x y s t p q = p ∙ sym q
 -- the point is the sixth argument
 pub common-search-agrees : OneOutcome common-search.Post {A = List Float} (λ κs s. now (s .1 .1 .1 .1 .1 .0))
 common-search-agrees κs a x y s t p q = searched (p ∙ sym q)
+
+-- the points are the seventh and the eighth argument
+pub sides-search-agrees :
+    OneOutcome sides-search.Post {A = List Float × List Float} (λ κs s. (now (s .1 .1 .1 .1 .1 .1 .0), now (s .1 .1 .1 .1 .1 .1 .1 .0)))
+sides-search-agrees κs a x y s t p q = two {A = Searched} (p ∙ sym q)

@@ -1,2 +1,4 @@
 pub mod Plans
 pub mod EachCone
+pub mod Sides
+pub mod EachSide

@@ -9,6 +9,7 @@ ghost use Rattle.cone_words.specs.Words.{coneOfWords, conesOf};
 ghost use Rattle.trials.specs.Search.{outcome};
 ghost use Rattle.trials.specs.Costed.{costedOf};
 ghost use Rattle.plan.specs.Plans.{usedOf, conePasses, totalOf, planOk, testedOf, planOf, Plannable};
+ghost use Rattle.plan.specs.Sides.{OnSide, trialTested, sidesOf, inSides};
 use algebra::vector::head;
 use algebra::vector::tail;
 use cone::Settings;
@@ -135,6 +136,74 @@ pub fn common_search(
         if alpha < how.smallest {
             alpha = 0.0;
             store(point, q);
+            break;
+        }
+    }
+    Searched { step: alpha, count }
+}
+
+// A trial of both sides: the dual point is written and tested, and the primal one where every cone passes on that.
+fn test_trial(
+    cones: &[[u64; 34]],
+    dz: &[f64],
+    ds: &[f64],
+    z: &[f64],
+    s: &[f64],
+    alpha: f64,
+    dual: &mut [f64],
+    primal: &mut [f64],
+) -> Tested
+    requires { ⌜ (length (now cones) ≤ 1024) × OnSide (conesOf (now cones)) (now dz) (now z) (now dual)
+        × OnSide (conesOf (now cones)) (now ds) (now s) (now primal) ⌝ }
+    ensures { λ r. ⌜ record { answer = r; first = now (dual .exit); second = now (primal .exit) }
+        ≡ trialTested (conesOf (now (cones .entry))) (now (dz .entry)) (now (ds .entry)) (now (z .entry)) (now (s .entry)) alpha
+        (now (primal .entry)) ⌝ }
+{
+    put_trial(z, dz, alpha, dual);
+    let first = test_cones(cones, false, dual);
+    if !first.all {
+        return first;
+    }
+    put_trial(s, ds, alpha, primal);
+    let second = test_cones(cones, true, primal);
+    Tested {
+        all: second.all,
+        count: first.count + second.count,
+    }
+}
+
+// The common search of both sides, with one step: a trial has a point on each.
+pub fn sides_search(
+    cones: &[[u64; 34]],
+    dz: &[f64],
+    ds: &[f64],
+    z: &[f64],
+    s: &[f64],
+    how: Settings,
+    dual: &mut [f64],
+    primal: &mut [f64],
+) -> Searched
+    requires { ⌜ Plannable (conesOf (now cones)) (now dz) (now z) how (now dual)
+        × Plannable (conesOf (now cones)) (now ds) (now s) how (now primal) ⌝ }
+    ensures { λ r. ⌜ record { answer = r; first = now (dual .exit); second = now (primal .exit) }
+        ≡ inSides (conesOf (now (cones .entry))) (costedOf (sidesOf (conesOf (now (cones .entry))) (now (dz .entry)) (now (ds .entry))
+        (now (z .entry)) (now (s .entry)) how)) ⌝ }
+{
+    let mut alpha = how.start;
+    let mut count: u32 = 0;
+
+    loop {
+        let tested = test_trial(cones, dz, ds, z, s, alpha, dual, primal);
+        count += tested.count;
+
+        if tested.all {
+            break;
+        }
+        alpha *= how.step;
+        if alpha < how.smallest {
+            alpha = 0.0;
+            store(dual, z);
+            store(primal, s);
             break;
         }
     }

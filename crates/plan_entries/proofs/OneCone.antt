@@ -27,11 +27,11 @@ use Rattle.plan_entries.specs.Rows.{planFaults, planRows}
 use Rattle.plan_entries.specs.Entries.{commonStepOf}
 use Rattle.plan_entries.specs.CommonStep.{OneConeAlone}
 
-ok-one : (c : Cone) → planOk (c ∷ []) ≡ coneOk c
+pub ok-one : (c : Cone) → planOk (c ∷ []) ≡ coneOk c
 unfolding planOk allConesOk
 ok-one c = and-true (coneOk c)
 
-total-one : (c : Cone) → totalOf (c ∷ []) ≡ numelOf c
+pub total-one : (c : Cone) → totalOf (c ∷ []) ≡ numelOf c
 unfolding totalOf
 total-one c = omega arith
 

@@ -1,3 +1,4 @@
 pub mod Rows
 pub mod Entries
 pub mod CommonStep
+pub mod PlanStep

@@ -7,7 +7,7 @@ use lib.Ieee.{Float}
 use Rattle.cone.specs.declared.Cone.{Cone}
 use Rattle.cone.specs.declared.Settings.{Settings}
 use Rattle.table.specs.declared.Faults.{Faults}
-use Rattle.judges.specs.Judges.{allFinite, settingsFinite}
+use Rattle.judges.specs.Judges.{allFinite, sidesFinite, settingsFinite}
 use Rattle.table.specs.Table.{firstRow}
 use Rattle.judges.specs.Refusals.{otherLength, badSettings}
 use Rattle.plan.specs.Plans.{planOk, totalOf}
@@ -29,3 +29,21 @@ planFaults cs dq q point s =
 
 abbrev pub planRows : List Cone → List Float → List Float → ℕ → Settings → ℕ
 planRows cs dq q point s = firstRow (planFaults cs dq q point s)
+
+-- the same for both sides of a plan with one step: every one of the six lengths is judged, and what is wrong on one side refuses both
+unfoldable pub sidesFaults : List Cone → List Float → List Float → List Float → List Float → ℕ → ℕ → Settings → Faults
+sidesFaults cs dz ds z s dualPoint primalPoint settings =
+    let n = totalOf cs in
+    record {
+      cone = not (planOk cs);
+      length =
+          otherLength n dz || otherLength n ds || otherLength n z || otherLength n s || not (eqb dualPoint n) || not (eqb primalPoint n);
+      number = not (sidesFinite dz ds z s && settingsFinite settings);
+      setting = badSettings settings;
+      spent = false;
+      unscaled = false;
+      serial = false;
+    }
+
+abbrev pub sidesRows : List Cone → List Float → List Float → List Float → List Float → ℕ → ℕ → Settings → ℕ
+sidesRows cs dz ds z s dualPoint primalPoint settings = firstRow (sidesFaults cs dz ds z s dualPoint primalPoint settings)

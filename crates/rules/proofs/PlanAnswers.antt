@@ -1,4 +1,4 @@
--- The common step looks at the rules of its cones in row 1 alone: neither the length of a cone's part nor its test reads the rule, so that
+-- The common step, and the step of both sides, look at the rules of their cones in row 1 alone: neither the length of a cone's part nor its test reads the rule, so that
 -- lists which differ in their rules have one search. Assumes nothing.
 use Prim.Native.Nat.{ℕ, zero, suc, _+_, _<_}
 use native.Mathlib.Nat.{le-of-suc-le-suc, not-suc-le-zero}
@@ -18,10 +18,11 @@ use Rattle.judges.specs.Judges.{rule1, rule2, ruleOk, toleranceOf, coneOkWithin
 use Rattle.table.specs.Table.{firstRow, settle}
 use Rattle.plan.specs.Plans.{totalOf, allConesOk, mostCones, planOk, conePasses, allPass, testsOf}
 use Rattle.plan.specs.EachCone.{coneAt}
-use Rattle.plan_entries.specs.Rows.{planFaults}
-use Rattle.plan_entries.specs.Entries.{commonStepOf}
+use Rattle.plan.specs.Sides.{bothPass, bothTests, dualSide, primalSide}
+use Rattle.plan_entries.specs.Rows.{planFaults, sidesFaults}
+use Rattle.plan_entries.specs.Entries.{commonStepOf, planStepOf}
 use Rattle.rules.specs.Entries.{under}
-use Rattle.rules.specs.Rules.{allUnder, OneStep, PlanAnswers}
+use Rattle.rules.specs.Rules.{allUnder, OneStep, PlanAnswers, OneStepOfBoth, SidesAnswers}
 use Rattle.rules.proofs.Tolerances.{wider}
 use Rattle.rules.proofs.Answers.{not-taken}
 
@@ -114,4 +115,46 @@ plan-answers = record {
       all-under-1 (allUnder rule2 cs) ok primal dq q point s
       ∙ ap (λ (l : List Cone). commonStepOf l primal dq q point s) (rules-replaced rule1 rule2 cs);
   another = another;
+}
+
+-- ---- both sides
+
+module _ (rule : ℕ) (cs : List Cone) where
+  both-same : (p : List Float) → bothPass (allUnder rule cs) (dualSide (allUnder rule cs) p) (primalSide (allUnder rule cs) p)
+      ≡ bothPass cs (dualSide cs p) (primalSide cs p)
+  unfolding bothPass
+  both-same p = rw (total-same rule cs, pass-same rule cs false (dualSide cs p), pass-same rule cs true (primalSide cs p))
+
+  counts-same : (p : List Float) → bothTests (allUnder rule cs) (dualSide (allUnder rule cs) p) (primalSide (allUnder rule cs) p)
+      ≡ bothTests cs (dualSide cs p) (primalSide cs p)
+  unfolding bothTests
+  counts-same p =
+      rw (
+        total-same rule cs,
+        pass-same rule cs false (dualSide cs p),
+        tests-same rule cs false (dualSide cs p),
+        tests-same rule cs true (primalSide cs p),
+      )
+
+both-under-1 : (cs : List Cone) → planOk cs ≡ true → OneStepOfBoth cs (allUnder rule1 cs)
+unfolding planStepOf sidesFaults
+both-under-1 cs ok dz ds z s dualPoint primalPoint settings =
+    rw (ok, takes cs ok, fun-ext (both-same rule1 cs), fun-ext (counts-same rule1 cs), total-same rule1 cs)
+
+another-of-both : (cs : List Cone) (i : ℕ) → i < length cs → ruleOk (coneAt cs i .rule) ≡ false
+    → (dz ds z s dualPoint primalPoint : List Float) (settings : Settings)
+    → planStepOf cs dz ds z s dualPoint primalPoint settings .answer .code ≡ 1
+unfolding planStepOf sidesFaults firstRow settle
+another-of-both cs i l bad dz ds z s dualPoint primalPoint settings = rw (not-planned cs i l bad)
+
+pub sides-answers : SidesAnswers
+sides-answers = record {
+  in-row-one = λ cs other e ok ok' dz ds z s dualPoint primalPoint settings.
+      both-under-1 cs ok dz ds z s dualPoint primalPoint settings
+      ∙ ap (λ (l : List Cone). planStepOf l dz ds z s dualPoint primalPoint settings) e
+      ∙ sym (both-under-1 other ok' dz ds z s dualPoint primalPoint settings);
+  equal = λ cs ok dz ds z s dualPoint primalPoint settings.
+      both-under-1 (allUnder rule2 cs) ok dz ds z s dualPoint primalPoint settings
+      ∙ ap (λ (l : List Cone). planStepOf l dz ds z s dualPoint primalPoint settings) (rules-replaced rule1 rule2 cs);
+  another = another-of-both;
 }

@@ -14,7 +14,7 @@ use Rattle.cone.specs.declared.Settings.{Settings}
 use Rattle.judges.specs.Judges.{rule1, rule2, ruleOk, toleranceOf, coneOkWithin, coneOk}
 use Rattle.plan.specs.Plans.{planOk}
 use Rattle.plan.specs.EachCone.{coneAt}
-use Rattle.plan_entries.specs.Entries.{commonStepOf}
+use Rattle.plan_entries.specs.Entries.{commonStepOf, planStepOf}
 use Rattle.rules.specs.Entries.{Entry, call, codeOf, under, carrying}
 
 -- ---- the cones
@@ -62,6 +62,21 @@ pub record PlanAnswers : Type 0 where
   -- "another rule number gives 1", wherever it stands in the list
   pub another : (cs : List Cone) (i : ℕ) → i < length cs → ruleOk (coneAt cs i .rule) ≡ false
       → (primal : Bool) (dq q point : List Float) (s : Settings) → commonStepOf cs primal dq q point s .answer .code ≡ 1
+
+-- ---- and of one step for both sides of a plan
+
+abbrev pub OneStepOfBoth : List Cone → List Cone → Type 0
+OneStepOfBoth cs other =
+    (dz ds z s dualPoint primalPoint : List Float) (settings : Settings)
+    → planStepOf cs dz ds z s dualPoint primalPoint settings ≡ planStepOf other dz ds z s dualPoint primalPoint settings
+
+pub record SidesAnswers : Type 0 where
+  pub in-row-one : (cs other : List Cone) → allUnder rule1 cs ≡ allUnder rule1 other → planOk cs ≡ true → planOk other ≡ true
+      → OneStepOfBoth cs other
+  pub equal : (cs : List Cone) → planOk (allUnder rule2 cs) ≡ true → OneStepOfBoth (allUnder rule2 cs) (allUnder rule1 cs)
+  pub another : (cs : List Cone) (i : ℕ) → i < length cs → ruleOk (coneAt cs i .rule) ≡ false
+      → (dz ds z s dualPoint primalPoint : List Float) (settings : Settings)
+      → planStepOf cs dz ds z s dualPoint primalPoint settings .answer .code ≡ 1
 
 -- ---- at the tolerance
 

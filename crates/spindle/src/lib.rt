@@ -7,7 +7,7 @@ ghost use Rattle.cone_entries.specs.Entries.{freshOf, isPrimalFeasibleOf, isDua
 ghost use Rattle.cone_entries.specs.Entries.{unitInitializationOf, rectifyEquilibrationOf, affineDsOf, dsFromDzOffsetOf};
 ghost use Rattle.search_entries.specs.Entries.{backtrackSearchOf, stepLengthOf};
 ghost use Rattle.cone_words.specs.Words.{conesOf};
-ghost use Rattle.plan_entries.specs.Entries.{commonStepOf};
+ghost use Rattle.plan_entries.specs.Entries.{commonStepOf, planStepOf};
 ghost use Rattle.record_update.specs.Entries.{updateScalingOf};
 ghost use Rattle.record_entries.specs.Entries.{gradientPrimalOf, barrierPrimalOf, computeBarrierOf, getHsOf, mulHsOf};
 ghost use Rattle.record_entries.specs.Entries.{higherCorrectionOf, combinedDsShiftOf};
@@ -184,6 +184,24 @@ pub extern "C" fn spindle_common_step(
         ≡ commonStepOf (conesOf (now (cones .entry))) primal (now (dq .entry)) (now (q .entry)) (now (point .entry)) settings ⌝ }
 {
     plan_entries::common_step(cones, primal, dq, q, point, settings)
+}
+
+#[no_mangle]
+pub extern "C" fn spindle_plan_step(
+    cones: &[[u64; 34]],
+    dz: &[f64],
+    ds: &[f64],
+    z: &[f64],
+    s: &[f64],
+    dualpoint: &mut [f64],
+    primalpoint: &mut [f64],
+    settings: Settings,
+) -> Found
+    ensures { λ r. ⌜ record { answer = r; first = now (dualpoint .exit); second = now (primalpoint .exit) }
+        ≡ planStepOf (conesOf (now (cones .entry))) (now (dz .entry)) (now (ds .entry)) (now (z .entry)) (now (s .entry))
+        (now (dualpoint .entry)) (now (primalpoint .entry)) settings ⌝ }
+{
+    plan_entries::plan_step(cones, dz, ds, z, s, dualpoint, primalpoint, settings)
 }
 
 #[no_mangle]

@@ -28,15 +28,15 @@ product-above k x y z a b c d pk hx hy hz =
     (omega (arith, mul-le-mul-right (c * d) hz)))
     pk
 
-upper-below : (a b : ℕ) → upper a b * 2 ^ 64 ≤ a * b
+pub upper-below : (a b : ℕ) → upper a b * 2 ^ 64 ≤ a * b
 unfolding upper
 upper-below a b = div-mul-le-self (a * b) (2 ^ 64)
 
-upper-above : (a b : ℕ) → a * b < upper a b * 2 ^ 64 + 2 ^ 64
+pub upper-above : (a b : ℕ) → a * b < upper a b * 2 ^ 64 + 2 ^ 64
 unfolding upper
 upper-above a b = lt-div-mul-add {b = 2 ^ 64} (omega arith)
 
-upper-le : (a b : ℕ) → b ≤ 2 ^ 64 → upper a b ≤ a
+pub upper-le : (a b : ℕ) → b ≤ 2 ^ 64 → upper a b ≤ a
 upper-le a b h = le-of-mul-le-mul-right {k = 2 ^ 64} (le-trans (upper-below a b) (mul-le-mul-left a h)) (omega arith)
 
 -- factors that are each a little more leave the product within two units

@@ -7,8 +7,9 @@
 // which 2^-44 is 1024.
 
 ghost use mathlib.Core.Path.{_≡_};
-ghost use Prim.Native.Nat.{_*_, _^_, _/_, _<_, _≤_};
+ghost use Prim.Native.Nat.{_+_, _*_, _^_, _/_, _<_, _≤_};
 ghost use Rattle.logarithm.specs.Steps.{shortSeriesOf, mantissaOf, scaledOf, positiveOf, logOf};
+ghost use Rattle.logarithm.specs.Estimates.{Near, Summands};
 use logarithm_table::entry;
 
 // floor(d·2^60 / n), in five steps of which each fits a u64.
@@ -24,28 +25,46 @@ fn long_division(d: u64, n: u64) -> u64
     a / n * 1099511627776 + b / n * 1073741824 + c / n * 1048576 + e / n * 1024 + f / n
 }
 
-// floor(d·2^60 / n), by an estimate that is checked: of d·2^60 raised by n, q·n leaves a rest below n where q is one more than the
-// quotient, and one from n up to 2·n where
-// it is the quotient. No other estimate was seen; it would be left to the long division.
-fn quotient(d: u64, n: u64) -> u64
-    requires { ⌜ (d < 2 ^ 44) × (0 < n) × (512 * d < n) × (n < 2 ^ 54) ⌝ }
-    ensures { λ r. ⌜ r ≡ d * 2 ^ 60 / n ⌝ }
+// Two estimates: of d·2^60 / n, and of the small terms of the series there, 2 (t³/3 + t⁵/5), in units of 2^-64.
+struct Estimate {
+    q: u64,
+    c: u64,
+}
+
+// Both in floating point: y is n / 2^60 but for n's last bit; beside 2^52 there is no place for a fraction, and it is rounded. The literals
+// are 2/3·2^-116 and 2/5·2^-236.
+fn estimated(d: u64, n: u64) -> Estimate
+    requires { ⌜ (d < 2 ^ 44) × (512 * d < n) × (2 ^ 53 ≤ n) × (n < 2 ^ 54) ⌝ }
+    ensures { λ r. ⌜ Near d n (r .q) (r .c) ⌝ }
 {
-    // An estimate, of which nothing is proved: x is d, and y is n / 2^60 but for n's last bit; beside 2^52 there is no place for a fraction
-    // of x / y, and it is rounded.
-    let x = f64::from_bits(0x4330_0000_0000_0000 + d) - 4503599627370496.0;
+    let x = d as f64;
     let y = f64::from_bits(0x3f70_0000_0000_0000 + n / 2);
-    let q = double::to_bits(x / y + 4503599627370496.0) % 0x10_0000_0000_0000;
-    let raised = wide::Halves {
-        hi: d / 16,
-        lo: d % 16 * 0x1000_0000_0000_0000 + n,
-    };
-    let rest = wide::left(raised, wide::product(q, n));
-    if rest < 2 * n {
-        // One test within the other: so the compiler subtracts the comparison and makes no branch, which would go wrong every other time.
-        return if rest < n { q - 1 } else { q };
+    let r = x / y;
+    let w = r * r;
+    Estimate {
+        q: f64::to_bits(r + 4503599627370496.0) % 0x10_0000_0000_0000,
+        c: f64::to_bits(
+            r * w * (8.024708101613482e-36 + w * 3.622271631530685e-72) + 4503599627370496.0,
+        )
+            % 0x10_0000_0000_0000,
     }
-    long_division(d, n)
+}
+
+// What d·2^60, raised by n, has over q·n: its lower half, which tells it where it is below 2·n.
+fn left_over(d: u64, n: u64, q: u64) -> u64
+    requires { ⌜ (n < 2 ^ 54) × (q * n ≤ d * 2 ^ 60 + 2 ^ 56) × (d * 2 ^ 60 ≤ q * n + 2 ^ 56) ⌝ }
+    ensures { λ r. ⌜ (r < 2 * n → q * n + r ≡ d * 2 ^ 60 + n) ⌝ }
+{
+    std::num::wrapping_sub_u64(d % 16 * 0x1000_0000_0000_0000 + n, wide::low(q, n))
+}
+
+// floor(d·2^60 / n): a rest below n is left where q is one more than the quotient, and one from n up to 2·n where it is the quotient. The
+// compiler subtracts the comparison and makes no branch, which would go wrong every other time.
+fn settled(d: u64, n: u64, q: u64, rest: u64) -> u64
+    requires { ⌜ (q * n + rest ≡ d * 2 ^ 60 + n) × (rest < 2 * n) ⌝ }
+    ensures { λ r. ⌜ (r ≡ d * 2 ^ 60 / n) × (r ≤ q) × (q ≤ r + 1) ⌝ }
+{
+    if rest < n { q - 1 } else { q }
 }
 
 // 2 (t + t³/3 + t⁵/5), t and the answer in units of 2^-64.
@@ -59,15 +78,38 @@ fn short_series(t: u64) -> u64
     2 * t + 2 * t3 / 3 + 2 * t5 / 5
 }
 
-// The logarithm of m / 2^52, in units of 2^-64.
+// An entry and the series at t, in units of 2^-53, from an estimate c of the small terms. Of the units of 2^-64 only those are used that 2048
+// divides; the whole series is summed where one of them lies within the estimate's error.
+fn summed(e: u64, t: u64, c: u64) -> u64
+    requires { ⌜ Summands e t c ⌝ }
+    ensures { λ r. ⌜ r ≡ (e + shortSeriesOf (16 * t)) / 2 ^ 11 ⌝ }
+{
+    let sum = e + 32 * t + c;
+    if std::num::wrapping_sub_u64(sum % 2048, 8) < 2032 {
+        return sum / 2048;
+    }
+    (e + short_series(16 * t)) / 2048
+}
+
+// The logarithm of m / 2^52, in units of 2^-53. No estimate was seen whose rest is 2·n or more; it would be left to the long division.
 fn mantissa(m: u64) -> u64
     requires { ⌜ (2 ^ 52 ≤ m) × (m < 2 ^ 53) ⌝ }
-    ensures { λ r. ⌜ r ≡ mantissaOf m ⌝ }
+    ensures { λ r. ⌜ r ≡ mantissaOf m / 2 ^ 11 ⌝ }
 {
     let h = m / 0x1000_0000_0000;
-    let t = quotient(m % 0x1000_0000_0000, m + h * 0x1000_0000_0000) * 16;
+    let d = m % 0x1000_0000_0000;
+    let n = m + h * 0x1000_0000_0000;
     let i = (h % 256) as usize;
-    entry(i) * 256 + short_series(t)
+    let e = entry(i) * 256;
+    let near = estimated(d, n);
+    let q = near.q;
+    let c = near.c;
+    let rest = left_over(d, n, q);
+    if rest < 2 * n {
+        let t = settled(d, n, q, rest);
+        return summed(e, t, c);
+    }
+    (e + short_series(16 * long_division(d, n))) / 2048
 }
 
 // n / 2^53; the literal is 2^-53.
@@ -86,7 +128,7 @@ fn positive(m: u64, k: u64) -> f64
     requires { ⌜ (2 ^ 52 ≤ m) × (m < 2 ^ 53) × (k < 2098) ⌝ }
     ensures { λ r. ⌜ r ≡ positiveOf m k ⌝ }
 {
-    let q = mantissa(m) / 2048;
+    let q = mantissa(m);
     if k < 1074 {
         -scaled((1074 - k) * LN2 - q)
     } else {

@@ -3,6 +3,7 @@ use mathlib.Core.Path.{_∙_, sym}
 use Rattle.arith.specs.Outcomes.{OneAnswer}
 use Rattle.wide.proofs.product.Reads as product
 use Rattle.wide.proofs.high.Reads as high
+use Rattle.wide.proofs.low.Reads as low
 use Rattle.wide.proofs.left.Reads as left
 use Rattle.wide.proofs.four.product.Reads as four-product
 use Rattle.wide.proofs.four.high.Reads as four-high
@@ -12,6 +13,9 @@ product-agrees κs a x y s t p q = p ∙ sym q
 
 pub high-agrees : OneAnswer high.Post
 high-agrees κs a x y s t p q = p ∙ sym q
+
+pub low-agrees : OneAnswer low.Post
+low-agrees κs a x y s t p q = p ∙ sym q
 
 pub left-agrees : OneAnswer left.Post
 left-agrees κs a x y s t p q = p ∙ sym q

@@ -1,8 +1,9 @@
 -- When a difference is told by `left`, and when it is not. Assumes nothing.
-use mathlib.Core.Path.{_≡_, refl, ap}
+use mathlib.Core.Path.{_≡_, refl}
 use mathlib.Core.Bool.{Bool, true, false, cond}
-use Prim.Native.Nat.{ℕ, _+_, _-_, _*_, _^_, _≤_, _<_, min}
+use Prim.Native.Nat.{ℕ, _+_, _-_, _*_, _%_, _^_, _≤_, _<_, min}
 use native.Mathlib.Nat.{mul-le-mul-right}
+use native.Mathlib.Decide.{decLt}
 use native.Mathlib.Omega.{arith}
 use borrow.Author.Tests.{le-leb, lt-leb, leb-true}
 use lib.Dec.{leb}
@@ -32,22 +33,30 @@ over a b = go (leb b a) (leb-true b a)
     go false h small = omega arith
     go true h small = omega (arith, h refl)
 
--- The halves h, l of one number and k, m of another, in any base.
-module _ (base h l k m : ℕ) where
-  pub no-borrow : k ≡ h → m ≤ l → l - m + (k * base + m) ≡ h * base + l
-  no-borrow e i = rw e (omega arith)
+-- what a difference that wraps has to make up for
+pub wrapped : (l m r b : ℕ) → (r + m) % 2 ^ 64 ≡ l → r < 2 ^ 64 → m < 2 ^ 64 → b ≡ 1 - (l + 1 - m) → r + m ≡ l + b * 2 ^ 64
+wrapped l m r b e i j h = go (decLt l m)
+  where
+    over : (x : ℕ) → x % 2 ^ 64 ≡ l → x < 2 ^ 64 + 2 ^ 64 → l < x → x ≡ l + 2 ^ 64
+    over x e i j = omega arith
 
-  pub one-borrow : h - k ≡ 1 → l < m → m < base → l + (base - 1 - m) + 1 + (k * base + m) ≡ h * base + l
-  one-borrow e i j = let one : h ≡ k + 1 = omega arith in rw one (omega arith)
+    not-over : (x : ℕ) → x % 2 ^ 64 ≡ l → x < 2 ^ 64 + l → x ≡ l + 0
+    not-over x e i = omega arith
 
-  pub one-more : h - k ≡ 1 → m ≤ l → base - 1 ≤ h * base + l - (k * base + m)
-  one-more e i = let one : h ≡ k + 1 = omega arith in rw one (omega arith)
+    go : Dec (l < m) → r + m ≡ l + b * 2 ^ 64
+    go (yes k) = let one : b ≡ 1 = omega arith in rw one (over (r + m) e (omega arith) (omega arith))
+    go (no k) = let none : b ≡ 0 = omega arith in rw none (not-over (r + m) e (omega arith))
 
-  pub two-more : k + 2 ≤ h → m < base → base - 1 ≤ h * base + l - (k * base + m)
-  two-more i j = omega (arith, mul-le-mul-right base i)
+-- The halves h, l of one number and k, m of another, in any base: r is the difference of the lower ones, and b what it borrows.
+module _ (base h l k m r b : ℕ) (lower : r + m ≡ l + b * base) where
+  pub borrowed : k ≤ h → h - k ≡ b → r + (k * base + m) ≡ h * base + l
+  borrowed i e = let apart : h ≡ k + b = omega arith in rw apart (omega arith)
 
-  pub lower-half : k ≡ h → l < m → h * base + l < k * base + m
-  lower-half e i = omega (arith, ap (λ (x : ℕ). x * base) e)
+  pub below-borrow : k ≤ h → h - k < b → r < base → h * base + l < k * base + m
+  below-borrow i j n = let apart : h + 1 ≤ k + b = omega arith in omega (arith, mul-le-mul-right base apart)
 
-  pub upper-half : h < k → l < base → h * base + l < k * base + m
-  upper-half i j = omega (arith, mul-le-mul-right base i)
+  pub above-borrow : k ≤ h → b < h - k → base ≤ h * base + l - (k * base + m)
+  above-borrow i j = let apart : k + b + 1 ≤ h = omega arith in omega (arith, mul-le-mul-right base apart)
+
+pub upper-half : (base h l k m : ℕ) → h < k → l < base → h * base + l < k * base + m
+upper-half base h l k m i j = omega (arith, mul-le-mul-right base i)

@@ -1,7 +1,7 @@
 -- A product of two-digit numbers in base 2^32, by four products of their digits and by three. Assumes nothing.
-use mathlib.Core.Path.{_≡_, refl, sym, ap₂, _∙_}
+use mathlib.Core.Path.{_≡_, refl, sym, ap, ap₂, _∙_}
 use Prim.Native.Nat.{ℕ, _+_, _-_, _*_, _/_, _%_, _≤_, _<_}
-use native.Mathlib.Nat.{mul-le-mul, mul-le-mul-right, lt-of-le-of-lt, le-add-right, div-add-mod', le-pred-of-lt}
+use native.Mathlib.Nat.{mul-le-mul, mul-le-mul-right, lt-of-le-of-lt, le-add-right, div-add-mod', le-pred-of-lt, add-mod, mul-add-mod-self-right}
 use native.Mathlib.Omega.{arith}
 
 abbrev pub base : ℕ
@@ -53,6 +53,26 @@ pub four-products :
     + ((a % base * (b / base) + a / base * (b % base) % base + low / base) % base * base + low % base)
     ≡ a * b
 four-products a b = carried _ _ _ _ _ _ refl refl ∙ joined a b _ _ _ _ refl refl refl refl
+
+-- ---- the lower half
+
+-- what `low` computes
+pub lower-products :
+    (a b : ℕ) → ((a / base * (b % base) % base + a % base * (b / base) % base) % base * base + a % base * (b % base)) % (base * base)
+    ≡ a * b % (base * base)
+lower-products a b =
+    ap (λ (x : ℕ). (x * base + a % base * (b % base)) % (base * base)) (sym (add-mod (a / base * (b % base)) (a % base * (b / base)) base))
+    ∙ dropped base (a / base * (b / base)) (a / base * (b % base) + a % base * (b / base)) (a % base * (b % base))
+    ∙ ap (λ (x : ℕ). x % (base * base)) (joined a b _ _ _ _ refl refl refl refl)
+  where
+    -- y's upper digit, and p, count multiples of k * k
+    dropped : (k p y s : ℕ) → (y % k * k + s) % (k * k) ≡ (p * (k * k) + y * k + s) % (k * k)
+    dropped k p y s =
+        sym (mul-add-mod-self-right (p + y / k) (k * k) (y % k * k + s))
+        ∙ ap (λ (x : ℕ). x % (k * k)) (shape (y / k) (y % k) y (div-add-mod' y k))
+      where
+        shape : (c d y : ℕ) → c * k + d ≡ y → (p + c) * (k * k) + (d * k + s) ≡ p * (k * k) + y * k + s
+        shape c d y e = omega (arith, ap (λ (x : ℕ). x * k) e)
 
 -- ---- by three
 

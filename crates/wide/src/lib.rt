@@ -1,6 +1,6 @@
 // Numbers of two 64-bit halves, which the language has no type for: the whole product of two numbers, and what one has over another.
 ghost use mathlib.Core.Path.{_≡_};
-ghost use Prim.Native.Nat.{_+_, _-_, _*_, _^_, _/_, _<_};
+ghost use Prim.Native.Nat.{_+_, _-_, _*_, _^_, _/_, _%_, _<_};
 ghost use Rattle.wide.specs.Products.{wholeOf, productOf, leftOf};
 
 pub mod four;
@@ -63,19 +63,28 @@ pub fn high(a: u64, b: u64) -> u64
     product(a, b).hi
 }
 
+// The lower half: a * b % 2^64. It has three partial products as it is, for a1 b1 falls away, and of the two in the middle the lower digits
+// do.
+pub fn low(a: u64, b: u64) -> u64
+    ensures { λ r. ⌜ r ≡ a * b % 2 ^ 64 ⌝ }
+{
+    let a1 = a / 0x1_0000_0000;
+    let a0 = a % 0x1_0000_0000;
+    let b1 = b / 0x1_0000_0000;
+    let b0 = b % 0x1_0000_0000;
+    let mid = (a1 * b0 % 0x1_0000_0000 + a0 * b1 % 0x1_0000_0000) % 0x1_0000_0000;
+    std::num::wrapping_add_u64(mid * 0x1_0000_0000, a0 * b0)
+}
+
 // What n has over p, or the largest u64 where that does not fit or p is above n.
 pub fn left(n: Halves, p: Halves) -> u64
     ensures { λ r. ⌜ r ≡ leftOf (wholeOf n) (wholeOf p) ⌝ }
 {
-    if p.hi == n.hi {
-        if p.lo <= n.lo {
-            return n.lo - p.lo;
-        }
-    } else if p.hi < n.hi {
-        if n.hi - p.hi == 1 {
-            if n.lo < p.lo {
-                return n.lo + (u64::MAX - p.lo) + 1;
-            }
+    // the lower halves' difference, and what it borrows: one test that foresees well, in place of one that goes wrong every other time
+    let rest = std::num::wrapping_sub_u64(n.lo, p.lo);
+    if p.hi <= n.hi {
+        if n.hi - p.hi == below(n.lo, p.lo) {
+            return rest;
         }
     }
     u64::MAX

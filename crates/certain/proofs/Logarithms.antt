@@ -25,7 +25,7 @@ use Rattle.rounding_errors.specs.Errors.{above, below}
 use Rattle.certain.proofs.LogSum.{log-sum, log-most}
 
 -- log of g units, g above 0: 01's bound, with L on the units
-close-in-units : (q : Float) (g : ℕ) → T (fits binary64 q) → 0 < g → Sized q false g → Close (logOf q) (lOf g (2 ^ 1074))
+pub close-in-units : (q : Float) (g : ℕ) → T (fits binary64 q) → 0 < g → Sized q false g → Close (logOf q) (lOf g (2 ^ 1074))
 close-in-units nan g F pg h = absurd h
 close-in-units (inf s) g F pg h = absurd h
 close-in-units (fin true m e) g F pg h = absurd (true≢false (h .0))
@@ -42,7 +42,7 @@ close-in-units (fin false (suc n) e) g F pg h =
     (promise .otherwise n e F)
 
 -- the quotient g/U is a/b, but for its rounding
-moved-little :
+pub moved-little :
     (a b g U : ℕ) → 0 < a → 0 < b → 0 < g → 0 < U → Within (g * b * 2 ^ 53) (a * U * 2 ^ 53) (a * U) → Apart (2 ^ 52) (lOf a b) (lOf g U)
 moved-little a b g U pa pb pg pU w =
     let bU : 0 < b * U = mul-pos pb pU in

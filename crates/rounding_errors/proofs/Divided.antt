@@ -36,7 +36,7 @@ cross m u n v U a b D E h k pU = go (m * u) (n * v) h k
         last Y = omega arith
 
 -- the quotient is rounded from a / b
-div-is :
+pub div-is :
     (f : Format) (x y : Float) (s t : Bool) (a b : ℕ) → 0 < b → InUnits f x s a → InUnits f y t b → div f x y ≡ round f (unlike s t) a b
 unfolding div
 div-is f nan y s t a b pb h k = absurd h

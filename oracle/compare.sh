@@ -8,7 +8,7 @@
 # WORDS  --calls N        how many calls (a million; --calls 100000 is a short run)
 #        --seed S         other calls (1)
 #        --entry NAME     one entry alone, as update_scaling
-#        --vectors FILE   write the fixed list that crates/oracle_run replays, and compare nothing
+#        --vectors FILE   write the fixed list that crates/run_oracle replays, and compare nothing
 #        --margins N      count over N points at the wall and N searches what document 02's Order 5 changes, and compare nothing
 #
 # Exit status 0: every answer the same, or the list is written; 1: a difference, which is shown; 2: bad words, or it could not be built.

@@ -1,4 +1,4 @@
-/* The second square root of document 02's Order 11, a second time: the steps that crates/table_root/specs/Steps.antt defines, on numbers of 128 bits, and the
+/* The second square root of document 02's Order 11, a second time: the steps that crates/root/specs/table_root/Steps.antt defines, on numbers of 128 bits, and the
    table by its rule and not by its numbers. The stand-in answers with it, and tests/kernels/run compares it with the archive's, the count too. */
 #ifndef SPINDLE_ROOTS_H
 #define SPINDLE_ROOTS_H

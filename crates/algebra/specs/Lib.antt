@@ -1,3 +1,4 @@
 pub mod Vectors
 pub mod Packed
 pub mod Cholesky
+pub mod newton

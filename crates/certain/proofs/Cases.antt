@@ -10,10 +10,10 @@ use Rattle.arith.specs.Turns.{iter}
 use Rattle.double.specs.Numbers.{#0, #1}
 use Rattle.double.specs.Sizes.{absOf}
 use Rattle.double.specs.Fields.{mag, shift, normalOf}
-use Rattle.series_change.specs.SignedArithmetic.{BelowZero}
-use Rattle.logarithm_table.specs.Table.{table}
+use Rattle.series.specs.series_change.SignedArithmetic.{BelowZero}
+use Rattle.logarithm.specs.logarithm_table.Table.{table}
 use Rattle.logarithm.specs.Steps.{upper, ratioOf, shortSeriesOf, mantissaOf, scaledOf, positiveOf, byFieldOf, logOf}
-use Rattle.verdict.specs.Answers.{toldOf}
+use Rattle.cone.specs.verdict.Answers.{toldOf}
 use Rattle.certain.specs.Coordinates.{InRange, Point}
 use Rattle.certain.specs.Primal as primal
 use Rattle.certain.specs.Dual as dual

@@ -17,9 +17,9 @@ use Rattle.double.proofs.Fields.{measured}
 use Rattle.series.specs.Series.{lOf}
 use Rattle.series.proofs.SignedFractions.{over-pos-of}
 use Rattle.logarithm.specs.Steps.{logOf}
-use Rattle.series_change.proofs.LSizes.{L-most}
-use Rattle.rounding_errors.proofs.Divided.{Divided}
-use Rattle.rounding_errors.proofs.Ordered.{lt-units}
+use Rattle.series.proofs.series_change.LSizes.{L-most}
+use Rattle.rounding.proofs.rounding_errors.Divided.{Divided}
+use Rattle.rounding.proofs.rounding_errors.Ordered.{lt-units}
 use Rattle.certain.specs.Coordinates.{largest, InRange}
 use Rattle.certain.proofs.Room.{largest-positive}
 use Rattle.certain.proofs.ExactCoordinates.{cross-of, num-pos-of}

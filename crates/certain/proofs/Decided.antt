@@ -11,12 +11,12 @@ use lib.Ieee.{Float, binary64, neg}
 use Rattle.arith.proofs.Branches.{false-not-true}
 use Rattle.double.specs.Operators.{_≺_}
 use Rattle.series.specs.Series.{Signed}
-use Rattle.verdict.specs.declared.Answer.{Answer}
-use Rattle.verdict.specs.declared.Answer.the-variants.{No, Yes, Undecided}
-use Rattle.verdict.specs.Answers.{toldOf, judged, isYes}
-use Rattle.rounding_errors.specs.Errors.{above, below}
-use Rattle.rounding_errors.proofs.Added.{neg-units}
-use Rattle.rounding_errors.proofs.Ordered.{lt-units}
+use Rattle.cone.specs.declared.verdict.Answer.{Answer}
+use Rattle.cone.specs.declared.verdict.Answer.the-variants.{No, Yes, Undecided}
+use Rattle.cone.specs.verdict.Answers.{toldOf, judged, isYes}
+use Rattle.rounding.specs.rounding_errors.Errors.{above, below}
+use Rattle.rounding.proofs.rounding_errors.Added.{neg-units}
+use Rattle.rounding.proofs.rounding_errors.Ordered.{lt-units}
 use Rattle.certain.proofs.DecisionSum.{above-sum}
 use Rattle.certain.proofs.Logarithms.{LogNear}
 use Rattle.certain.proofs.Margins.{Weighed}

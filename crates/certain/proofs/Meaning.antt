@@ -6,8 +6,8 @@ use lib.Ieee.{Float}
 use lib.Ieee.Fits.{and-l, and-r}
 use Rattle.double.specs.Operators.{_≺_}
 use Rattle.double.specs.Numbers.{#0}
-use Rattle.series_change.specs.SignedArithmetic.{BelowZero}
-use Rattle.verdict.specs.declared.Answer.the-variants.{No, Yes}
+use Rattle.series.specs.series_change.SignedArithmetic.{BelowZero}
+use Rattle.cone.specs.declared.verdict.Answer.the-variants.{No, Yes}
 use Rattle.certain.specs.Coordinates.{Point}
 use Rattle.certain.specs.Primal as primal
 use Rattle.certain.specs.Dual as dual

@@ -8,9 +8,9 @@ use lib.Ieee.{Float, binary64, unlike}
 use Rattle.double.specs.Operators.{_⊖_, _⊗_}
 use Rattle.double.specs.Fields.{Sized, Units}
 use Rattle.rounding.specs.Within.{Within}
-use Rattle.rounding_errors.specs.Errors.{above, below}
-use Rattle.rounding_errors.proofs.Multiplied.{Multiplied, mul-near}
-use Rattle.rounding_errors.proofs.Added.{Added, sub-near, added-most}
+use Rattle.rounding.specs.rounding_errors.Errors.{above, below}
+use Rattle.rounding.proofs.rounding_errors.Multiplied.{Multiplied, mul-near}
+use Rattle.rounding.proofs.rounding_errors.Added.{Added, sub-near, added-most}
 use Rattle.certain.specs.Coordinates.{largest}
 use Rattle.certain.proofs.OneOperation.{product-most}
 use Rattle.certain.proofs.ResidueSums.{primal-sum, dual-sum}

@@ -2,8 +2,8 @@
 use mathlib.Core.Path.{_≡_}
 use mathlib.Core.Bool.{true}
 use lib.Ieee.{Float}
-use Rattle.series_change.specs.SignedArithmetic.{BelowZero}
-use Rattle.verdict.specs.declared.Answer.the-variants.{No, Yes}
+use Rattle.series.specs.series_change.SignedArithmetic.{BelowZero}
+use Rattle.cone.specs.declared.verdict.Answer.the-variants.{No, Yes}
 use Rattle.certain.specs.Coordinates.{Point}
 use Rattle.certain.specs.Primal as primal
 use Rattle.certain.specs.Dual as dual

@@ -7,10 +7,10 @@ use Rattle.double.specs.Operators.{_⊕_, _⊖_, _⊗_, _⊘_, _≺_}
 use Rattle.double.specs.Numbers.{#0, #1}
 use Rattle.double.specs.Sizes.{absOf}
 use Rattle.series.specs.Series.{Signed}
-use Rattle.series_change.specs.SignedArithmetic.{times, minus, AboveZero}
+use Rattle.series.specs.series_change.SignedArithmetic.{times, minus, AboveZero}
 use Rattle.logarithm.specs.Steps.{logOf}
-use Rattle.verdict.specs.declared.Answer.{Answer}
-use Rattle.verdict.specs.Answers.{judged}
+use Rattle.cone.specs.declared.verdict.Answer.{Answer}
+use Rattle.cone.specs.verdict.Answers.{judged}
 use Rattle.certain.specs.Coordinates.{exactOf, lOfQuotient}
 use Rattle.certain.specs.Weights.{#part}
 

@@ -7,8 +7,8 @@ use Rattle.double.specs.Numbers.{#0, #1, #2, #3}
 use Rattle.kernels.specs.Door.{logOf}
 use Rattle.algebra.specs.Vectors.{movedOf}
 use Rattle.expcone.specs.declared.Barrier.{Barrier}
-use Rattle.wright.specs.declared.Omega.{Omega}
-use Rattle.wright.specs.Omega.{omegaAt}
+use Rattle.expcone.specs.declared.wright.Omega.{Omega}
+use Rattle.expcone.specs.wright.Omega.{omegaAt}
 
 -- 000 barrier_primal, from omega on
 unfoldable pub barrierPrimalAt : Float → Float → Omega → Barrier

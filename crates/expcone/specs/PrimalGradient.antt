@@ -6,8 +6,8 @@ use Rattle.double.specs.Operators.{_⊕_, _⊖_, _⊗_, _⊘_, at}
 use Rattle.double.specs.Numbers.{#0, #1, #start1, #start2, #start3}
 use Rattle.kernels.specs.Door.{logOf}
 use Rattle.expcone.specs.declared.Gradient.{Gradient}
-use Rattle.wright.specs.declared.Omega.{Omega}
-use Rattle.wright.specs.Omega.{omegaAt}
+use Rattle.expcone.specs.declared.wright.Omega.{Omega}
+use Rattle.expcone.specs.wright.Omega.{omegaAt}
 
 -- 000 unit_initialization: z and s alike
 unfoldable pub unitInitializationOf : List Float

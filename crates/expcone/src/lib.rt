@@ -8,13 +8,16 @@ ghost use Rattle.expcone.specs.Barriers.{barrierPrimalOf, barrierDualOf,
 ghost use Rattle.expcone.specs.Correction.{correctionOf, higherCorrectionOf, combinedDsShiftOf};
 ghost use Rattle.expcone.specs.DualGradient.{updateDualGradHOf};
 ghost use Rattle.expcone.specs.PrimalGradient.{unitInitializationOf, gradientPrimalOf};
+use crate::wright::omega_at;
 use algebra::sym3::cholesky_3x3_explicit_factor;
 use algebra::sym3::cholesky_3x3_explicit_solve;
 use algebra::vector::dot3;
 use algebra::vector::moved3;
 use algebra::vector::shift3;
 use kernels::log;
-use wright::omega_at;
+
+pub mod expcone_feasible;
+pub mod wright;
 
 // A primal barrier, and whether the Rust would panic on the way to it; then the value is 0.
 pub struct Barrier {

@@ -2,3 +2,4 @@
 pub mod Sum
 pub mod Steps
 pub mod Bound
+pub mod series_inverse

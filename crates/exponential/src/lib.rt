@@ -6,6 +6,7 @@ ghost use Rattle.exponential.specs.Steps.{composed, expAt, expOf, InRang
 use place::Point;
 
 pub mod place;
+pub mod series_inverse;
 pub mod sum;
 
 // The double of the sum v, in units of 2^-62, at the place k. A sum that is rounded up to 2 carries into the field, and that is right.

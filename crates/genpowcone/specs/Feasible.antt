@@ -6,11 +6,11 @@ use lib.ListN.{length, take, drop}
 use lib.Ieee.{Float}
 use Rattle.double.specs.Operators.{_⊖_}
 use Rattle.kernels.specs.Door.{expOf}
-use Rattle.verdict.specs.declared.Answer.{Answer}
-use Rattle.verdict.specs.Answers.{judged}
-use Rattle.verdict.specs.Margins.{powerMargin}
+use Rattle.cone.specs.declared.verdict.Answer.{Answer}
+use Rattle.cone.specs.verdict.Answers.{judged}
+use Rattle.cone.specs.verdict.Margins.{powerMargin}
 use Rattle.algebra.specs.Vectors.{sumsqOf}
-use Rattle.genpowcone_loops.specs.Folds.{allAboveZero, primalLogSum, dualLogSum}
+use Rattle.genpowcone.specs.genpowcone_loops.Folds.{allAboveZero, primalLogSum, dualLogSum}
 use Rattle.genpowcone.specs.declared.Residue.{Residue}
 
 -- the residue p - w, beside the two numbers that it is made of

@@ -8,11 +8,11 @@ use Rattle.double.specs.Operators.{_⊕_, _⊖_, _⊗_, _⊘_, _≺_}
 use Rattle.double.specs.Numbers.{#1, #ε}
 use Rattle.kernels.specs.Door.{sqrtOf}
 use Rattle.algebra.specs.Vectors.{sumsqOf, normOf}
-use Rattle.newton.specs.Equations.{genF0, genF1}
-use Rattle.newton.specs.Rounds.{newtonOf}
-use Rattle.newton.specs.declared.Found.{Found}
-use Rattle.genpowcone_loops.specs.Folds.{primalPhi}
-use Rattle.genpowcone_loops.specs.Places.{wide, withTail, unitAt, headAt, flatHeadAt, timesAt}
+use Rattle.algebra.specs.newton.Equations.{genF0, genF1}
+use Rattle.algebra.specs.newton.Rounds.{newtonOf}
+use Rattle.algebra.specs.declared.newton.Found.{Found}
+use Rattle.genpowcone.specs.genpowcone_loops.Folds.{primalPhi}
+use Rattle.genpowcone.specs.genpowcone_loops.Places.{wide, withTail, unitAt, headAt, flatHeadAt, timesAt}
 use Rattle.genpowcone.specs.declared.Gradient.{Gradient}
 
 -- 002 unit_initialization: z and s alike

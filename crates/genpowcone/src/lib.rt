@@ -6,8 +6,8 @@
 // `alpha` is the slice of the exponents in use, so dim1 is its length. Arrays that are handed back have 64 or 32 places; those behind
 // the used ones are +0.
 ghost use mathlib.Core.Path.{_≡_};
-ghost use Rattle.newton.specs.Equations.{genF0At, genF1};
-ghost use Rattle.newton.specs.Rounds.{newtonOf};
+ghost use Rattle.algebra.specs.newton.Equations.{genF0At, genF1};
+ghost use Rattle.algebra.specs.newton.Rounds.{newtonOf};
 ghost use Prim.Native.Nat.{_+_, _≤_};
 ghost use lib.ListN.{length};
 ghost use Rattle.genpowcone.specs.Feasible.{residueAt, primalResidue, dualResidue, primalFeasible, dualFeasible};
@@ -15,6 +15,31 @@ ghost use Rattle.genpowcone.specs.PrimalGradient.{unitInitializationOf, 
 ghost use Rattle.genpowcone.specs.Barriers.{barrierDualOf, barrierPrimalAt, barrierPrimalOf, computeBarrierOf};
 ghost use Rattle.genpowcone.specs.DualGradient.{updateDualGradHOf};
 ghost use Rattle.genpowcone.specs.Rank3.{getHsOf, mulHsAt, coefficientsOf, pOf, qOf, rank3At};
+use crate::genpowcone_loops::folds::all_above_zero;
+use crate::genpowcone_loops::folds::dual_log_sum;
+use crate::genpowcone_loops::folds::dual_phi;
+use crate::genpowcone_loops::folds::less_logs;
+use crate::genpowcone_loops::folds::primal_log_sum;
+use crate::genpowcone_loops::folds::primal_phi;
+use crate::genpowcone_loops::places::diagonal;
+use crate::genpowcone_loops::places::gradient_flat_head;
+use crate::genpowcone_loops::places::gradient_head;
+use crate::genpowcone_loops::places::logarithms;
+use crate::genpowcone_loops::places::moved;
+use crate::genpowcone_loops::places::negated;
+use crate::genpowcone_loops::places::product_finished;
+use crate::genpowcone_loops::places::product_head;
+use crate::genpowcone_loops::places::product_tail;
+use crate::genpowcone_loops::places::ratios;
+use crate::genpowcone_loops::places::scale32;
+use crate::genpowcone_loops::places::set_tail;
+use crate::genpowcone_loops::places::tau_and_grad;
+use crate::genpowcone_loops::places::times_from;
+use crate::genpowcone_loops::places::times32;
+use crate::genpowcone_loops::places::unit_head;
+use algebra::newton::Equation;
+use algebra::newton::Found;
+use algebra::newton::newton_raphson_onesided;
 use algebra::vector::dot;
 use algebra::vector::head;
 use algebra::vector::norm;
@@ -23,38 +48,15 @@ use algebra::vector::sumsq;
 use algebra::vector::tail;
 use cone::Wide;
 use cone::no_wide;
+use cone::verdict::Answer;
+use cone::verdict::power_margin;
+use cone::verdict::told;
 use double::EPSILON;
-use genpowcone_loops::folds::all_above_zero;
-use genpowcone_loops::folds::dual_log_sum;
-use genpowcone_loops::folds::dual_phi;
-use genpowcone_loops::folds::less_logs;
-use genpowcone_loops::folds::primal_log_sum;
-use genpowcone_loops::folds::primal_phi;
-use genpowcone_loops::places::diagonal;
-use genpowcone_loops::places::gradient_flat_head;
-use genpowcone_loops::places::gradient_head;
-use genpowcone_loops::places::logarithms;
-use genpowcone_loops::places::moved;
-use genpowcone_loops::places::negated;
-use genpowcone_loops::places::product_finished;
-use genpowcone_loops::places::product_head;
-use genpowcone_loops::places::product_tail;
-use genpowcone_loops::places::ratios;
-use genpowcone_loops::places::scale32;
-use genpowcone_loops::places::set_tail;
-use genpowcone_loops::places::tau_and_grad;
-use genpowcone_loops::places::times_from;
-use genpowcone_loops::places::times32;
-use genpowcone_loops::places::unit_head;
 use kernels::exp;
 use kernels::log;
 use kernels::sqrt;
-use newton::Equation;
-use newton::Found;
-use newton::newton_raphson_onesided;
-use verdict::Answer;
-use verdict::power_margin;
-use verdict::told;
+
+pub mod genpowcone_loops;
 
 // What a cone test compares, with the two numbers that it is the difference of: res = power - square.
 pub struct Residue {

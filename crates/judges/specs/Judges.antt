@@ -14,8 +14,8 @@ use Rattle.cone.specs.declared.Three.{Three}
 use Rattle.cone.specs.declared.Wide.{Wide}
 use Rattle.cone.specs.declared.Scaling.{Scaling}
 -- number 1, the cone: passed on
-pub use Rattle.cone_judge.specs.Cones.{powerOk, exponentOk, rule1, rule2, ruleOk, sumOk}
-unfoldable pub use Rattle.cone_judge.specs.Cones.{allOf, toleranceOf, wideOk, threeOk, coneOkWithin, coneOk}
+pub use Rattle.judges.specs.cone_judge.Cones.{powerOk, exponentOk, rule1, rule2, ruleOk, sumOk}
+unfoldable pub use Rattle.judges.specs.cone_judge.Cones.{allOf, toleranceOf, wideOk, threeOk, coneOkWithin, coneOk}
 
 -- ---- number 3: numbers that are neither NaN nor infinite
 

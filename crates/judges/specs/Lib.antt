@@ -1,2 +1,3 @@
 pub mod Judges
 pub mod Refusals
+pub mod cone_judge

@@ -6,6 +6,11 @@ ghost use lib.Ieee.Scale.{finite};
 ghost use Rattle.cone.specs.Codes.{numelOf, blockOf};
 ghost use Rattle.judges.specs.Judges.{allOf, settingsOk, settingsFinite, strategyOk};
 ghost use Rattle.judges.specs.Judges.{sidesFinite, threeFinite, wideFinite, recordFinite};
+pub use crate::cone_judge::cone_ok;
+pub use crate::cone_judge::rule_ok;
+pub use crate::cone_judge::three_ok;
+pub use crate::cone_judge::tolerance_of;
+pub use crate::cone_judge::wide_ok;
 use algebra::vector::head;
 use cone::Cone;
 use cone::DUAL;
@@ -13,13 +18,9 @@ use cone::PRIMAL_DUAL;
 use cone::Scaling;
 use cone::Settings;
 use cone::Three;
-pub use cone_judge::cone_ok;
-pub use cone_judge::rule_ok;
-pub use cone_judge::three_ok;
-pub use cone_judge::tolerance_of;
-pub use cone_judge::wide_ok;
 use double::is_finite;
 
+pub mod cone_judge;
 pub mod refusal;
 
 // Whether no place holds a NaN or an infinity.

@@ -6,7 +6,7 @@ ghost use Rattle.kernels.specs.Door.{sqrtOf, logOf, expOf, powerAt, powf
 pub fn sqrt(x: f64) -> f64
     ensures { λ r. ⌜ r ≡ sqrtOf x ⌝ }
 {
-    let rooted = table_root::sqrt(x);
+    let rooted = root::table_root::sqrt(x);
     rooted.root
 }
 

@@ -5,12 +5,12 @@ use mathlib.Core.List.{List}
 use lib.ListN.{take}
 use lib.Ieee.{Float}
 use Rattle.double.specs.Operators.{at}
-use Rattle.verdict.specs.declared.Answer.{Answer}
-use Rattle.verdict.specs.declared.Answer.the-variants.{No}
+use Rattle.cone.specs.declared.verdict.Answer.{Answer}
+use Rattle.cone.specs.declared.verdict.Answer.the-variants.{No}
 use Rattle.cone.specs.declared.Cone.{Cone}
 use Rattle.cone.specs.Codes.{byKind}
 use Rattle.cone.specs.Points.{threeOf}
-use Rattle.expcone_feasible.specs.Feasible as expcone
+use Rattle.expcone.specs.expcone_feasible.Feasible as expcone
 use Rattle.powcone.specs.Feasible as powcone
 use Rattle.genpowcone.specs.Feasible as genpowcone
 

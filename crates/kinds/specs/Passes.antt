@@ -3,7 +3,7 @@ use Prim.Native.Nat.{ℕ}
 use mathlib.Core.Bool.{Bool}
 use mathlib.Core.List.{List}
 use lib.Ieee.{Float}
-use Rattle.verdict.specs.Answers.{isYes}
+use Rattle.cone.specs.verdict.Answers.{isYes}
 use Rattle.kinds.specs.Answers.{answerIn}
 
 -- 02, Order 5: "A trial passes only on yes; demand 3 reads with that test". The cone is given by its parts

@@ -15,7 +15,7 @@ use Rattle.expcone.specs.Correction as expCorrection
 use Rattle.powcone.specs.PrimalGradient as powPrimal
 use Rattle.powcone.specs.Barriers as powBarriers
 use Rattle.powcone.specs.DualGradient as powDual
-use Rattle.powcone_correction.specs.Correction as powCorrection
+use Rattle.powcone.specs.powcone_correction.Correction as powCorrection
 use Rattle.kinds.specs.declared.three.Gradient.{Gradient}
 use Rattle.kinds.specs.declared.three.Valued.{Valued}
 

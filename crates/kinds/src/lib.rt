@@ -12,8 +12,8 @@ use cone::attempted;
 use cone::no_three;
 use cone::no_wide;
 use cone::three_of;
-use verdict::Answer;
-use verdict::is_yes;
+use cone::verdict::Answer;
+use cone::verdict::is_yes;
 
 pub mod three;
 pub mod wide;
@@ -24,9 +24,9 @@ fn exp_answer(primal: bool, p: [f64; 3]) -> Answer
     ensures { λ r. ⌜ r ≡ expAnswer primal p ⌝ }
 {
     if primal {
-        expcone_feasible::is_primal_feasible(p)
+        expcone::expcone_feasible::is_primal_feasible(p)
     } else {
-        expcone_feasible::is_dual_feasible(p)
+        expcone::expcone_feasible::is_dual_feasible(p)
     }
 }
 

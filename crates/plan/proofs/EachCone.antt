@@ -13,9 +13,9 @@ use Rattle.algebra.specs.Vectors.{movedOf}
 use Rattle.cone.specs.declared.Cone.{Cone}
 use Rattle.cone.specs.declared.Settings.{Settings}
 use Rattle.cone.specs.Codes.{numelOf}
-use Rattle.trials.specs.Trials.{bound, Usable}
-use Rattle.trials.specs.Costed.{costedOf}
-use Rattle.trials.proofs.LargestPassing.{largest-passing}
+use Rattle.search.specs.trials.Trials.{bound, Usable}
+use Rattle.search.specs.trials.Costed.{costedOf}
+use Rattle.search.proofs.trials.LargestPassing.{largest-passing}
 use Rattle.search.proofs.Points.{take-point, drop-point}
 use Rattle.plan.specs.Plans.{conePasses, allPass, testsOf, planOf}
 use Rattle.plan.specs.EachCone.{partOf, partPasses, FirstFailing, TestedInOrder, PartsOfTrials}

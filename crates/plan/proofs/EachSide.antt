@@ -11,13 +11,13 @@ use Rattle.arith.proofs.Branches.{false-not-true}
 use Rattle.double.specs.Numbers.{#0}
 use Rattle.cone.specs.declared.Cone.{Cone}
 use Rattle.cone.specs.declared.Settings.{Settings}
-use Rattle.trials.specs.Trials.{bound, Usable}
-use Rattle.trials.specs.Search.{Problem, Outcome, passesAt, searchOf}
-use Rattle.trials.specs.FirstPassing.{First}
-use Rattle.trials.specs.Costed.{costedOf}
-use Rattle.trials.proofs.Walk.{trialOf, Ended, passed, failed, ended}
-use Rattle.trials.proofs.FirstPassing.{first-passing, last-of, none-of}
-use Rattle.trials.proofs.LargestPassing.{largest-passing, search-largest}
+use Rattle.search.specs.trials.Trials.{bound, Usable}
+use Rattle.search.specs.trials.Search.{Problem, Outcome, passesAt, searchOf}
+use Rattle.search.specs.trials.FirstPassing.{First}
+use Rattle.search.specs.trials.Costed.{costedOf}
+use Rattle.search.proofs.trials.Walk.{trialOf, Ended, passed, failed, ended}
+use Rattle.search.proofs.trials.FirstPassing.{first-passing, last-of, none-of}
+use Rattle.search.proofs.trials.LargestPassing.{largest-passing, search-largest}
 use Rattle.search.specs.Points.{trialPoint}
 use Rattle.plan.specs.Plans.{totalOf, allPass, testsOf, planProblem}
 use Rattle.plan.specs.EachCone.{FirstFailing}

@@ -11,10 +11,10 @@ use lib.Ieee.{Float}
 use Rattle.cone.specs.declared.Cone.{Cone}
 use Rattle.cone.specs.declared.Settings.{Settings}
 use Rattle.cone.specs.Codes.{numelOf}
-use Rattle.trials.specs.Search.{searchOf}
-use Rattle.trials.specs.Costed.{costedOf}
-use Rattle.trials.proofs.SameTests.{same-search}
-use Rattle.trials.proofs.Costed.{costed-one}
+use Rattle.search.specs.trials.Search.{searchOf}
+use Rattle.search.specs.trials.Costed.{costedOf}
+use Rattle.search.proofs.trials.SameTests.{same-search}
+use Rattle.search.proofs.trials.Costed.{costed-one}
 use Rattle.search.specs.Points.{trialPoint}
 use Rattle.search.specs.Problems.{problemOf}
 use Rattle.search.proofs.Points.{length-point}

@@ -10,8 +10,8 @@ use lib.Ieee.{Float}
 use Rattle.cone.specs.declared.Cone.{Cone}
 use Rattle.cone.specs.declared.Settings.{Settings}
 use Rattle.judges.specs.Refusals.{LentTwo}
-use Rattle.trials.specs.Search.{outcome, passesAt}
-use Rattle.trials.specs.Costed.{Costed, costAt, costedOf}
+use Rattle.search.specs.trials.Search.{outcome, passesAt}
+use Rattle.search.specs.trials.Costed.{Costed, costAt, costedOf}
 use Rattle.search.specs.Points.{trialPoint}
 use Rattle.search.proofs.Points.{length-point}
 use Rattle.plan.specs.declared.Tested.{Tested}

@@ -10,12 +10,12 @@ use lib.Seq.{getD-take}
 use lib.Ieee.{Float, nan}
 use borrow.Author.Tests.{ltb-true}
 use Rattle.double.specs.Operators.{at}
-use Rattle.verdict.specs.declared.Answer.{Answer}
-use Rattle.verdict.specs.declared.Answer.the-variants.{No}
-use Rattle.verdict.specs.Answers.{isYes}
+use Rattle.cone.specs.declared.verdict.Answer.{Answer}
+use Rattle.cone.specs.declared.verdict.Answer.the-variants.{No}
+use Rattle.cone.specs.verdict.Answers.{isYes}
 use Rattle.cone.specs.Points.{threeOf}
-use Rattle.cone_words.specs.Words.{placesOf}
-use Rattle.cone_words.proofs.Words.{places-same}
+use Rattle.cone.specs.cone_words.Words.{placesOf}
+use Rattle.cone.proofs.cone_words.Words.{places-same}
 use Rattle.kinds.specs.Answers.{expAnswer, powAnswer, genpowAnswer, answerIn}
 use Rattle.kinds.specs.Passes.{passesIn}
 use Rattle.plan.specs.Plans.{usedOf}

@@ -12,8 +12,8 @@ use Rattle.double.specs.Operators.{_≺_}
 use Rattle.double.specs.Numbers.{#0}
 use Rattle.cone.specs.declared.Cone.{Cone}
 use Rattle.cone.specs.declared.Settings.{Settings}
-use Rattle.trials.specs.Trials.{Usable}
-use Rattle.trials.specs.Costed.{costedOf}
+use Rattle.search.specs.trials.Trials.{Usable}
+use Rattle.search.specs.trials.Costed.{costedOf}
 use Rattle.plan.specs.Plans.{totalOf, allPass, planOf}
 use Rattle.plan.specs.EachCone.{partPasses, FirstFailing}
 use Rattle.plan.specs.Sides.{bothPass, bothTests, sidesOf}

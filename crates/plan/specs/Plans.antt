@@ -11,8 +11,8 @@ use Rattle.cone.specs.declared.Settings.{Settings}
 use Rattle.cone.specs.Codes.{numelOf}
 use Rattle.judges.specs.Judges.{coneOk}
 use Rattle.kinds.specs.Passes.{passesIn}
-use Rattle.trials.specs.Search.{Problem}
-use Rattle.trials.specs.Costed.{Costed}
+use Rattle.search.specs.trials.Search.{Problem}
+use Rattle.search.specs.trials.Costed.{Costed}
 use Rattle.search.specs.Points.{trialPoint}
 use Rattle.search.specs.Problems.{Searchable}
 use Rattle.plan.specs.declared.Tested.{Tested}

@@ -8,8 +8,8 @@ use lib.Ieee.{Float}
 use Rattle.cone.specs.declared.Cone.{Cone}
 use Rattle.cone.specs.declared.Settings.{Settings}
 use Rattle.judges.specs.Refusals.{LentTwo}
-use Rattle.trials.specs.Search.{Problem, Outcome}
-use Rattle.trials.specs.Costed.{Costed}
+use Rattle.search.specs.trials.Search.{Problem, Outcome}
+use Rattle.search.specs.trials.Costed.{Costed}
 use Rattle.search.specs.declared.Searched.{Searched}
 use Rattle.search.specs.Points.{trialPoint}
 use Rattle.plan.specs.declared.Tested.{Tested}

@@ -5,9 +5,9 @@ use lib.Ieee.{Float}
 use Rattle.double.specs.Operators.{_⊕_, _⊖_, _⊗_, _⊘_, _≺_, at}
 use Rattle.double.specs.Numbers.{#0, #1, #2}
 use Rattle.kernels.specs.Door.{logOf, expOf}
-use Rattle.verdict.specs.declared.Answer.{Answer}
-use Rattle.verdict.specs.Answers.{judged}
-use Rattle.verdict.specs.Margins.{powerMargin}
+use Rattle.cone.specs.declared.verdict.Answer.{Answer}
+use Rattle.cone.specs.verdict.Answers.{judged}
+use Rattle.cone.specs.verdict.Margins.{powerMargin}
 use Rattle.powcone.specs.declared.Residue.{Residue}
 
 -- the residue p - w², beside the two numbers that it is made of

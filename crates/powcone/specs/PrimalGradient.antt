@@ -6,9 +6,9 @@ use Rattle.double.specs.Operators.{_⊕_, _⊖_, _⊗_, _⊘_, _≺_, at}
 use Rattle.double.specs.Numbers.{#0, #1, #2, #3, #ε}
 use Rattle.double.specs.Sizes.{absOf}
 use Rattle.kernels.specs.Door.{sqrtOf, logOf, powfOf}
-use Rattle.newton.specs.Equations.{powF0, powF1}
-use Rattle.newton.specs.Rounds.{newtonOf}
-use Rattle.newton.specs.declared.Found.{Found}
+use Rattle.algebra.specs.newton.Equations.{powF0, powF1}
+use Rattle.algebra.specs.newton.Rounds.{newtonOf}
+use Rattle.algebra.specs.declared.newton.Found.{Found}
 use Rattle.powcone.specs.declared.Gradient.{Gradient}
 
 -- 001 unit_initialization: z and s alike

@@ -9,20 +9,22 @@ ghost use Rattle.powcone.specs.Feasible.{residueAt, primalResidue, dualR
 ghost use Rattle.powcone.specs.Barriers.{dualPhi, barrierDualOf, barrierPrimalAt, barrierPrimalOf, computeBarrierOf};
 ghost use Rattle.powcone.specs.PrimalGradient.{unitInitializationOf, newtonRaphsonPowconeOf, signedOf, gradientAt, gradientPrimalOf};
 ghost use Rattle.powcone.specs.DualGradient.{updateDualGradHOf};
+use algebra::newton::Equation;
+use algebra::newton::Found;
+use algebra::newton::newton_raphson_onesided;
 use algebra::vector::head;
 use algebra::vector::moved3;
+use cone::verdict::Answer;
+use cone::verdict::power_margin;
+use cone::verdict::told;
 use double::EPSILON;
 use double::abs;
 use kernels::exp;
 use kernels::log;
 use kernels::powf;
 use kernels::sqrt;
-use newton::Equation;
-use newton::Found;
-use newton::newton_raphson_onesided;
-use verdict::Answer;
-use verdict::power_margin;
-use verdict::told;
+
+pub mod powcone_correction;
 
 // What a cone test compares, with the two numbers that it is the difference of: res = power - square.
 pub struct Residue {

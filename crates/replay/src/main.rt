@@ -3,9 +3,9 @@
 ghost use mathlib.Core.Path.{_≡_};
 ghost use lib.ListN.{length};
 use libc::STDERR_FILENO;
-use replay_file::put_replay;
-use trace_file::print_text;
-use trace_file::read_argument;
+use program_files::print_text;
+use program_files::read_argument;
+use trace_replay::replay_file::put_replay;
 
 // One byte more than a file may have, so that a larger one shows. The `ensures` gives the length alone, which lending the array needs.
 fn file_room() -> [u8; 65537]

@@ -5,13 +5,13 @@
 ghost use mathlib.Core.Path.{_≡_};
 ghost use lib.ListN.{length};
 use libc::STDERR_FILENO;
-use rescue_file::edition_of;
-use rescue_file::put_rescue;
-use trace_file::print_text;
-use trace_file::read_argument;
-use trace_file::write_argument;
-use trace_judge::NEWEST_EDITION;
-use words::front;
+use octets::words::front;
+use program_files::print_text;
+use program_files::read_argument;
+use program_files::write_argument;
+use trace::trace_judge::NEWEST_EDITION;
+use trace_rescue::rescue_file::edition_of;
+use trace_rescue::rescue_file::put_rescue;
 
 // One byte more than a file may have, so that a larger one shows. The `ensures` gives the length alone, which lending the array needs.
 fn file_room() -> [u8; 65537]

@@ -6,6 +6,9 @@ ghost use Rattle.root.specs.Steps.{nearRoot, rootOf, sqrtOf};
 use double::Normal;
 use wide::Halves;
 
+pub mod reciprocal_table;
+pub mod table_root;
+
 // The whole number nearest to the root of m * 2^52, a digit at each turn: `rest` holds the digits of m that are still to come, at the top,
 // and `rem` what the digits passed have over the square of `root`.
 fn digit_by_digit(m: u64) -> u64

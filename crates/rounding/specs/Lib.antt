@@ -1,2 +1,3 @@
 pub mod Units
 pub mod Within
+pub mod rounding_errors

@@ -1,2 +1,3 @@
 pub mod Scalings
 pub mod Updates
+pub mod primal_dual

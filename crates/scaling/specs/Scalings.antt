@@ -9,8 +9,8 @@ use Rattle.double.specs.Numbers.{#0, #1, #3, #ε, #√ε}
 use Rattle.double.specs.Sizes.{absOf}
 use Rattle.algebra.specs.Vectors.{dotOf, movedOf}
 use Rattle.algebra.specs.Packed.{quadFormOf, scaledOf}
-use Rattle.primal_dual.specs.declared.Measures.{Measures}
-use Rattle.primal_dual.specs.Block.{primalDualBlock}
+use Rattle.scaling.specs.declared.primal_dual.Measures.{Measures}
+use Rattle.scaling.specs.primal_dual.Block.{primalDualBlock}
 use Rattle.cone.specs.Codes.{dual}
 use Rattle.kinds.specs.declared.three.Gradient.{Gradient}
 use Rattle.kinds.specs.Three.{gradientPrimalOf}

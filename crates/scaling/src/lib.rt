@@ -3,6 +3,8 @@
 ghost use mathlib.Core.Path.{_≡_};
 ghost use Rattle.algebra.specs.Packed.{scaledOf};
 ghost use Rattle.scaling.specs.Scalings.{measureOf, apart, updateHsOf};
+use crate::primal_dual::Measures;
+use crate::primal_dual::use_primal_dual_scaling;
 use algebra::sym3::quad_form;
 use algebra::sym3::scaled_from;
 use algebra::vector::dot3;
@@ -10,9 +12,8 @@ use algebra::vector::moved3;
 use cone::DUAL;
 use double::abs;
 use kinds::three::gradient_primal;
-use primal_dual::Measures;
-use primal_dual::use_primal_dual_scaling;
 
+pub mod primal_dual;
 pub mod update;
 
 const EPSILON: f64 = 2.220446049250313e-16;

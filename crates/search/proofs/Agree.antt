@@ -4,7 +4,7 @@ use mathlib.Core.List.{List}
 use lib.Ieee.{Float}
 use denote.Ref.{now}
 use Rattle.arith.specs.Outcomes.{OneOutcome}
-use Rattle.trials.specs.Search.{Outcome, outcome}
+use Rattle.search.specs.trials.Search.{Outcome, outcome}
 use Rattle.search.specs.declared.Searched.{Searched}
 use Rattle.search.proofs.put_trial.Reads as put-trial
 use Rattle.search.proofs.backtrack_search.Reads as backtrack-search

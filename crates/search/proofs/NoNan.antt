@@ -15,11 +15,11 @@ use Rattle.double.specs.Numbers.{#0}
 use Rattle.algebra.specs.Vectors.{movedOf}
 use Rattle.cone.specs.declared.Settings.{Settings}
 use Rattle.judges.specs.Judges.{allOf, allFinite}
-use Rattle.trials.specs.Trials.{Usable}
-use Rattle.trials.specs.Search.{Problem, Outcome, searchOf}
+use Rattle.search.specs.trials.Trials.{Usable}
+use Rattle.search.specs.trials.Search.{Problem, Outcome, searchOf}
 use Rattle.search.specs.Points.{trialPoint, allNumbers}
-use Rattle.trials.proofs.Trials.{trial-positive}
-use Rattle.trials.proofs.Walk.{trialOf, Ended, passed, failed, ended}
+use Rattle.search.proofs.trials.Trials.{trial-positive}
+use Rattle.search.proofs.trials.Walk.{trialOf, Ended, passed, failed, ended}
 use Rattle.search.proofs.Settings.{of-true}
 
 finite-number : (x : Float) → finite x ≡ true → not (isNan x) ≡ true

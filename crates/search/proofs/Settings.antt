@@ -12,7 +12,7 @@ use Rattle.double.specs.Operators.{_≺_, _≼_}
 use Rattle.double.specs.Numbers.{#0, #largestStep, #smallestNormal}
 use Rattle.cone.specs.declared.Settings.{Settings}
 use Rattle.judges.specs.Judges.{settingsFinite, settingsOk}
-use Rattle.trials.specs.Trials.{Usable}
+use Rattle.search.specs.trials.Trials.{Usable}
 
 pub of-true : (b : Bool) → b ≡ true → T b
 of-true b e = subst T (sym e) tt

@@ -1,2 +1,3 @@
 pub mod Points
 pub mod Problems
+pub mod trials

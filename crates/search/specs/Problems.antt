@@ -8,7 +8,7 @@ use lib.Ieee.{Float}
 use Rattle.cone.specs.declared.Cone.{Cone}
 use Rattle.cone.specs.declared.Settings.{Settings}
 use Rattle.judges.specs.Judges.{settingsFinite, settingsOk}
-use Rattle.trials.specs.Search.{Problem}
+use Rattle.search.specs.trials.Search.{Problem}
 use Rattle.kinds.specs.Passes.{passesIn}
 use Rattle.search.specs.Points.{trialPoint}
 

@@ -1,12 +1,14 @@
 // 003: the step search along a direction. Its laws, for any test of a point, are in the crate trials.
 ghost use mathlib.Core.Path.{_≡_};
 ghost use lib.ListN.{length};
-ghost use Rattle.trials.specs.Search.{outcome, searchOf};
+ghost use Rattle.search.specs.trials.Search.{outcome, searchOf};
 ghost use Rattle.search.specs.Points.{trialPoint};
 ghost use Rattle.search.specs.Problems.{problemIn, Searchable};
 use cone::Settings;
 use judges::refusal::store;
 use kinds::passes;
+
+pub mod trials;
 
 // The step, zero where no allowed trial passed, and how many points were tested.
 pub struct Searched {

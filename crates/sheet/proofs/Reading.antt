@@ -5,15 +5,15 @@ use mathlib.Core.List.{List, [], _∷_, _++_}
 use Prim.Native.Nat.{ℕ, _+_, _≤_}
 use native.Mathlib.Omega.{arith}
 use lib.ListN.{length, length-append}
-use Rattle.words.specs.Words.{AllBelow}
-use Rattle.sheet_counts.specs.Laws.{AllBytes}
-use Rattle.sheet_rows.specs.declared.Totals.{Totals}
-use Rattle.sheet_rows.specs.Rows.{Held, addOf}
-use Rattle.sheet_rows.specs.Sums.{Begun, Countable, addAll}
-use Rattle.sheet_rows.proofs.Sums.{bytes-append}
-use Rattle.sheet_text.specs.declared.Printed.{Printed}
-use Rattle.sheet_text.specs.Printed.{textRoom, Told, printOf}
-use Rattle.sheet_text.proofs.FromFiles.{files-printed}
+use Rattle.octets.specs.words.Words.{AllBelow}
+use Rattle.trace_sheet.specs.sheet_counts.Laws.{AllBytes}
+use Rattle.trace_sheet.specs.declared.sheet_rows.Totals.{Totals}
+use Rattle.trace_sheet.specs.sheet_rows.Rows.{Held, addOf}
+use Rattle.trace_sheet.specs.sheet_rows.Sums.{Begun, Countable, addAll}
+use Rattle.trace_sheet.proofs.sheet_rows.Sums.{bytes-append}
+use Rattle.trace_sheet.specs.declared.sheet_text.Printed.{Printed}
+use Rattle.trace_sheet.specs.sheet_text.Printed.{textRoom, Told, printOf}
+use Rattle.trace_sheet.proofs.sheet_text.FromFiles.{files-printed}
 use Rattle.sheet.specs.Counting.{Added, FilesCounted, SheetPrinted}
 
 no-bytes : AllBytes []

@@ -4,11 +4,11 @@
 ghost use mathlib.Core.Path.{_≡_};
 ghost use lib.ListN.{length};
 use libc::STDERR_FILENO;
-use thin_file::put_thin;
-use trace_file::print_text;
-use trace_file::read_argument;
-use trace_file::write_argument;
-use words::front;
+use octets::words::front;
+use program_files::print_text;
+use program_files::read_argument;
+use program_files::write_argument;
+use trace_thin::thin_file::put_thin;
 
 // One byte more than a file may have, so that a larger one shows. The `ensures` gives the length alone, which lending the array needs.
 fn file_room() -> [u8; 65537]

@@ -1,2 +1,10 @@
-pub mod Entries
-pub mod Shapes
+pub mod trace_judge
+pub mod trace_reader
+pub mod record_writer
+pub mod trace_writer
+pub mod trace_places
+pub mod trace_entries
+pub mod recorded
+pub mod whole_records
+pub mod trace_sealed
+pub mod trace_kept

@@ -5,8 +5,8 @@ use mathlib.Core.List.{List, [], _∷_, _++_, append-assoc, append-nil}
 use native.Mathlib.Omega.{arith}
 use lib.ListN.{length, take, drop, length-append}
 use lib.Seq.{sets, sets-eq, take-at, drop-at}
-use Rattle.words.specs.Words.{le, rowBytes}
-use Rattle.words.proofs.Stores.{sets-after, sets-before}
+use Rattle.octets.specs.words.Words.{le, rowBytes}
+use Rattle.octets.proofs.words.Stores.{sets-after, sets-before}
 use Rattle.trace_layout.specs.Records.{Record, Laid, Sized, bytesOf, sizeIn}
 use Rattle.trace_layout.specs.Traces.{recordsBytes, offsetsFrom, trailerOf, traceOf, AllLaid}
 use Rattle.trace_layout.proofs.Records.{length-bytesOf}

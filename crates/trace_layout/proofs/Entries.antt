@@ -9,8 +9,8 @@ use lib.ListN.{take, drop, getD}
 use lib.Seq.{drop-drop}
 use borrow.Author.Tests.{eqb-true}
 use Rattle.arith.proofs.Branches.{and-left, and-right}
-use Rattle.words.specs.Words.{wordAt}
-use Rattle.words.proofs.Runs.{word-behind}
+use Rattle.octets.specs.words.Words.{wordAt}
+use Rattle.octets.proofs.words.Runs.{word-behind}
 use Rattle.trace_layout.specs.Records.{Record, recordAt, laidAt, sizeAt}
 use Rattle.trace_layout.specs.Traces.{listAt, countAt, editionAt, trailerOk, walks, goodTrace, recordsIn, recordsOf}
 

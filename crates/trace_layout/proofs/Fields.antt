@@ -7,9 +7,9 @@ use native.Mathlib.Omega.{arith}
 use lib.Dec.{eqb}
 use lib.ListN.{take, drop, getD}
 use borrow.Author.Tests.{ne-eqb}
-use Rattle.words.specs.Words.{wordAt, rowOf}
-use Rattle.words.specs.Runs.{Run, runsSize}
-use Rattle.words.proofs.Runs.{word-behind, number-at, row-at}
+use Rattle.octets.specs.words.Words.{wordAt, rowOf}
+use Rattle.octets.specs.words.Runs.{Run, runsSize}
+use Rattle.octets.proofs.words.Runs.{word-behind, number-at, row-at}
 use Rattle.trace_layout.specs.Records.{Record, rulesIn, exponents, settingsIn, runsFor, flagPlace, kindAt, dim1At, dim2At, ruleAt}
 use Rattle.trace_layout.specs.Records.{flagAt, runsAt, sizeAt, ofRows, recordAt}
 

@@ -6,8 +6,8 @@ use mathlib.Core.List.{List, _++_, append-assoc}
 use native.Mathlib.Omega.{arith}
 use lib.ListN.{length, take, drop, length-append, take-append-drop}
 use lib.Seq.{sets, length-take-le}
-use Rattle.words.specs.Words.{le, rowBytes, AllBelow}
-use Rattle.words.proofs.Words.{length-le, length-rowBytes, below-take}
+use Rattle.octets.specs.words.Words.{le, rowBytes, AllBelow}
+use Rattle.octets.proofs.words.Words.{length-le, length-rowBytes, below-take}
 use Rattle.trace_layout.specs.Records.{Record, bytesOf, sizeIn}
 use Rattle.trace_layout.specs.Traces.{mostRecords, recordsBytes, offsetsFrom, trailerOf, traceOf, listAt, countAt, editionAt}
 use Rattle.trace_layout.specs.Traces.{goodTrace, recordsOf, AllLaid}

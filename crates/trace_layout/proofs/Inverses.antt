@@ -5,9 +5,9 @@ use mathlib.Core.List.{List, [], _∷_, _++_}
 use native.Mathlib.Omega.{arith}
 use lib.ListN.{length, getD, length-append}
 use lib.Seq.{drop-at}
-use Rattle.words.specs.Words.{wordAt, rowBytes, AllBelow}
-use Rattle.words.proofs.Words.{rowOf-rowBytes}
-use Rattle.words.proofs.Runs.{word-behind, row-number}
+use Rattle.octets.specs.words.Words.{wordAt, rowBytes, AllBelow}
+use Rattle.octets.proofs.words.Words.{rowOf-rowBytes}
+use Rattle.octets.proofs.words.Runs.{word-behind, row-number}
 use Rattle.trace_layout.specs.Records.{Record, bytesOf, sizeIn}
 use Rattle.trace_layout.specs.Traces.{recordsBytes, offsetsFrom, trailerOf, traceOf, AllLaid, editionAt, offsetAt, recordsOf}
 use Rattle.trace_layout.specs.Inverses.{OfRecords, Makes, OfTraces, OfAppending}

@@ -9,10 +9,10 @@ use lib.ListN.{length, take, drop, getD, replicate, length-append, length-replic
 use borrow.Author.Tests.{eq-eqb, eqb-true, leb-true, le-leb, ltb-true}
 use mathlib.Core.Logic.{_⊎_, inl, inr, ⊎-elim}
 use Rattle.arith.proofs.Branches.{and-left, and-right, false-not-true}
-use Rattle.words.specs.Words.{wordAt, rowOf, AllBelow}
-use Rattle.words.specs.Runs.{Run, runsSize, runsOf, Suits}
-use Rattle.words.proofs.Runs.{noRun, number-at, RowSuits, suits-at, only-below, length-runsBytes, runsOf-runsBytes, runsBytes-runsOf}
-use Rattle.words.proofs.Runs.{runsOf-suits}
+use Rattle.octets.specs.words.Words.{wordAt, rowOf, AllBelow}
+use Rattle.octets.specs.words.Runs.{Run, runsSize, runsOf, Suits}
+use Rattle.octets.proofs.words.Runs.{noRun, number-at, RowSuits, suits-at, only-below, length-runsBytes, runsOf-runsBytes, runsBytes-runsOf}
+use Rattle.octets.proofs.words.Runs.{runsOf-suits}
 use Rattle.trace_layout.specs.Records.{Record, Laid, Sized, stepMark, rulesIn, exponents, settingsIn, run, runsFor, runsIn, sizeIn}
 use Rattle.trace_layout.specs.Records.{one, rowsIn, bytesOf, dimsOk, stepOk, shapeOk, kindAt, dim1At, dim2At, flagPlace, flagAt}
 use Rattle.trace_layout.specs.Records.{runsAt, sizeAt, laidAt, only, row, ofRows, recordAt}

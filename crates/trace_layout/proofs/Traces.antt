@@ -9,10 +9,10 @@ use lib.ListN.{length, take, drop, length-append, length-drop, take-append-drop}
 use lib.Seq.{drop-at, take-at, take-add, drop-drop, take-all, length-take-le}
 use borrow.Author.Tests.{eq-eqb, eqb-true, leb-true, le-leb}
 use Rattle.arith.proofs.Branches.{and-left, and-right}
-use Rattle.words.specs.Words.{le, spelled, wordAt, rowBytes, rowOf, AllBelow}
-use Rattle.words.specs.Runs.{runsSize, runsBytes, runsOf, Suits}
-use Rattle.words.proofs.Words.{length-le, spelled-le, le-spelled, length-rowBytes, rowBytes-below, below-append, below-take, below-drop}
-use Rattle.words.proofs.Runs.{number-at, runsBytes-below, runsOf-runsBytes, runsBytes-runsOf, word-behind}
+use Rattle.octets.specs.words.Words.{le, spelled, wordAt, rowBytes, rowOf, AllBelow}
+use Rattle.octets.specs.words.Runs.{runsSize, runsBytes, runsOf, Suits}
+use Rattle.octets.proofs.words.Words.{length-le, spelled-le, le-spelled, length-rowBytes, rowBytes-below, below-append, below-take, below-drop}
+use Rattle.octets.proofs.words.Runs.{number-at, runsBytes-below, runsOf-runsBytes, runsBytes-runsOf, word-behind}
 use Rattle.trace_layout.specs.Records.{Record, sizeIn, one, bytesOf, only, sizeAt, laidAt}
 use Rattle.trace_layout.specs.Traces.{backMark, mostRecords, newestEdition, known, recordsBytes, offsetsFrom, trailerRuns, trailerOf}
 use Rattle.trace_layout.specs.Traces.{traceOf, AllLaid, listAt, countAt, editionAt, trailerOk, walks, goodTrace, recordsIn, recordsOf}

@@ -4,7 +4,7 @@ use mathlib.Core.Path.{_≡_}
 use mathlib.Core.Bool.{true}
 use mathlib.Core.List.{List, [], _∷_, _++_}
 use lib.ListN.{length, take, getD}
-use Rattle.words.specs.Words.{AllBelow}
+use Rattle.octets.specs.words.Words.{AllBelow}
 use Rattle.trace_layout.specs.Records.{Record, Laid, Sized, bytesOf, laidAt, sizeAt, recordAt}
 use Rattle.trace_layout.specs.Traces.{mostRecords, known, recordsBytes, offsetsFrom, traceOf, AllLaid, editionAt, offsetAt, goodTrace}
 use Rattle.trace_layout.specs.Traces.{recordsOf}

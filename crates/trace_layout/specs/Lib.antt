@@ -1,3 +1,4 @@
 pub mod Records
 pub mod Traces
 pub mod Inverses
+pub mod trace

@@ -5,8 +5,8 @@ use mathlib.Core.Bool.{Bool, true, cond, _&&_}
 use mathlib.Core.List.{List, [], _∷_}
 use lib.Dec.{eqb, leb, ltb}
 use lib.ListN.{length, getD, replicate}
-use Rattle.words.specs.Words.{wordAt, AllBelow}
-use Rattle.words.specs.Runs.{Run, runsSize, runsBytes, runsOf}
+use Rattle.octets.specs.words.Words.{wordAt, AllBelow}
+use Rattle.octets.specs.words.Runs.{Run, runsSize, runsBytes, runsOf}
 
 -- ---- a record is a value of whole numbers: of a double, its bits
 

@@ -4,8 +4,8 @@ use mathlib.Core.Bool.{Bool, _&&_}
 use mathlib.Core.List.{List, [], _∷_, _++_}
 use lib.Dec.{eqb, leb}
 use lib.ListN.{length, take, drop}
-use Rattle.words.specs.Words.{wordAt, rowBytes}
-use Rattle.words.specs.Runs.{Run, runsBytes}
+use Rattle.octets.specs.words.Words.{wordAt, rowBytes}
+use Rattle.octets.specs.words.Runs.{Run, runsBytes}
 use Rattle.trace_layout.specs.Records.{Record, Laid, Sized, run, one, bytesOf, sizeIn, laidAt, sizeAt, recordAt}
 
 -- ---- constants

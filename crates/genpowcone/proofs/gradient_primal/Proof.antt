@@ -12,11 +12,11 @@ use Rattle.double.specs.Operators.{_⊘_, _≺_}
 use Rattle.double.specs.Numbers.{#1, #ε}
 use Rattle.kernels.specs.Door.{logOf}
 use Rattle.algebra.specs.Vectors.{sumsqOf, normOf}
-use Rattle.newton.specs.Equations.{genF0, genF0At, genF1}
-use Rattle.newton.specs.Rounds.{newtonOf}
-use Rattle.newton.specs.declared.Found.{Found}
-use Rattle.genpowcone_loops.specs.Folds.{primalPhi}
-use Rattle.genpowcone_loops.proofs.Arrays.{logs-front}
+use Rattle.algebra.specs.newton.Equations.{genF0, genF0At, genF1}
+use Rattle.algebra.specs.newton.Rounds.{newtonOf}
+use Rattle.algebra.specs.declared.newton.Found.{Found}
+use Rattle.genpowcone.specs.genpowcone_loops.Folds.{primalPhi}
+use Rattle.genpowcone.proofs.genpowcone_loops.Arrays.{logs-front}
 use Rattle.genpowcone.specs.PrimalGradient.{flatGradient, gradientAt, gradientPrimalOf, newtonRaphsonGenpowconeOf, psiOf, x0Of}
 use Rattle.genpowcone.proofs.gradient_primal.Statement.{statement}
 use Rattle.genpowcone.proofs.gradient_primal.Tie as tie

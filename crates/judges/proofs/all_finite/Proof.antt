@@ -8,7 +8,7 @@ use lib.ListN.{length, drop}
 use lib.Ieee.Scale.{finite}
 use Rattle.judges.specs.Judges.{allOf}
 use borrow.Author.Needs.{needs}
-use Rattle.cone_judge.proofs.Folds.{all-next, all-ended}
+use Rattle.judges.proofs.cone_judge.Folds.{all-next, all-ended}
 use Rattle.judges.proofs.all_finite.Statement.{statement}
 use Rattle.judges.proofs.all_finite.Tie as tie
 

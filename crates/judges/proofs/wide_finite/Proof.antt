@@ -1,6 +1,6 @@
 -- `wide_finite` joins the judgements of its eight parts. Assumes nothing.
 use Rattle.judges.specs.Judges.{wideFinite}
-use Rattle.table.proofs.Settled.{both}
+use Rattle.cone.proofs.table.Settled.{both}
 use borrow.Author.Needs.{needs}
 use Rattle.judges.proofs.wide_finite.Statement.{statement}
 use Rattle.judges.proofs.wide_finite.Tie as tie

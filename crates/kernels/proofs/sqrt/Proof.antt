@@ -1,8 +1,8 @@
 -- `sqrt` is the plain root: the second one is it in every bit. Assumes nothing.
 use borrow.Author.Needs.{needs}
 use mathlib.Core.Path.{ap, _∙_}
-use Rattle.table_root.specs.declared.Root.{Root}
-use Rattle.table_root.proofs.SameRoot.{same-root}
+use Rattle.root.specs.declared.table_root.Root.{Root}
+use Rattle.root.proofs.table_root.SameRoot.{same-root}
 use Rattle.kernels.proofs.sqrt.Statement.{statement}
 use Rattle.kernels.proofs.sqrt.Tie as tie
 

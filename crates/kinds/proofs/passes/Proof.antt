@@ -1,6 +1,6 @@
 -- `passes` says yes where `answer` does, and nowhere else. Assumes nothing.
 use mathlib.Core.Path.{ap, _∙_}
-use Rattle.verdict.specs.Answers.{isYes}
+use Rattle.cone.specs.verdict.Answers.{isYes}
 use borrow.Author.Needs.{needs}
 use Rattle.kinds.specs.Passes.{passesIn}
 use Rattle.kinds.proofs.passes.Statement.{statement}

@@ -1,7 +1,7 @@
 -- `newton_raphson_powcone` is its definition: the rounds at this kind's equation, from x0 and with t0 as computed. Assumes nothing.
 use mathlib.Core.Path.{refl}
 use borrow.Author.Needs.{needs}
-use Rattle.newton.specs.Equations.{powF0, f0Of, f1Of}
+use Rattle.algebra.specs.newton.Equations.{powF0, f0Of, f1Of}
 use Rattle.powcone.specs.PrimalGradient.{newtonRaphsonPowconeOf, t0Of, x0Of}
 use Rattle.powcone.proofs.newton_raphson_powcone.Statement.{statement}
 use Rattle.powcone.proofs.newton_raphson_powcone.Tie as tie

@@ -2,7 +2,7 @@
 use mathlib.Core.Path.{_≡_, refl, sym, ap, _∙_}
 use borrow.Author.Tests.{eq-eqb, ne-eqb}
 use Rattle.arith.proofs.Branches.{taken, left}
-use Rattle.primal_dual.specs.declared.Measures.{Measures}
+use Rattle.scaling.specs.declared.primal_dual.Measures.{Measures}
 use Rattle.scaling.specs.declared.Scaled.{Scaled}
 use Rattle.scaling.specs.Scalings.{scaledBy, chosenBy, primalDualBy, updateHsOf}
 use borrow.Author.Needs.{needs}

@@ -12,12 +12,12 @@ use denote.Ref.{now}
 use borrow.Author.Needs.{needs}
 use Rattle.double.specs.Operators.{_⊗_}
 use Rattle.double.specs.Numbers.{#0}
-use Rattle.trials.specs.Trials.{bound, Usable}
-use Rattle.trials.specs.Search.{Problem, outcome, passesAt}
+use Rattle.search.specs.trials.Trials.{bound, Usable}
+use Rattle.search.specs.trials.Search.{Problem, outcome, passesAt}
 use Rattle.kinds.specs.Passes.{passesIn}
 use Rattle.search.specs.Problems.{problemIn}
-use Rattle.trials.proofs.Trials.{bound-small}
-use Rattle.trials.proofs.Walk.{Reached, reached-start, reached-next, reached-under, is-hit, is-miss}
+use Rattle.search.proofs.trials.Trials.{bound-small}
+use Rattle.search.proofs.trials.Walk.{Reached, reached-start, reached-next, reached-under, is-hit, is-miss}
 use Rattle.search.proofs.Points.{length-point}
 use Rattle.search.proofs.Settings.{of-true, usable-of}
 use Rattle.search.proofs.backtrack_search.Statement.{statement}

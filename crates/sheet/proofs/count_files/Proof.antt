@@ -6,9 +6,9 @@ use Prim.Native.Nat.{ℕ, _-_, _≤_, _<_}
 use native.Mathlib.Omega.{arith}
 use lib.ListN.{length}
 use denote.Ref.{now}
-use Rattle.sheet_counts.specs.Sheet.{sheetOf}
-use Rattle.sheet_rows.specs.declared.Totals.{Totals}
-use Rattle.sheet_rows.specs.Rows.{Held, totalsOf}
+use Rattle.trace_sheet.specs.sheet_counts.Sheet.{sheetOf}
+use Rattle.trace_sheet.specs.declared.sheet_rows.Totals.{Totals}
+use Rattle.trace_sheet.specs.sheet_rows.Rows.{Held, totalsOf}
 use Rattle.sheet.specs.Counting.{Added}
 use Rattle.sheet.proofs.Reading.{none-added, one-more, unread}
 use Rattle.sheet.proofs.count_files.Statement.{statement}

@@ -5,9 +5,9 @@ use mathlib.Core.Logic.{inl, inr}
 use denote.Ref.{now}
 use borrow.Author.Needs.{needs}
 use borrow.Author.Tests.{not-false}
-use Rattle.sheet_counts.specs.Sheet.{sheetOf}
-use Rattle.sheet_rows.specs.Rows.{Held, totalsOf}
-use Rattle.sheet_rows.specs.Sums.{Begun}
+use Rattle.trace_sheet.specs.sheet_counts.Sheet.{sheetOf}
+use Rattle.trace_sheet.specs.sheet_rows.Rows.{Held, totalsOf}
+use Rattle.trace_sheet.specs.sheet_rows.Sums.{Begun}
 use Rattle.sheet.proofs.Reading.{sheet-printed}
 use Rattle.sheet.proofs.put_files.Statement.{statement}
 use Rattle.sheet.proofs.put_files.Tie as tie

@@ -1,0 +1,2 @@
+pub mod search_entries
+pub mod plan_entries

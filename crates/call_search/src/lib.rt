@@ -1,0 +1,2 @@
+pub mod plan_entries;
+pub mod search_entries;

@@ -1,0 +1,54 @@
+-- What a yes and a no of the power cone say, proved: the tests behind an answer are read off it, the rest is Primal and Dual. Assumes
+-- nothing.
+use mathlib.Core.Path.{_≡_, sym, subst}
+use mathlib.Core.Bool.{Bool, true}
+use Prim.Native.Nat.{_<_}
+use lib.Dec.{T}
+use lib.Ieee.{Float}
+use lib.Ieee.Fits.{and-l, and-r}
+use lib.Ieee.Positive.{num}
+use Rattle.double.specs.Operators.{_≺_}
+use Rattle.double.specs.Numbers.{#0}
+use Rattle.series.specs.series_change.SignedArithmetic.{BelowZero}
+use Rattle.cone.specs.declared.verdict.Answer.the-variants.{No, Yes}
+use Rattle.certain.specs.Coordinates.{Point}
+use Rattle.certain.proofs.Decided.{yes-tests, no-tests}
+use Rattle.certain.specs.certain_power.Primal as primal
+use Rattle.certain.specs.certain_power.Dual as dual
+use Rattle.certain.specs.certain_power.Meaning.{Exponent, Meaning}
+use Rattle.certain.proofs.certain_power.Primal as primal-proved
+use Rattle.certain.proofs.certain_power.Dual as dual-proved
+
+holds : (b : Bool) → b ≡ true → T b
+holds b e = subst T (sym e) tt
+
+module _ (α s1 s2 s3 : Float) (x : Exponent α) (p : Point s1 s2 s3) where
+  module _ (passed : primal.signs s1 s2 ≡ true) where
+    first-above : T (#0 ≺ s1)
+    first-above = and-l (#0 ≺ s1) (#0 ≺ s2) (holds _ passed)
+
+    second-above : T (#0 ≺ s2)
+    second-above = and-r (#0 ≺ s1) (#0 ≺ s2) (holds _ passed)
+
+  primal-yes : primal.answer α s1 s2 s3 ≡ Yes → primal.Inside α s1 s2 s3
+  primal-yes e =
+      let t = yes-tests (primal.signs s1 s2) (primal.residue α s1 s2 s3) (primal.margin α s1 s2 s3) e in
+      primal-proved.inside α s1 s2 s3 x p (first-above (t .0)) (second-above (t .0)) (t .1)
+
+  primal-no : primal.signs s1 s2 ≡ true → primal.answer α s1 s2 s3 ≡ No → (0 < num s3) × BelowZero (primal.number α s1 s2 s3)
+  primal-no passed e =
+      primal-proved.outside α s1 s2 s3 x p (first-above passed) (second-above passed)
+      (no-tests (primal.signs s1 s2) (primal.residue α s1 s2 s3) (primal.margin α s1 s2 s3) passed e)
+
+  dual-yes : dual.answer α s1 s2 s3 ≡ Yes → dual.Inside α s1 s2 s3
+  dual-yes e =
+      let t = yes-tests (dual.signs s1 s2) (dual.residue α s1 s2 s3) (dual.margin α s1 s2 s3) e in
+      dual-proved.inside α s1 s2 s3 x p (first-above (t .0)) (second-above (t .0)) (t .1)
+
+  dual-no : dual.signs s1 s2 ≡ true → dual.answer α s1 s2 s3 ≡ No → (0 < num s3) × BelowZero (dual.number α s1 s2 s3)
+  dual-no passed e =
+      dual-proved.outside α s1 s2 s3 x p (first-above passed) (second-above passed)
+      (no-tests (dual.signs s1 s2) (dual.residue α s1 s2 s3) (dual.margin α s1 s2 s3) passed e)
+
+pub meaning : Meaning
+meaning = record { primal-yes = primal-yes; primal-no = primal-no; dual-yes = dual-yes; dual-no = dual-no }

@@ -1,0 +1,4 @@
+pub mod words
+pub mod equal_bytes
+pub mod decimal
+pub mod lines

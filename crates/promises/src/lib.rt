@@ -1,0 +1,9 @@
+pub mod agree;
+pub mod border;
+pub mod certain_cones;
+pub mod certain_entries;
+pub mod replay_kept;
+pub mod rules;
+pub mod serials;
+pub mod thin_kept;
+pub mod undecided;

@@ -1,0 +1,10 @@
+-- 01: "For each, show that any two outcomes allowed by it agree". Assumes nothing.
+use mathlib.Core.Path.{refl, sym, _∙_}
+use mathlib.Core.List.{List}
+use Prim.Native.Nat.{ℕ}
+use denote.Ref.{now}
+use Rattle.arith.specs.Outcomes.{OneOutcome}
+use Rattle.trace.proofs.record_writer.put_record.Reads as put-record
+
+pub put-record-agrees : OneOutcome put-record.Post {A = List ℕ} (λ κs s. now (s .0))
+put-record-agrees κs a x y s t p q = (refl, p ∙ sym q)

@@ -1,0 +1,21 @@
+-- `put_rule` meets its contract: edition 3 has one rule, the others none. Assumes nothing.
+use native.Mathlib.Omega.{arith}
+use Rattle.octets.specs.words.Words.{le, rowBytes}
+use Rattle.trace.proofs.record_writer.Bits.{one-rule, no-rule}
+use borrow.Author.Needs.{needs}
+use Rattle.trace.proofs.record_writer.put_rule.Statement.{statement}
+use Rattle.trace.proofs.record_writer.put_rule.Tie as tie
+
+put-requires : tie.Need-put-requires
+put-requires c κs = omega (arith, one-rule _ (c .before .if1 .taken), c .before .before .before .pre)
+
+returns : tie.Need-returns
+unfolding rowBytes le
+returns c = rw (one-rule _ (c .before .before .before .before .if1 .taken)) (c .before .before .put .ensures)
+
+returns-2 : tie.Need-returns-2
+unfolding rowBytes
+returns-2 c = rw (no-rule _ (c .if1 .left))
+
+pub put-rule-spec : {M : Type 1} → statement M
+put-rule-spec = tie.close (tie.spec put-requires (λ c. search needs) returns returns-2)

@@ -1,0 +1,2 @@
+pub mod rescued
+pub mod rescue_file

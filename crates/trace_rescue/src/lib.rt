@@ -1,0 +1,2 @@
+pub mod rescue_file;
+pub mod rescued;

@@ -1,0 +1,3 @@
+pub mod firsts
+pub mod thinned
+pub mod thin_file

@@ -1,0 +1,3 @@
+pub mod firsts;
+pub mod thin_file;
+pub mod thinned;

@@ -5,7 +5,7 @@ use Rattle.exponential.proofs.exp.Reads as exp
 use Rattle.exponential.proofs.place.locate.Reads as locate
 use Rattle.exponential.proofs.place.place.Reads as place
 use Rattle.exponential.proofs.place.rest.Reads as rest
-use Rattle.exponential.proofs.sum.sum.Reads as sum
+use Rattle.exponential.proofs.sum.rounded.Reads as rounded
 
 pub exp-agrees : OneAnswer exp.Post
 exp-agrees κs a x y s t p q = p ∙ sym q
@@ -19,5 +19,5 @@ place-agrees κs a x y s t p q = p ∙ sym q
 pub rest-agrees : OneAnswer rest.Post
 rest-agrees κs a x y s t p q = p ∙ sym q
 
-pub sum-agrees : OneAnswer sum.Post
-sum-agrees κs a x y s t p q = p ∙ sym q
+pub rounded-agrees : OneAnswer rounded.Post
+rounded-agrees κs a x y s t p q = p ∙ sym q

@@ -1,20 +1,20 @@
 // The exponential: 2^j times a sum, with x = j·S(1/3) + r. The rest r is kept to 2^-64 and the sum to 2^-62, in whole numbers; the answer
 // is rounded once, at the end.
 ghost use mathlib.Core.Path.{_≡_};
-ghost use Prim.Native.Nat.{_+_, _*_, _^_, _≤_, _<_};
-ghost use Rattle.exponential.specs.Steps.{composed, expAt, expOf, InRange};
+ghost use Prim.Native.Nat.{_+_, _*_, _≤_, _<_};
+ghost use Rattle.exponential.specs.Steps.{thirdIn64, horner, composed, expAt, expOf, InRange};
 use place::Point;
 
+pub mod inverse;
 pub mod place;
-pub mod series_inverse;
 pub mod sum;
 
-// The double of the sum v, in units of 2^-62, at the place k. A sum that is rounded up to 2 carries into the field, and that is right.
-fn composed(k: u64, v: u64) -> f64
-    requires { ⌜ (2 ≤ k) × (k ≤ 2046) × (2 ^ 62 ≤ v) × (v ≤ 2 ^ 63 + 1024) ⌝ }
-    ensures { λ r. ⌜ r ≡ composed k v ⌝ }
+// The double of the sum at r, at the place k. A sum that is rounded up to 2 carries into the field, and that is right.
+fn composed(k: u64, r: u64) -> f64
+    requires { ⌜ (2 ≤ k) × (k ≤ 2046) × (r ≤ thirdIn64 + 2048) ⌝ }
+    ensures { λ y. ⌜ y ≡ composed k (horner r 39) ⌝ }
 {
-    f64::from_bits((k - 2) * 0x10_0000_0000_0000 + (v + 512) / 1024)
+    f64::from_bits((k - 2) * 0x10_0000_0000_0000 + sum::rounded(r))
 }
 
 // The exponential of a number that is raised to p.
@@ -23,7 +23,7 @@ fn exp_at(p: Point) -> f64
     ensures { λ r. ⌜ r ≡ expAt (p .whole * 2048 + p .part) ⌝ }
 {
     let k = place::place(p.whole);
-    composed(k, sum::sum(place::rest(p.whole, p.part, k)))
+    composed(k, place::rest(p.whole, p.part, k))
 }
 
 // The exponential, for every double. 01: "above 709 gives +infinity, below -708 gives +0, NaN gives NaN, exp 0 is 1".

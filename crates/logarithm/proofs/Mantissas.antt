@@ -10,10 +10,10 @@ use lib.ListN.{getD}
 use Rattle.series.specs.Series.{sDen}
 use Rattle.series.proofs.Terms.{sDen-pos}
 use Rattle.series.proofs.Addition.{floorS, floorS-of-scaled, S-of-product-at-most, S-of-product-at-least}
-use Rattle.logarithm.specs.logarithm_table.Table.{table}
+use Rattle.logarithm.specs.table.Table.{table}
 use Rattle.logarithm.specs.Steps.{ratioOf, shortSeriesOf, mantissaOf}
 use Rattle.logarithm.proofs.LongDivision.{quotient-small}
-use Rattle.logarithm.proofs.logarithm_table.TableRule.{entry-not-above, entry-one-below, entry-small}
+use Rattle.logarithm.proofs.table.TableRule.{entry-not-above, entry-one-below, entry-small}
 use Rattle.logarithm.proofs.ShortSeries.{short-series-below, short-series-above, short-series-le}
 
 -- 2^-120 is coarse enough for the addition law

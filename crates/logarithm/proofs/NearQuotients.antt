@@ -9,8 +9,8 @@ use lib.Dec.{leb→le}
 use lib.Pow.{pow-pos, pow-add}
 use lib.Ieee.{Float, binary64, div}
 use Rattle.double.specs.Fields.{Units}
-use Rattle.rounding.specs.rounding_errors.Errors.{Rounded}
-use Rattle.rounding.proofs.rounding_errors.Rounded.{rounded-near}
+use Rattle.rounding.specs.errors.Errors.{Rounded}
+use Rattle.rounding.proofs.errors.Rounded.{rounded-near}
 use Rattle.logarithm.proofs.Roundings.{div-is}
 
 -- ---- the quotient, over plain variables: d/W is to be divided by k, W = 2^59; P is 2^53, H is 2^52, v is 2^1074 and Z is v / W; u is x / y

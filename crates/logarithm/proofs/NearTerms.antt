@@ -10,8 +10,8 @@ use lib.Pow.{pow-pos}
 use lib.Ieee.{Float, binary64, mul, add, ofBits}
 use Rattle.double.specs.Fields.{Units}
 use Rattle.double.proofs.Made.{of-parts}
-use Rattle.rounding.proofs.rounding_errors.Added.{Totalled, total-near}
-use Rattle.rounding.proofs.rounding_errors.Multiplied.{Multiplied, mul-near}
+use Rattle.rounding.proofs.errors.Added.{Totalled, total-near}
+use Rattle.rounding.proofs.errors.Multiplied.{Multiplied, mul-near}
 use Rattle.logarithm.specs.Steps.{upper, shortSeriesOf}
 use Rattle.logarithm.proofs.Roundings.{product-above, product-below}
 use Rattle.logarithm.proofs.ShortSeries.{upper-below, upper-above, upper-le}

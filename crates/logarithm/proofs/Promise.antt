@@ -15,7 +15,7 @@ use Rattle.double.specs.Fields.{normalOf}
 use Rattle.double.proofs.Fields.{measured}
 use Rattle.series.specs.Series.{Written, rise, fall}
 use Rattle.series.proofs.Written.{written}
-use Rattle.logarithm.specs.logarithm_table.Table.{table}
+use Rattle.logarithm.specs.table.Table.{table}
 use Rattle.logarithm.specs.Steps.{upper, ratioOf, shortSeriesOf, mantissaOf, scaledOf, positiveOf, byFieldOf, logOf}
 use Rattle.logarithm.specs.Bound.{Promise}
 use Rattle.logarithm.proofs.Cases.{log-signed}

@@ -22,7 +22,7 @@ use Rattle.double.specs.Fields.{Units, fieldOf, digitsOf, mag}
 use Rattle.double.proofs.Fields.{Read, read, digits-lt}
 use Rattle.double.proofs.Made.{of-parts}
 use Rattle.double.proofs.NotNan.{no-nan-of-value}
-use Rattle.rounding.proofs.rounding_errors.Added.{Totalled, total-near}
+use Rattle.rounding.proofs.errors.Added.{Totalled, total-near}
 
 -- ---- a quotient and a sum of numbers that are not negative are the exact values, rounded
 

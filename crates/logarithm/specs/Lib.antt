@@ -1,4 +1,4 @@
 pub mod Steps
 pub mod Estimates
 pub mod Bound
-pub mod logarithm_table
+pub mod table

@@ -8,7 +8,7 @@ use lib.IntN.{pos}
 use lib.Ieee.{Float, nan, inf, binary64, neg, ofBits, ofInt, toBits, isNan}
 use Rattle.double.specs.Operators.{_⊗_}
 use Rattle.double.specs.Fields.{signOf, fieldOf, digitsOf, normalOf}
-use Rattle.logarithm.specs.logarithm_table.Table.{table}
+use Rattle.logarithm.specs.table.Table.{table}
 
 -- S(1/3) in units of 2^-53, rounded down
 abbrev pub ln2 : ℕ

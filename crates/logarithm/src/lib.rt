@@ -10,9 +10,9 @@ ghost use mathlib.Core.Path.{_≡_};
 ghost use Prim.Native.Nat.{_+_, _*_, _^_, _/_, _<_, _≤_};
 ghost use Rattle.logarithm.specs.Steps.{shortSeriesOf, mantissaOf, scaledOf, positiveOf, logOf};
 ghost use Rattle.logarithm.specs.Estimates.{Near, Summands};
-use crate::logarithm_table::entry;
+use crate::table::entry;
 
-pub mod logarithm_table;
+pub mod table;
 
 // floor(d·2^60 / n), in five steps of which each fits a u64.
 fn long_division(d: u64, n: u64) -> u64

@@ -1,8 +1,8 @@
 // The second square root. 02, Order 11: "add another that starts from a table estimate and corrects it with whole-number steps. The two
 // agree in every bit on all 2^64 inputs."
 //
-// The table gives 1 over the root of m / 2^52 to seven bits, and one of Newton's steps for it makes them fourteen; it is never above. Times
-// m it is a first root, never above either. Each correction step adds the rest, times that number, halved: the rest falls by 2^14 and is
+// The table gives 1 over the root of m / 2^52 to seven bits, and the first correction step, Newton's, makes them fourteen; it is never above.
+// Times m it is a first root, never above either. Each further step adds the rest, times that number, halved: the rest falls by 2^14 and is
 // never below zero, so that no number here has a sign and none is above 64 bits.
 ghost use mathlib.Core.Path.{_≡_};
 ghost use Prim.Native.Nat.{_*_, _^_, _<_, _≤_};
@@ -29,7 +29,7 @@ pub struct Root {
     pub steps: u32,
 }
 
-// 1 over the root of m / 2^52, in units of 2^-31.
+// The first correction step, of the table's estimate: 1 over the root of m / 2^52, in units of 2^-31.
 fn reciprocal(m: u64) -> u64
     requires { ⌜ (2 ^ 52 ≤ m) × (m < 2 ^ 54) ⌝ }
     ensures { λ r. ⌜ r ≡ reciprocalOf m ⌝ }
@@ -50,7 +50,7 @@ fn first(m: u64, v: u64) -> Guess
     }
 }
 
-// One correction step, to units that are finer by `scale`.
+// One correction step of the root, to units that are finer by `scale`.
 fn step(v: u64, scale: u64, unit: u64, g: Guess) -> Guess
     requires { ⌜ StepFits v scale unit g ⌝ }
     ensures { λ r. ⌜ r ≡ stepOf v scale unit g ⌝ }
@@ -64,24 +64,25 @@ fn step(v: u64, scale: u64, unit: u64, g: Guess) -> Guess
     }
 }
 
-// The whole number nearest to the root of m * 2^52: three correction steps, and a fourth where the next number is nearer.
+// The whole number nearest to the root of m * 2^52: four correction steps, and a fifth where the next number is nearer.
 fn near_root(m: u64) -> Found
     requires { ⌜ (2 ^ 52 ≤ m) × (m < 2 ^ 54) ⌝ }
     ensures { λ r. ⌜ r ≡ foundOf m ⌝ }
 {
     let v = reciprocal(m);
-    let one = step(v, 256, 0x10_0000_0000, first(m, v));
-    let two = step(v, 128, 0x2000_0000_0000, one);
-    let three = step(v, 128, 0x10_0000_0000_0000, two);
-    if three.rest <= three.root {
+    let one = first(m, v);
+    let two = step(v, 256, 0x10_0000_0000, one);
+    let three = step(v, 128, 0x2000_0000_0000, two);
+    let four = step(v, 128, 0x10_0000_0000_0000, three);
+    if four.rest <= four.root {
         Found {
-            root: three.root,
-            steps: 3,
+            root: four.root,
+            steps: 4,
         }
     } else {
         Found {
-            root: three.root + 1,
-            steps: 4,
+            root: four.root + 1,
+            steps: 5,
         }
     }
 }

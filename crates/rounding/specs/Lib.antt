@@ -1,3 +1,3 @@
 pub mod Units
 pub mod Within
-pub mod rounding_errors
+pub mod errors

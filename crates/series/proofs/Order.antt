@@ -47,10 +47,10 @@ S-grows p q r s pq ps h =
 pub S-of-same : (p q r s : ℕ) → 0 < q → 0 < s → p * s ≡ r * q → sNum p q * sDen s ≡ sNum r s * sDen q
 S-of-same p q r s pq ps h = le-antisymm (S-grows p q r s pq ps (le-of-eq h)) (S-grows r s p q ps pq (le-of-eq (sym h)))
 
-one-sum : (y l v q q′ s D : ℕ) → D * q ≡ l * s → l * (2 * y * (v * q′ * s)) ≡ y * (2 * v * D) * (q * q′)
+pub one-sum : (y l v q q′ s D : ℕ) → D * q ≡ l * s → l * (2 * y * (v * q′ * s)) ≡ y * (2 * v * D) * (q * q′)
 one-sum y l v q q′ s D e = omega (arith, ap (λ (t : ℕ). 2 * y * v * q′ * t) e)
 
-both-denominators : (l d q q′ s s′ D D′ : ℕ) → D * q ≡ l * s → D′ * q′ ≡ l * s′ → l * (d * (l * (s * s′))) ≡ d * (D * D′) * (q * q′)
+pub both-denominators : (l d q q′ s s′ D D′ : ℕ) → D * q ≡ l * s → D′ * q′ ≡ l * s′ → l * (d * (l * (s * s′))) ≡ d * (D * D′) * (q * q′)
 both-denominators l d q q′ s s′ D D′ e e′ = omega (arith, ap (λ (t : ℕ). d * l * s * t) e′, ap (λ (t : ℕ). d * D′ * q′ * t) e)
 
 multiplied :

@@ -1,2 +1,2 @@
 pub mod Series
-pub mod series_change
+pub mod change

@@ -1,3 +1,3 @@
 // The whole-number logarithm on exact fractions. No code: see specs/ and proofs/.
 
-pub mod series_change;
+pub mod change;

@@ -1,5 +1,6 @@
-// The same product by four partial products, for the exponential, which has twenty of them, each waiting for the one before. Where a
-// machine multiplies 64 by 64 bits, the compiler makes one multiplication of these four; of three it does not (docs/DECISIONS.md, 79).
+// The same product by four partial products, for the exponential and the square root. Where a machine multiplies 64 by 64 bits, the
+// compiler makes one multiplication of these four; of three it does not (docs/DECISIONS.md, "Which product the exponential and the square
+// root have").
 ghost use mathlib.Core.Path.{_≡_};
 ghost use Prim.Native.Nat.{_*_, _^_, _/_};
 ghost use Rattle.wide.specs.Products.{productOf};

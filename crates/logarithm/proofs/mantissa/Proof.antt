@@ -5,9 +5,9 @@ use Prim.Native.Nat.{ℕ, _+_, _*_, _/_, _%_, _^_, _≤_}
 use native.Mathlib.Omega.{arith}
 use lib.ListN.{getD}
 use borrow.Author.Needs.{needs}
-use Rattle.logarithm.specs.logarithm_table.Table.{table}
+use Rattle.logarithm.specs.table.Table.{table}
 use Rattle.logarithm.specs.Steps.{shortSeriesOf}
-use Rattle.logarithm.proofs.logarithm_table.TableRule.{entry-small}
+use Rattle.logarithm.proofs.table.TableRule.{entry-small}
 use Rattle.logarithm.proofs.Mantissas.{Parts, parts}
 use Rattle.logarithm.proofs.mantissa.Statement.{statement}
 use Rattle.logarithm.proofs.mantissa.Tie as tie

@@ -1,4 +1,4 @@
--- The second root is the plain one, and takes four correction steps at most: at a positive number by the nearest whole number, elsewhere by
+-- The second root is the plain one, and takes five correction steps at most: at a positive number by the nearest whole number, elsewhere by
 -- the same cases. Assumes nothing.
 use mathlib.Core.Path.{_≡_, refl, sym, ap, subst, _∙_}
 use mathlib.Core.Bool.{Bool, true, false, cond}
@@ -15,7 +15,7 @@ use Rattle.double.proofs.NotNan.{no-nan-of-value}
 use Rattle.root.specs.Steps.{rootOf, sqrtFields, sqrtBits, sqrtOf}
 use Rattle.root.proofs.Radicands.{evened}
 use Rattle.root.specs.declared.table_root.Root.{Root}
-use Rattle.root.specs.table_root.Steps.{reciprocalOf, foundOf, unstepped, tableRootOf, tableSqrtFields, tableSqrtBits, tableSqrtOf}
+use Rattle.root.specs.table_root.Steps.{foundOf, unstepped, tableRootOf, tableSqrtFields, tableSqrtBits, tableSqrtOf}
 use Rattle.root.specs.table_root.SameRoot.{SameRoot}
 use Rattle.root.proofs.table_root.ThreeSteps.{found-nearest, steps-most, steps-least}
 use Rattle.root.proofs.table_root.Cases.{by-bits, by-fields, of-positive}
@@ -33,13 +33,13 @@ root-same n a b =
     let i = in-range (n .m) (n .k) a b in
     ap (λ (q : ℕ). ofBits binary64 ((n .k / 2 + 485) * 2 ^ 52 + q)) (found-nearest (n .m * 2 ^ (n .k % 2)) (i .0) (i .1))
 
-root-most : (n : Normal) → tableRootOf n .steps ≤ 4
+root-most : (n : Normal) → tableRootOf n .steps ≤ 5
 unfolding tableRootOf foundOf
-root-most n = steps-most (n .m * 2 ^ (n .k % 2)) (reciprocalOf (n .m * 2 ^ (n .k % 2)))
+root-most n = steps-most (n .m * 2 ^ (n .k % 2))
 
-root-least : (n : Normal) → 3 ≤ tableRootOf n .steps
+root-least : (n : Normal) → 4 ≤ tableRootOf n .steps
 unfolding tableRootOf foundOf
-root-least n = steps-least (n .m * 2 ^ (n .k % 2)) (reciprocalOf (n .m * 2 ^ (n .k % 2)))
+root-least n = steps-least (n .m * 2 ^ (n .k % 2))
 
 -- ---- by fields, t below 2^52
 
@@ -65,11 +65,11 @@ fields-same x f t l = go (eqb f 0) (eqb t 0) (leb f 2046) (eqb-false f 0) (eqb-f
     go false b true p q = mid-same f t l (p refl)
     go false b false p q = refl
 
-fields-most : (x : Float) (f t : ℕ) → tableSqrtFields x f t .steps ≤ 4
+fields-most : (x : Float) (f t : ℕ) → tableSqrtFields x f t .steps ≤ 5
 unfolding tableSqrtFields
 fields-most x f t = go (eqb f 0) (eqb t 0) (leb f 2046)
   where
-    go : (a b c : Bool) → chosen x f t a b c .steps ≤ 4
+    go : (a b c : Bool) → chosen x f t a b c .steps ≤ 5
     go true true c = leb→le _ _ tt
     go true false c = root-most (normalOf 0 t)
     go false b true = root-most (normalOf f t)
@@ -96,21 +96,21 @@ same x = go (isNan x) (signOf (toBits binary64 x)) (eqb (toBits binary64 x) (2 ^
     go false true false = refl
     go false false c = fields-same x (fieldOf (toBits binary64 x)) (digitsOf (toBits binary64 x)) (digits-lt (toBits binary64 x))
 
-most : (x : Float) → tableSqrtOf x .steps ≤ 4
+most : (x : Float) → tableSqrtOf x .steps ≤ 5
 unfolding tableSqrtOf tableSqrtBits
 most x = go (isNan x) (signOf (toBits binary64 x)) (eqb (toBits binary64 x) (2 ^ 63))
   where
-    go : (a b c : Bool) → picked x a b c .steps ≤ 4
+    go : (a b c : Bool) → picked x a b c .steps ≤ 5
     go true b c = leb→le _ _ tt
     go false true true = leb→le _ _ tt
     go false true false = leb→le _ _ tt
     go false false c = fields-most x (fieldOf (toBits binary64 x)) (digitsOf (toBits binary64 x))
 
-least : (x : Float) (n : ℕ) → T (fits binary64 x) → Units x n → 0 < n → 3 ≤ tableSqrtOf x .steps
+least : (x : Float) (n : ℕ) → T (fits binary64 x) → Units x n → 0 < n → 4 ≤ tableSqrtOf x .steps
 least x n F u p =
     let b = toBits binary64 x in
     let r = read x false n F u in
-    subst (λ (y : Root). 3 ≤ y .steps)
+    subst (λ (y : Root). 4 ≤ y .steps)
     (sym (by-bits x (no-nan-of-value x false n (2 ^ 1074) u)
     ∙ by-fields x b (leb-false (2 ^ 63) b (r .sign))
     ∙ of-positive x (fieldOf b) (digitsOf b) (r .field) (subst (λ (a : ℕ). 0 < a) (r .size) p)))

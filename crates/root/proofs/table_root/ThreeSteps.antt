@@ -1,5 +1,6 @@
--- The correction steps, one after the other: how large each root and each rest is, that after three the root is the nearest number or one
--- below it, and that the fourth step is taken where it is one below. Assumes nothing.
+-- The three correction steps of the root, one after the other: how large each root and each rest is, that after them the root is the nearest
+-- number or one below it, and that one more is taken where it is one below. The step of the estimate comes before: they are the second to
+-- the fourth, and that one the fifth. Assumes nothing.
 use mathlib.Core.Path.{_≡_, refl, ap, _∙_}
 use mathlib.Core.Bool.{Bool, true, false, cond}
 use Prim.Native.Nat.{ℕ, _+_, _-_, _*_, _^_, _≤_, _<_}
@@ -121,68 +122,70 @@ module _ (m v : ℕ) (lo : 2 ^ 52 ≤ m) (hi : m < 2 ^ 54) (k : Reciprocal m v) 
       (omega (arith, rest₂))
       root₃-lt
 
--- ---- three steps or four
+-- ---- four steps or five
 
-module _ (m v : ℕ) where
-  -- the code's three calls are the definition's first three steps
-  pub three-steps : correctedOf m v 3 ≡ stepOf v 128 (2 ^ 52) (stepOf v 128 (2 ^ 45) (stepOf v 256 (2 ^ 36) (firstOf m v)))
+module _ (m : ℕ) where
+  -- The code's calls are the definition's first four steps: v is the estimate after the first.
+  pub four-steps :
+      let v = reciprocalOf m in
+      correctedOf m 4 ≡ stepOf v 128 (2 ^ 52) (stepOf v 128 (2 ^ 45) (stepOf v 256 (2 ^ 36) (firstOf m v)))
   unfolding correctedOf correctionOf
-  three-steps = refl
-
-  -- and the fourth adds one
-  pub four-steps : correctedOf m v 4 .root ≡ correctedOf m v 3 .root + 1
-  unfolding correctedOf correctionOf nextOf
   four-steps = refl
 
-  pub takes-three : correctedOf m v 3 .rest ≤ correctedOf m v 3 .root → stepsOf m v ≡ 3
-  unfolding stepsOf
-  takes-three h = simp (le-leb (correctedOf m v 3 .rest) (correctedOf m v 3 .root) h)
+  -- and the fifth adds one
+  pub five-steps : correctedOf m 5 .root ≡ correctedOf m 4 .root + 1
+  unfolding correctedOf correctionOf nextOf
+  five-steps = refl
 
-  pub takes-four : correctedOf m v 3 .root < correctedOf m v 3 .rest → stepsOf m v ≡ 4
+  pub takes-four : correctedOf m 4 .rest ≤ correctedOf m 4 .root → stepsOf m ≡ 4
   unfolding stepsOf
-  takes-four h = simp (lt-leb (correctedOf m v 3 .rest) (correctedOf m v 3 .root) h)
+  takes-four h = simp (le-leb (correctedOf m 4 .rest) (correctedOf m 4 .root) h)
+
+  pub takes-five : correctedOf m 4 .root < correctedOf m 4 .rest → stepsOf m ≡ 5
+  unfolding stepsOf
+  takes-five h = simp (lt-leb (correctedOf m 4 .rest) (correctedOf m 4 .root) h)
 
 -- 02, Order 11: "State how many correction steps it takes at most"
-pub steps-most : (m v : ℕ) → stepsOf m v ≤ 4
+pub steps-most : (m : ℕ) → stepsOf m ≤ 5
 unfolding stepsOf
-steps-most m v = go (leb (correctedOf m v 3 .rest) (correctedOf m v 3 .root))
+steps-most m = go (leb (correctedOf m 4 .rest) (correctedOf m 4 .root))
   where
-    go : (b : Bool) → cond b 3 4 ≤ 4
+    go : (b : Bool) → cond b 4 5 ≤ 5
     go true = leb→le _ _ tt
     go false = leb→le _ _ tt
 
-pub steps-least : (m v : ℕ) → 3 ≤ stepsOf m v
+pub steps-least : (m : ℕ) → 4 ≤ stepsOf m
 unfolding stepsOf
-steps-least m v = go (leb (correctedOf m v 3 .rest) (correctedOf m v 3 .root))
+steps-least m = go (leb (correctedOf m 4 .rest) (correctedOf m 4 .root))
   where
-    go : (b : Bool) → 3 ≤ cond b 3 4
+    go : (b : Bool) → 4 ≤ cond b 4 5
     go true = leb→le _ _ tt
     go false = leb→le _ _ tt
 
 -- after as many steps as it takes, the root is the nearest number
 settled :
-    (m v n : ℕ) → n < 4 ^ 53 → 0 < correctedOf m v 3 .root
-    → correctedOf m v 3 .root * correctedOf m v 3 .root + correctedOf m v 3 .rest ≡ n
-    → correctedOf m v 3 .rest ≤ 3 * correctedOf m v 3 .root + 2
-    → correctedOf m v (stepsOf m v) .root ≡ nearRoot n
+    (m n : ℕ) → n < 4 ^ 53 → 0 < correctedOf m 4 .root
+    → correctedOf m 4 .root * correctedOf m 4 .root + correctedOf m 4 .rest ≡ n
+    → correctedOf m 4 .rest ≤ 3 * correctedOf m 4 .root + 2
+    → correctedOf m (stepsOf m) .root ≡ nearRoot n
 unfolding stepsOf
-settled m v n small some e h =
-    go (leb (correctedOf m v 3 .rest) (correctedOf m v 3 .root))
-    (leb-true (correctedOf m v 3 .rest) (correctedOf m v 3 .root))
-    (leb-false (correctedOf m v 3 .rest) (correctedOf m v 3 .root))
+settled m n small some e h =
+    go (leb (correctedOf m 4 .rest) (correctedOf m 4 .root))
+    (leb-true (correctedOf m 4 .rest) (correctedOf m 4 .root))
+    (leb-false (correctedOf m 4 .rest) (correctedOf m 4 .root))
   where
-    after-three : (r rest : ℕ) → 0 < r → r * r + rest ≡ n → rest ≤ r → r ≡ nearRoot n
-    after-three r rest p e l = let b = product-below r in is-nearest n r small (omega arith) (omega arith)
+    after-four : (r rest : ℕ) → 0 < r → r * r + rest ≡ n → rest ≤ r → r ≡ nearRoot n
+    after-four r rest p e l = let b = product-below r in is-nearest n r small (omega arith) (omega arith)
 
-    after-four : (r rest : ℕ) → r * r + rest ≡ n → r < rest → rest ≤ 3 * r + 2 → r + 1 ≡ nearRoot n
-    after-four r rest e l h = is-nearest n (r + 1) small (omega (arith, product-below (r + 1))) (omega arith)
+    after-five : (r rest : ℕ) → r * r + rest ≡ n → r < rest → rest ≤ 3 * r + 2 → r + 1 ≡ nearRoot n
+    after-five r rest e l h = is-nearest n (r + 1) small (omega (arith, product-below (r + 1))) (omega arith)
 
     go :
-        (b : Bool) → (b ≡ true → correctedOf m v 3 .rest ≤ correctedOf m v 3 .root)
-        → (b ≡ false → correctedOf m v 3 .root < correctedOf m v 3 .rest)
-        → correctedOf m v (cond b 3 4) .root ≡ nearRoot n
-    go true y z = after-three (correctedOf m v 3 .root) (correctedOf m v 3 .rest) some e (y refl)
-    go false y z = four-steps m v ∙ after-four (correctedOf m v 3 .root) (correctedOf m v 3 .rest) e (z refl) h
+        (b : Bool) → (b ≡ true → correctedOf m 4 .rest ≤ correctedOf m 4 .root)
+        → (b ≡ false → correctedOf m 4 .root < correctedOf m 4 .rest)
+        → correctedOf m (cond b 4 5) .root ≡ nearRoot n
+    go true y z = after-four (correctedOf m 4 .root) (correctedOf m 4 .rest) some e (y refl)
+    go false y z = five-steps m ∙ after-five (correctedOf m 4 .root) (correctedOf m 4 .rest) e (z refl) h
 
 -- the number found is the plain root's
 pub found-nearest : (m : ℕ) → 2 ^ 52 ≤ m → m < 2 ^ 54 → foundOf m .root ≡ nearRoot (m * 2 ^ 52)
@@ -190,19 +193,15 @@ unfolding foundOf correctedOf correctionOf
 found-nearest m lo hi =
     let v = reciprocalOf m in
     let k = reciprocal-near m lo hi in
-    settled m v (m * 2 ^ 52) (omega arith) (omega (arith, least₃ m v lo hi k)) (is₃ m v lo hi k) (rest₃ m v lo hi k)
+    settled m (m * 2 ^ 52) (omega arith) (omega (arith, least₃ m v lo hi k)) (is₃ m v lo hi k) (rest₃ m v lo hi k)
 
--- what the code hands back after three steps and after four
-pub found-three :
-    (m : ℕ) → correctedOf m (reciprocalOf m) 3 .rest ≤ correctedOf m (reciprocalOf m) 3 .root
-    → foundOf m ≡ record { root = correctedOf m (reciprocalOf m) 3 .root; steps = 3 }
+-- what the code hands back after four steps and after five
+pub found-four : (m : ℕ) → correctedOf m 4 .rest ≤ correctedOf m 4 .root → foundOf m ≡ record { root = correctedOf m 4 .root; steps = 4 }
 unfolding foundOf
-found-three m h = ap (λ (n : ℕ). record { root = correctedOf m (reciprocalOf m) n .root; steps = n }) (takes-three m (reciprocalOf m) h)
+found-four m h = ap (λ (n : ℕ). record { root = correctedOf m n .root; steps = n }) (takes-four m h)
 
-pub found-four :
-    (m : ℕ) → correctedOf m (reciprocalOf m) 3 .root < correctedOf m (reciprocalOf m) 3 .rest
-    → foundOf m ≡ record { root = correctedOf m (reciprocalOf m) 3 .root + 1; steps = 4 }
+pub found-five : (m : ℕ) → correctedOf m 4 .root < correctedOf m 4 .rest → foundOf m ≡ record { root = correctedOf m 4 .root + 1; steps = 5 }
 unfolding foundOf
-found-four m h =
-    ap (λ (n : ℕ). record { root = correctedOf m (reciprocalOf m) n .root; steps = n }) (takes-four m (reciprocalOf m) h)
-    ∙ ap (λ (r : ℕ). record { root = r; steps = 4 }) (four-steps m (reciprocalOf m))
+found-five m h =
+    ap (λ (n : ℕ). record { root = correctedOf m n .root; steps = n }) (takes-five m h)
+    ∙ ap (λ (r : ℕ). record { root = r; steps = 5 }) (five-steps m)

@@ -16,8 +16,8 @@ pub record SameRoot : Type 0 where
       (b : ℕ) → b < 2 ^ 64
       → toBits binary64 (tableSqrtOf (ofBits binary64 b) .root) ≡ toBits binary64 (sqrtOf (ofBits binary64 b))
   -- 02, Order 11: "State how many correction steps it takes at most"
-  pub most : (x : Float) → tableSqrtOf x .steps ≤ 4
+  pub most : (x : Float) → tableSqrtOf x .steps ≤ 5
   -- so that no smaller number would do
-  pub reached : tableSqrtOf #1 .steps ≡ 4
-  -- a positive number takes three at least, n being its size in units of the smallest
-  pub least : (x : Float) (n : ℕ) → T (fits binary64 x) → Units x n → 0 < n → 3 ≤ tableSqrtOf x .steps
+  pub reached : tableSqrtOf #1 .steps ≡ 5
+  -- a positive number takes four at least, n being its size in units of the smallest
+  pub least : (x : Float) (n : ℕ) → T (fits binary64 x) → Units x n → 0 < n → 4 ≤ tableSqrtOf x .steps

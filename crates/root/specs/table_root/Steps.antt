@@ -11,13 +11,19 @@ use Rattle.root.specs.declared.table_root.Guess.{Guess}
 use Rattle.root.specs.declared.table_root.Found.{Found}
 use Rattle.root.specs.declared.table_root.Root.{Root}
 
--- ---- the estimate
+-- ---- the estimate, and the step that corrects it
 
--- 1 over the root of x, in units of 2^-31 and not above it, from an estimate e: e (3 - x e²) / 2, Newton's step for 1 over the root
+-- The first correction step: 1 over the root of x, in units of 2^-31 and not above it, from an estimate e: e (3 - x e²) / 2, Newton's step
+-- for 1 over the root
 unfoldable pub refined : ℕ → ℕ → ℕ
 refined x e = (3 * 2 ^ 48 * e - x * (e * e * e)) / 2 ^ 30
 
--- 02, Order 11: "starts from a table estimate": 1 over the root of m / 2^52, in units of 2^-31
+-- 02, Order 11: "starts from a table estimate": 1 over the root of m / 2^52, in units of 2^-31, as the table has it
+unfoldable pub tabledOf : ℕ → ℕ
+unfolding estimateOf
+tabledOf m = estimateOf m * 2 ^ 19
+
+-- and after the first step
 unfoldable pub reciprocalOf : ℕ → ℕ
 unfolding refined estimateOf
 reciprocalOf m = refined (units m) (estimateOf m)
@@ -26,14 +32,14 @@ reciprocalOf m = refined (units m) (estimateOf m)
 unfoldable pub firstOf : ℕ → ℕ → Guess
 firstOf m v = let r = m / 2 ^ 28 * v / 2 ^ 25 in record { root = r; rest = m * 2 ^ 8 - r * r }
 
--- ---- the correction steps
+-- ---- the steps that correct the root
 
 -- What a step adds to the root, in units of which `scale` make one of the guess: half the rest times v. 2^18 keeps the product in 64 bits,
 -- and `unit` is what is left of the units.
 unfoldable pub addition : ℕ → ℕ → Guess → ℕ
 addition v unit g = g .rest / 2 ^ 18 * v / unit
 
--- 02, Order 11: "corrects it with whole-number steps". A step: the root in units that are finer by `scale`, with the addition, and the rest
+-- 02, Order 11: "corrects it with whole-number steps". A step of the root: the root in units that are finer by `scale`, with the addition, and the rest
 -- that this leaves.
 unfoldable pub stepOf : ℕ → ℕ → ℕ → Guess → Guess
 unfolding addition
@@ -45,7 +51,7 @@ stepOf v scale unit g =
 unfoldable pub nextOf : Guess → Guess
 nextOf g = record { root = g .root + 1; rest = g .rest - (2 * g .root + 1) }
 
--- the steps in their order, counting from 0. Three lead to units of 2^-38, 2^-45 and 2^-52.
+-- the steps of the root in their order, counting from 0. Three lead to units of 2^-38, 2^-45 and 2^-52.
 unfoldable pub correctionOf : ℕ → ℕ → Guess → Guess
 unfolding stepOf nextOf
 correctionOf v zero g = stepOf v 256 (2 ^ 36) g
@@ -53,24 +59,24 @@ correctionOf v (suc zero) g = stepOf v 128 (2 ^ 45) g
 correctionOf v (suc (suc zero)) g = stepOf v 128 (2 ^ 52) g
 correctionOf v (suc (suc (suc n))) g = nextOf g
 
--- the root after n correction steps
-unfoldable pub correctedOf : ℕ → ℕ → ℕ → Guess
-unfolding firstOf correctionOf
-correctedOf m v zero = firstOf m v
-correctedOf m v (suc n) = correctionOf v n (correctedOf m v n)
+-- The root after n correction steps: after none it is the table's, the first corrects the estimate that it is taken from, and the others
+-- the root itself.
+unfoldable pub correctedOf : ℕ → ℕ → Guess
+unfolding firstOf tabledOf reciprocalOf correctionOf
+correctedOf m zero = firstOf m (tabledOf m)
+correctedOf m (suc zero) = firstOf m (reciprocalOf m)
+correctedOf m (suc (suc n)) = correctionOf (reciprocalOf m) n (correctedOf m (suc n))
 
--- How many it takes: three, and a fourth where the rest after three is above the root. The middle to the next number has the square r² + r
+-- How many it takes: four, and a fifth where the rest after four is above the root. The middle to the next number has the square r² + r
 -- + 1/4.
-unfoldable pub stepsOf : ℕ → ℕ → ℕ
+unfoldable pub stepsOf : ℕ → ℕ
 unfolding correctedOf
-stepsOf m v = cond (leb (correctedOf m v 3 .rest) (correctedOf m v 3 .root)) 3 4
+stepsOf m = cond (leb (correctedOf m 4 .rest) (correctedOf m 4 .root)) 4 5
 
 -- 02, Order 11: "the count handed back equals the steps of its definition". The root after that many steps, and that many.
 unfoldable pub foundOf : ℕ → Found
-unfolding correctedOf stepsOf reciprocalOf
-foundOf m =
-    let v = reciprocalOf m in
-    record { root = correctedOf m v (stepsOf m v) .root; steps = stepsOf m v }
+unfolding correctedOf stepsOf
+foundOf m = record { root = correctedOf m (stepsOf m) .root; steps = stepsOf m }
 
 -- ---- doubles, in the cases of the plain root
 

@@ -1,3 +1,3 @@
-pub mod cone_entries
-pub mod feasible_entries
-pub mod copy_entries
+pub mod formulas
+pub mod feasibility
+pub mod copies

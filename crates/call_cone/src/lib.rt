@@ -1,3 +1,4 @@
-pub mod cone_entries;
-pub mod copy_entries;
-pub mod feasible_entries;
+// The public calls that take a cone: the tests of feasibility (feasibility), the calls that copy (copies), and the formulas (formulas).
+pub mod copies;
+pub mod feasibility;
+pub mod formulas;

@@ -1,7 +1,7 @@
-pub mod record_blocks
-pub mod record_three
-pub mod record_wide
-pub mod record_wide_rows
-pub mod record_wide_primal
-pub mod record_update
-pub mod record_entries
+pub mod blocks
+pub mod three
+pub mod wide
+pub mod wide_rows
+pub mod wide_primal
+pub mod update
+pub mod entries

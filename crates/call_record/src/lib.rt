@@ -1,7 +1,10 @@
-pub mod record_blocks;
-pub mod record_entries;
-pub mod record_three;
-pub mod record_update;
-pub mod record_wide;
-pub mod record_wide_primal;
-pub mod record_wide_rows;
+// The public calls that take a scaling record. An update makes the record anew (update); every other call is chosen by the cone's kind
+// (entries): the scaling matrix of kinds 1 and 2 (blocks) and their other formulas (three), and those of kind 3 (wide_rows, wide_primal,
+// wide).
+pub mod blocks;
+pub mod entries;
+pub mod three;
+pub mod update;
+pub mod wide;
+pub mod wide_primal;
+pub mod wide_rows;

@@ -1,2 +1,2 @@
-pub mod search_entries
-pub mod plan_entries
+pub mod single
+pub mod plans

@@ -1,2 +1,3 @@
-pub mod plan_entries;
-pub mod search_entries;
+// The public searches: of one cone (single), and of a plan, on one side or on both (plans).
+pub mod plans;
+pub mod single;

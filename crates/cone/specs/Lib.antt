@@ -2,6 +2,6 @@ pub mod Codes
 pub mod Fresh
 pub mod Points
 pub mod Calls
-pub mod cone_words
+pub mod words
 pub mod verdict
 pub mod table

@@ -7,9 +7,9 @@ ghost use Rattle.cone.specs.Points.{threeOf, wideOf};
 ghost use Rattle.double.specs.Operators.{at};
 use double::nan;
 
-pub mod cone_words;
 pub mod table;
 pub mod verdict;
+pub mod words;
 
 // A cone: kind 1 exponential, 2 power, 3 generalized. Kind 2 uses exps[0], kind 3 both dims and exps[..dim1]; the other places are
 // neither read nor judged. The rule, 1 or 2 by the planner's release, says how far from 1 the exponents of kind 3 may sum up; it is judged

@@ -2,5 +2,5 @@ pub mod Barriers
 pub mod Correction
 pub mod DualGradient
 pub mod PrimalGradient
-pub mod expcone_feasible
+pub mod feasible
 pub mod wright

@@ -1,4 +1,4 @@
-// The exponential cone of 000, as functions on values; the test of a point is in expcone_feasible.
+// The exponential cone of 000, as functions on values; the test of a point is in `feasible`.
 //
 // Primal exponential cone: s3 ≥ s2*e^(s1/s2), s3,s2 > 0
 // Dual exponential cone: z3 ≥ -z1*e^(z2/z1 - 1), z3 > 0, z1 < 0
@@ -16,7 +16,7 @@ use algebra::vector::moved3;
 use algebra::vector::shift3;
 use kernels::log;
 
-pub mod expcone_feasible;
+pub mod feasible;
 pub mod wright;
 
 // A primal barrier, and whether the Rust would panic on the way to it; then the value is 0.

@@ -12,10 +12,10 @@ use Rattle.double.specs.Numbers.{#0}
 use Rattle.algebra.specs.Vectors.{sumsqOf}
 use Rattle.cone.specs.Fresh.{noWide}
 use Rattle.cone.specs.declared.Wide.{Wide}
-use Rattle.genpowcone.specs.genpowcone_loops.Folds.{dualPhi}
-use Rattle.genpowcone.specs.genpowcone_loops.Places.{wide, withTail, timesAt, constantAt, headsOf}
-use Rattle.genpowcone.proofs.genpowcone_loops.Arrays.{narrow-behind, wide-behind, wide-within, wide-length, withTail-before, withTail-behind}
-use Rattle.genpowcone.proofs.genpowcone_loops.Arrays.{withTail-within}
+use Rattle.genpowcone.specs.loops.Folds.{dualPhi}
+use Rattle.genpowcone.specs.loops.Places.{wide, withTail, timesAt, constantAt, headsOf}
+use Rattle.genpowcone.proofs.loops.Arrays.{narrow-behind, wide-behind, wide-within, wide-length, withTail-before, withTail-behind}
+use Rattle.genpowcone.proofs.loops.Arrays.{withTail-within}
 use Rattle.genpowcone.specs.Rank3.{getHsOf, pOf, qOf, rank3At}
 use Rattle.genpowcone.specs.DualGradient.{gradHAt, updateDualGradHOf}
 use Rattle.genpowcone.specs.Places.{HsPlaces, UnusedZero}

@@ -8,7 +8,7 @@ use Rattle.double.specs.Operators.{_⊕_, _⊖_}
 use Rattle.double.specs.Numbers.{#0}
 use Rattle.kernels.specs.Door.{logOf}
 use Rattle.algebra.specs.Vectors.{movedOf}
-use Rattle.genpowcone.specs.genpowcone_loops.Folds.{lessLogs}
+use Rattle.genpowcone.specs.loops.Folds.{lessLogs}
 use Rattle.genpowcone.specs.Feasible.{dualResidue}
 use Rattle.genpowcone.specs.PrimalGradient.{gradientPrimalOf}
 

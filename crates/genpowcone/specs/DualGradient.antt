@@ -7,7 +7,7 @@ use Rattle.double.specs.Operators.{_⊖_, _≺_}
 use Rattle.double.specs.Numbers.{#0}
 use Rattle.algebra.specs.Vectors.{sumsqOf}
 use Rattle.cone.specs.Fresh.{noWide}
-use Rattle.genpowcone.specs.genpowcone_loops.Folds.{dualPhi}
+use Rattle.genpowcone.specs.loops.Folds.{dualPhi}
 use Rattle.genpowcone.specs.Rank3.{rank3At}
 use Rattle.genpowcone.specs.declared.GradH.{GradH}
 

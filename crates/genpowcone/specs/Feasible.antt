@@ -10,7 +10,7 @@ use Rattle.cone.specs.declared.verdict.Answer.{Answer}
 use Rattle.cone.specs.verdict.Answers.{judged}
 use Rattle.cone.specs.verdict.Margins.{powerMargin}
 use Rattle.algebra.specs.Vectors.{sumsqOf}
-use Rattle.genpowcone.specs.genpowcone_loops.Folds.{allAboveZero, primalLogSum, dualLogSum}
+use Rattle.genpowcone.specs.loops.Folds.{allAboveZero, primalLogSum, dualLogSum}
 use Rattle.genpowcone.specs.declared.Residue.{Residue}
 
 -- the residue p - w, beside the two numbers that it is made of

@@ -4,4 +4,4 @@ pub mod Barriers
 pub mod Rank3
 pub mod DualGradient
 pub mod Places
-pub mod genpowcone_loops
+pub mod loops

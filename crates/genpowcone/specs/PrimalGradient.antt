@@ -11,8 +11,8 @@ use Rattle.algebra.specs.Vectors.{sumsqOf, normOf}
 use Rattle.algebra.specs.newton.Equations.{genF0, genF1}
 use Rattle.algebra.specs.newton.Rounds.{newtonOf}
 use Rattle.algebra.specs.declared.newton.Found.{Found}
-use Rattle.genpowcone.specs.genpowcone_loops.Folds.{primalPhi}
-use Rattle.genpowcone.specs.genpowcone_loops.Places.{wide, withTail, unitAt, headAt, flatHeadAt, timesAt}
+use Rattle.genpowcone.specs.loops.Folds.{primalPhi}
+use Rattle.genpowcone.specs.loops.Places.{wide, withTail, unitAt, headAt, flatHeadAt, timesAt}
 use Rattle.genpowcone.specs.declared.Gradient.{Gradient}
 
 -- 002 unit_initialization: z and s alike

@@ -9,8 +9,8 @@ use Rattle.double.specs.Numbers.{#0, #2}
 use Rattle.kernels.specs.Door.{sqrtOf}
 use Rattle.algebra.specs.Vectors.{dotOf}
 use Rattle.cone.specs.declared.Wide.{Wide}
-use Rattle.genpowcone.specs.genpowcone_loops.Places.{narrow, wide, withTail, timesAt, scaledAt, constantAt, headsOf, d1At, productHeadAt}
-use Rattle.genpowcone.specs.genpowcone_loops.Places.{productTailAt, finishedAt}
+use Rattle.genpowcone.specs.loops.Places.{narrow, wide, withTail, timesAt, scaledAt, constantAt, headsOf, d1At, productHeadAt}
+use Rattle.genpowcone.specs.loops.Places.{productTailAt, finishedAt}
 use Rattle.genpowcone.specs.declared.Coefficients.{Coefficients}
 
 -- 002 update_dual_grad_H: p0, p1, q0 and r1, with n2 = norm2w

@@ -1,5 +1,5 @@
 -- The formulas of kinds 1 and 2, chosen by kind. Definitions only; each has the name of the Rust function, whose own definition stands in
--- expcone, powcone or powcone_correction. α is the exponent of kind 2: kind 1 has none, and none of its formulas takes one.
+-- expcone, powcone or `powcone::correction`. α is the exponent of kind 2: kind 1 has none, and none of its formulas takes one.
 use Prim.Native.Nat.{ℕ}
 use mathlib.Core.Bool.{cond, false}
 use mathlib.Core.List.{List}
@@ -15,7 +15,7 @@ use Rattle.expcone.specs.Correction as expCorrection
 use Rattle.powcone.specs.PrimalGradient as powPrimal
 use Rattle.powcone.specs.Barriers as powBarriers
 use Rattle.powcone.specs.DualGradient as powDual
-use Rattle.powcone.specs.powcone_correction.Correction as powCorrection
+use Rattle.powcone.specs.correction.Correction as powCorrection
 use Rattle.kinds.specs.declared.three.Gradient.{Gradient}
 use Rattle.kinds.specs.declared.three.Valued.{Valued}
 

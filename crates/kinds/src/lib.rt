@@ -24,9 +24,9 @@ fn exp_answer(primal: bool, p: [f64; 3]) -> Answer
     ensures { λ r. ⌜ r ≡ expAnswer primal p ⌝ }
 {
     if primal {
-        expcone::expcone_feasible::is_primal_feasible(p)
+        expcone::feasible::is_primal_feasible(p)
     } else {
-        expcone::expcone_feasible::is_dual_feasible(p)
+        expcone::feasible::is_dual_feasible(p)
     }
 }
 

@@ -128,7 +128,7 @@ pub fn higher_correction(
     ensures { λ r. ⌜ r ≡ higherCorrectionOf kind alpha h z ds v ⌝ }
 {
     if kind == 2 {
-        return powcone::powcone_correction::higher_correction(alpha, h, z, ds, v);
+        return powcone::correction::higher_correction(alpha, h, z, ds, v);
     }
     expcone::higher_correction(h, z, ds, v)
 }
@@ -146,15 +146,7 @@ pub fn combined_ds_shift(
     ensures { λ r. ⌜ r ≡ combinedDsShiftOf kind alpha h z grad stepz steps sigmamu ⌝ }
 {
     if kind == 2 {
-        return powcone::powcone_correction::combined_ds_shift(
-            alpha,
-            h,
-            z,
-            grad,
-            stepz,
-            steps,
-            sigmamu,
-        );
+        return powcone::correction::combined_ds_shift(alpha, h, z, grad, stepz, steps, sigmamu);
     }
     expcone::combined_ds_shift(h, z, grad, stepz, steps, sigmamu)
 }

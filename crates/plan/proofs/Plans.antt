@@ -17,7 +17,7 @@ use Rattle.cone.specs.declared.Cone.{Cone}
 use Rattle.cone.specs.Codes.{numelOf}
 use Rattle.judges.specs.Judges.{coneOk}
 use Rattle.judges.proofs.Lengths.{numel-at-most}
-use Rattle.cone.specs.cone_words.Words.{coneOfWords, conesOf}
+use Rattle.cone.specs.words.Words.{coneOfWords, conesOf}
 use Rattle.plan.specs.declared.Tested.{Tested}
 use Rattle.plan.specs.Plans.{totalOf, allConesOk, mostCones, planOk, conePasses, allPass, testsOf, testedOf}
 

@@ -14,8 +14,8 @@ use Rattle.cone.specs.declared.verdict.Answer.{Answer}
 use Rattle.cone.specs.declared.verdict.Answer.the-variants.{No}
 use Rattle.cone.specs.verdict.Answers.{isYes}
 use Rattle.cone.specs.Points.{threeOf}
-use Rattle.cone.specs.cone_words.Words.{placesOf}
-use Rattle.cone.proofs.cone_words.Words.{places-same}
+use Rattle.cone.specs.words.Words.{placesOf}
+use Rattle.cone.proofs.words.Words.{places-same}
 use Rattle.kinds.specs.Answers.{expAnswer, powAnswer, genpowAnswer, answerIn}
 use Rattle.kinds.specs.Passes.{passesIn}
 use Rattle.plan.specs.Plans.{usedOf}

@@ -1,11 +1,11 @@
 // 02, Order 10: one common step for a list of cones over one long pair of vectors. The search is 003's, with "every cone passes" as its
 // test; its laws, for any test and any count of single tests, are in the crate trials. A cone of the list is its 34 words (crate
-// cone_words).
+// `cone::words`).
 ghost use mathlib.Core.Path.{_≡_};
 ghost use mathlib.Core.Bool.{true};
 ghost use Prim.Native.Nat.{_≤_};
 ghost use lib.ListN.{length};
-ghost use Rattle.cone.specs.cone_words.Words.{coneOfWords, conesOf};
+ghost use Rattle.cone.specs.words.Words.{coneOfWords, conesOf};
 ghost use Rattle.search.specs.trials.Search.{outcome};
 ghost use Rattle.search.specs.trials.Costed.{costedOf};
 ghost use Rattle.plan.specs.Plans.{usedOf, conePasses, totalOf, planOk, testedOf, planOf, Plannable};
@@ -13,11 +13,11 @@ ghost use Rattle.plan.specs.Sides.{OnSide, trialTested, sidesOf, inSides
 use algebra::vector::head;
 use algebra::vector::tail;
 use cone::Settings;
-use cone::cone_words::cone_of;
-use cone::cone_words::high_half;
-use cone::cone_words::low_half;
-use cone::cone_words::numel_of;
-use cone::cone_words::places;
+use cone::words::cone_of;
+use cone::words::high_half;
+use cone::words::low_half;
+use cone::words::numel_of;
+use cone::words::places;
 use judges::cone_ok;
 use judges::refusal::store;
 use kinds::passes;

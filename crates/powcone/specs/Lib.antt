@@ -2,4 +2,4 @@ pub mod Feasible
 pub mod PrimalGradient
 pub mod Barriers
 pub mod DualGradient
-pub mod powcone_correction
+pub mod correction

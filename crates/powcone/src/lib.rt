@@ -24,7 +24,7 @@ use kernels::log;
 use kernels::powf;
 use kernels::sqrt;
 
-pub mod powcone_correction;
+pub mod correction;
 
 // What a cone test compares, with the two numbers that it is the difference of: res = power - square.
 pub struct Residue {

@@ -45,13 +45,13 @@ fn six(x: [f64; 6]) {
 
 fn exponential() {
     word(b"a exp primal (-1,1,1)");
-    told(expcone::expcone_feasible::is_primal_feasible([-1.0, 1.0, 1.0]));
+    told(expcone::feasible::is_primal_feasible([-1.0, 1.0, 1.0]));
     word(b"b exp primal (0,1,1)");
-    told(expcone::expcone_feasible::is_primal_feasible([0.0, 1.0, 1.0]));
+    told(expcone::feasible::is_primal_feasible([0.0, 1.0, 1.0]));
     word(b"c exp dual (-1,0,1)");
-    told(expcone::expcone_feasible::is_dual_feasible([-1.0, 0.0, 1.0]));
+    told(expcone::feasible::is_dual_feasible([-1.0, 0.0, 1.0]));
     word(b"d exp dual (-1,-1,1)");
-    told(expcone::expcone_feasible::is_dual_feasible([-1.0, -1.0, 1.0]));
+    told(expcone::feasible::is_dual_feasible([-1.0, -1.0, 1.0]));
     let h = expcone::gradient_primal([2.0, 1.0, 1.0]);
     word(b"h exp primal gradient (2,1,1) panics");
     answer(h.panics);

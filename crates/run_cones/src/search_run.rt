@@ -1,6 +1,6 @@
 // Runs step searches, a line for each: the number that refuses the call or 0, the step's bits, how many points were tested, the bits of the
 // lent point at exit.
-use call_search::search_entries::backtrack_search;
+use call_search::single::backtrack_search;
 use cone::Cone;
 use cone::Settings;
 use cone::house_settings;

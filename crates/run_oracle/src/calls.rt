@@ -27,7 +27,7 @@ pub fn house_settings(given: [f64; 64]) -> bool {
 
 // A refused fresh hands back the empty cone.
 pub fn fresh(cone: Cone) -> bool {
-    let r = call_cone::cone_entries::fresh(cone);
+    let r = call_cone::formulas::fresh(cone);
     let record = r.scaling;
     let answer = reply(r.code, 0, [0; 2], [0.0; 3]);
     let mut wanted = cone;
@@ -55,14 +55,14 @@ fn said_yes(code: u32, yes: bool) -> bool {
 pub fn is_primal_feasible(cone: Cone) -> bool {
     let n = count();
     let s = numbers(n);
-    let r = call_cone::cone_entries::is_primal_feasible(cone, head(&s, n));
+    let r = call_cone::formulas::is_primal_feasible(cone, head(&s, n));
     said(r.code, r.answer)
 }
 
 pub fn is_dual_feasible(cone: Cone) -> bool {
     let n = count();
     let z = numbers(n);
-    let r = call_cone::cone_entries::is_dual_feasible(cone, head(&z, n));
+    let r = call_cone::formulas::is_dual_feasible(cone, head(&z, n));
     said(r.code, r.answer)
 }
 
@@ -75,14 +75,14 @@ fn valued(code: u32, value: f64) -> bool {
 pub fn barrier_dual(cone: Cone) -> bool {
     let n = count();
     let z = numbers(n);
-    let r = call_cone::cone_entries::barrier_dual(cone, head(&z, n));
+    let r = call_cone::formulas::barrier_dual(cone, head(&z, n));
     valued(r.code, r.value)
 }
 
 pub fn dual_grad_h(cone: Cone) -> bool {
     let n = count();
     let z = numbers(n);
-    let r = call_cone::cone_entries::dual_grad_h(cone, head(&z, n));
+    let r = call_cone::formulas::dual_grad_h(cone, head(&z, n));
     let three = r.three;
     let wide = r.wide;
     let answer = reply(r.code, 0, [0; 2], [0.0; 3]);
@@ -96,7 +96,7 @@ pub fn unit_initialization(cone: Cone) -> bool {
     let mut z = numbers(nz);
     let ns = count();
     let mut s = numbers(ns);
-    let code = call_cone::cone_entries::unit_initialization(cone, &mut z[..nz], &mut s[..ns]);
+    let code = call_cone::formulas::unit_initialization(cone, &mut z[..nz], &mut s[..ns]);
     let answer = told(code);
     let first = same_places(z, nz);
     let second = same_places(s, ns);
@@ -108,7 +108,7 @@ pub fn rectify_equilibration(cone: Cone) -> bool {
     let mut delta = numbers(nd);
     let ne = count();
     let e = numbers(ne);
-    let r = call_cone::cone_entries::rectify_equilibration(cone, &mut delta[..nd], head(&e, ne));
+    let r = call_cone::formulas::rectify_equilibration(cone, &mut delta[..nd], head(&e, ne));
     let answer = said_yes(r.code, r.yes);
     let slice = same_places(delta, nd);
     answer & slice
@@ -119,7 +119,7 @@ pub fn affine_ds(cone: Cone) -> bool {
     let mut ds = numbers(nds);
     let ns = count();
     let s = numbers(ns);
-    let code = call_cone::cone_entries::affine_ds(cone, &mut ds[..nds], head(&s, ns));
+    let code = call_cone::formulas::affine_ds(cone, &mut ds[..nds], head(&s, ns));
     let answer = told(code);
     let slice = same_places(ds, nds);
     answer & slice
@@ -132,7 +132,7 @@ pub fn ds_from_dz_offset(cone: Cone) -> bool {
     let ds = numbers(nds);
     let nz = count();
     let z = numbers(nz);
-    let code = call_cone::cone_entries::ds_from_dz_offset(
+    let code = call_cone::formulas::ds_from_dz_offset(
         cone,
         &mut out[..no],
         head(&ds, nds),
@@ -159,7 +159,7 @@ pub fn backtrack_search(cone: Cone, option: u32, given: [f64; 64]) -> bool {
     let np = count();
     let mut point = numbers(np);
     let settings = settings_of(given);
-    let r = call_search::search_entries::backtrack_search(
+    let r = call_search::single::backtrack_search(
         cone,
         option == 1,
         head(&dq, ndq),
@@ -187,7 +187,7 @@ pub fn step_length(cone: Cone, given: [f64; 64]) -> bool {
     let npp = count();
     let mut primal = numbers(npp);
     let settings = settings_of(given);
-    let r = call_search::search_entries::step_length(
+    let r = call_search::single::step_length(
         cone,
         head(&dz, ndz),
         head(&ds, nds),
@@ -215,7 +215,7 @@ pub fn update_scaling(record: Scaling, option: u32, given: [f64; 64]) -> bool {
     let s = numbers(ns);
     let nz = count();
     let z = numbers(nz);
-    let r = call_record::record_update::update_scaling(
+    let r = call_record::update::update_scaling(
         record,
         head(&s, ns),
         head(&z, nz),
@@ -233,7 +233,7 @@ pub fn gradient_primal(record: Scaling) -> bool {
     let mut g = numbers(ng);
     let ns = count();
     let s = numbers(ns);
-    let r = call_record::record_entries::gradient_primal(record, &mut g[..ng], head(&s, ns));
+    let r = call_record::entries::gradient_primal(record, &mut g[..ng], head(&s, ns));
     let answer = reply(r.code, 0, [r.rounds, 0], [0.0; 3]);
     let nothing = no_record();
     let slice = same_places(g, ng);
@@ -243,7 +243,7 @@ pub fn gradient_primal(record: Scaling) -> bool {
 pub fn barrier_primal(record: Scaling) -> bool {
     let n = count();
     let s = numbers(n);
-    let r = call_record::record_entries::barrier_primal(record, head(&s, n));
+    let r = call_record::entries::barrier_primal(record, head(&s, n));
     valued(r.code, r.value)
 }
 
@@ -256,7 +256,7 @@ pub fn compute_barrier(record: Scaling, given: [f64; 64]) -> bool {
     let dz = numbers(ndz);
     let nds = count();
     let ds = numbers(nds);
-    let r = call_record::record_entries::compute_barrier(
+    let r = call_record::entries::compute_barrier(
         record,
         head(&z, nz),
         head(&s, ns),
@@ -270,7 +270,7 @@ pub fn compute_barrier(record: Scaling, given: [f64; 64]) -> bool {
 pub fn get_hs(record: Scaling, serial: u32) -> bool {
     let n = count();
     let mut block = numbers(n);
-    let code = call_record::record_entries::get_hs(record, serial, &mut block[..n]);
+    let code = call_record::entries::get_hs(record, serial, &mut block[..n]);
     let answer = told(code);
     let slice = same_places(block, n);
     answer & slice
@@ -281,7 +281,7 @@ pub fn mul_hs(record: Scaling, serial: u32) -> bool {
     let mut y = numbers(ny);
     let nx = count();
     let x = numbers(nx);
-    let code = call_record::record_entries::mul_hs(record, serial, &mut y[..ny], head(&x, nx));
+    let code = call_record::entries::mul_hs(record, serial, &mut y[..ny], head(&x, nx));
     let answer = told(code);
     let slice = same_places(y, ny);
     answer & slice
@@ -294,7 +294,7 @@ pub fn higher_correction(record: Scaling, serial: u32) -> bool {
     let ds = numbers(nds);
     let nv = count();
     let v = numbers(nv);
-    let code = call_record::record_entries::higher_correction(
+    let code = call_record::entries::higher_correction(
         record,
         serial,
         &mut eta[..ne],
@@ -313,7 +313,7 @@ pub fn combined_ds_shift(record: Scaling, serial: u32, given: [f64; 64]) -> bool
     let stepz = numbers(nsz);
     let nss = count();
     let steps = numbers(nss);
-    let code = call_record::record_entries::combined_ds_shift(
+    let code = call_record::entries::combined_ds_shift(
         record,
         serial,
         &mut shift[..nsh],

@@ -4,7 +4,7 @@ use Prim.Native.Nat.{_≤_}
 use native.Mathlib.Omega.{arith}
 use lib.ListN.{length, length-take}
 use borrow.Author.Needs.{needs}
-use Rattle.genpowcone.proofs.genpowcone_loops.Arrays.{negated-front}
+use Rattle.genpowcone.proofs.loops.Arrays.{negated-front}
 use Rattle.genpowcone.specs.Barriers.{barrierPrimalAt}
 use Rattle.genpowcone.proofs.barrier_primal_at.Statement.{statement}
 use Rattle.genpowcone.proofs.barrier_primal_at.Tie as tie

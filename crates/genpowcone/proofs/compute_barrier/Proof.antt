@@ -7,7 +7,7 @@ use native.Mathlib.Omega.{arith}
 use lib.ListN.{length, take, length-take}
 use lib.Ieee.{Float}
 use borrow.Author.Needs.{needs}
-use Rattle.genpowcone.proofs.genpowcone_loops.Arrays.{moved-front}
+use Rattle.genpowcone.proofs.loops.Arrays.{moved-front}
 use Rattle.genpowcone.specs.Barriers.{computeBarrierOf}
 use Rattle.genpowcone.proofs.compute_barrier.Statement.{statement}
 use Rattle.genpowcone.proofs.compute_barrier.Tie as tie

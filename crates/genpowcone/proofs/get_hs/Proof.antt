@@ -1,6 +1,6 @@
 -- `get_hs` is its definition: the head's places, then the tail's. Assumes nothing.
 use native.Mathlib.Omega.{arith}
-use Rattle.genpowcone.proofs.genpowcone_loops.Arrays.{from-first}
+use Rattle.genpowcone.proofs.loops.Arrays.{from-first}
 use Rattle.genpowcone.specs.Rank3.{getHsOf}
 use Rattle.genpowcone.proofs.get_hs.Statement.{statement}
 use Rattle.genpowcone.proofs.get_hs.Tie as tie

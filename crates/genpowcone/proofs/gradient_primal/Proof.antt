@@ -15,8 +15,8 @@ use Rattle.algebra.specs.Vectors.{sumsqOf, normOf}
 use Rattle.algebra.specs.newton.Equations.{genF0, genF0At, genF1}
 use Rattle.algebra.specs.newton.Rounds.{newtonOf}
 use Rattle.algebra.specs.declared.newton.Found.{Found}
-use Rattle.genpowcone.specs.genpowcone_loops.Folds.{primalPhi}
-use Rattle.genpowcone.proofs.genpowcone_loops.Arrays.{logs-front}
+use Rattle.genpowcone.specs.loops.Folds.{primalPhi}
+use Rattle.genpowcone.proofs.loops.Arrays.{logs-front}
 use Rattle.genpowcone.specs.PrimalGradient.{flatGradient, gradientAt, gradientPrimalOf, newtonRaphsonGenpowconeOf, psiOf, x0Of}
 use Rattle.genpowcone.proofs.gradient_primal.Statement.{statement}
 use Rattle.genpowcone.proofs.gradient_primal.Tie as tie

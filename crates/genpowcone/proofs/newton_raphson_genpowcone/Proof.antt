@@ -8,8 +8,8 @@ use lib.Ieee.{Float}
 use borrow.Author.Needs.{needs}
 use Rattle.algebra.specs.newton.Equations.{ratioOf, f0Of, f1Of}
 use Rattle.algebra.proofs.newton.Ratios.{ratio-of-nan}
-use Rattle.genpowcone.specs.genpowcone_loops.Places.{wide, ratioAt}
-use Rattle.genpowcone.proofs.genpowcone_loops.Arrays.{map-front}
+use Rattle.genpowcone.specs.loops.Places.{wide, ratioAt}
+use Rattle.genpowcone.proofs.loops.Arrays.{map-front}
 use Rattle.genpowcone.specs.PrimalGradient.{x0Of}
 use Rattle.genpowcone.proofs.newton_raphson_genpowcone.Statement.{statement}
 use Rattle.genpowcone.proofs.newton_raphson_genpowcone.Tie as tie

@@ -2,7 +2,7 @@
 use native.Mathlib.Omega.{arith}
 use lib.ListN.{length-take}
 use borrow.Author.Needs.{needs}
-use Rattle.genpowcone.proofs.genpowcone_loops.Arrays.{from-first}
+use Rattle.genpowcone.proofs.loops.Arrays.{from-first}
 use Rattle.genpowcone.specs.Rank3.{pOf}
 use Rattle.genpowcone.proofs.p_of.Statement.{statement}
 use Rattle.genpowcone.proofs.p_of.Tie as tie

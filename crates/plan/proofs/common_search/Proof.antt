@@ -13,7 +13,7 @@ use borrow.Author.Needs.{needs}
 use Rattle.double.specs.Operators.{_⊗_}
 use Rattle.double.specs.Numbers.{#0}
 use Rattle.cone.specs.declared.Cone.{Cone}
-use Rattle.cone.specs.cone_words.Words.{coneOfWords, conesOf}
+use Rattle.cone.specs.words.Words.{coneOfWords, conesOf}
 use Rattle.search.specs.trials.Trials.{bound, Usable}
 use Rattle.search.specs.trials.Search.{outcome, passesAt}
 use Rattle.search.specs.trials.Costed.{Costed, costAt}

@@ -6,7 +6,7 @@ use Prim.Native.Nat.{ℕ}
 use native.Mathlib.Omega.{arith}
 use lib.Ieee.{Float}
 use borrow.Author.Needs.{needs}
-use Rattle.cone.specs.cone_words.Words.{word, lowHalf, highHalf, placesOf, coneOfWords}
+use Rattle.cone.specs.words.Words.{word, lowHalf, highHalf, placesOf, coneOfWords}
 use Rattle.kinds.specs.Passes.{passesIn}
 use Rattle.plan.specs.Plans.{usedOf, conePasses}
 use Rattle.plan.proofs.UsedPlaces.{used-most, used-suffice}

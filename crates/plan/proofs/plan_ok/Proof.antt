@@ -9,7 +9,7 @@ use lib.ListN.{length, drop}
 use borrow.Author.Needs.{needs}
 use borrow.Author.Tests.{not-true, not-false}
 use Rattle.judges.specs.Judges.{coneOk}
-use Rattle.cone.specs.cone_words.Words.{conesOf}
+use Rattle.cone.specs.words.Words.{conesOf}
 use Rattle.plan.specs.Plans.{allConesOk, planOk}
 use Rattle.plan.proofs.Plans.{unlisted, ok-begins, ok-next, ok-end}
 use Rattle.plan.proofs.plan_ok.Statement.{statement}

@@ -11,7 +11,7 @@ use borrow.Author.Needs.{needs}
 use borrow.Author.Tests.{not-true, not-false}
 use Rattle.cone.specs.declared.Cone.{Cone}
 use Rattle.cone.specs.Codes.{numelOf}
-use Rattle.cone.specs.cone_words.Words.{coneOfWords}
+use Rattle.cone.specs.words.Words.{coneOfWords}
 use Rattle.plan.specs.Plans.{conePasses}
 use Rattle.plan.proofs.Plans.{PassedTo, passed-none, passed-next, failed-now, passed-all, fits}
 use Rattle.plan.proofs.test_cones.Statement.{statement}

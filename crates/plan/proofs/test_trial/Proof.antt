@@ -9,7 +9,7 @@ use lib.ListN.{length, length-map}
 use denote.Ref.{now}
 use borrow.Author.Tests.{not-true, not-false}
 use Rattle.cone.specs.declared.Cone.{Cone}
-use Rattle.cone.specs.cone_words.Words.{coneOfWords, conesOf}
+use Rattle.cone.specs.words.Words.{coneOfWords, conesOf}
 use Rattle.search.proofs.Points.{length-point}
 use Rattle.plan.specs.declared.Tested.{Tested}
 use Rattle.plan.proofs.Plans.{tests-most}

@@ -6,7 +6,7 @@ use Prim.Native.Nat.{ℕ, _≤_, _<_, _-_, _+_, _^_}
 use native.Mathlib.Omega.{arith}
 use lib.ListN.{length, drop}
 use borrow.Author.Needs.{needs}
-use Rattle.cone.specs.cone_words.Words.{conesOf}
+use Rattle.cone.specs.words.Words.{conesOf}
 use Rattle.plan.specs.Plans.{totalOf}
 use Rattle.plan.proofs.Plans.{plan-total, total-from, total-end}
 use Rattle.plan.proofs.total.Statement.{statement}

@@ -1,0 +1,31 @@
+-- `update_rows` asks the table of its definition. Assumes nothing.
+use Rattle.call_record.specs.update.Entries.{updateRows}
+use borrow.Author.Needs.{needs}
+use Rattle.call_record.proofs.update.update_rows.Statement.{statement}
+use Rattle.call_record.proofs.update.update_rows.Tie as tie
+
+returns : tie.Need-returns
+unfolding updateRows
+returns c =
+    let settings = c .before .before in
+    let numbers = settings .before in
+    let points = numbers .before .before in
+    let cone = points .before .before in
+    simp (
+      c .first-row .ensures,
+      settings .strategy-ok .ensures,
+      numbers .record-finite .ensures,
+      numbers .before .is-finite .ensures,
+      points .all-finite2 .ensures,
+      points .before .all-finite .ensures,
+      cone .cone-ok .ensures,
+      cone .before .numel .ensures,
+    )
+
+pub update-rows-spec : {M : Type 1} → statement M
+update-rows-spec =
+    tie.close
+    (tie.spec
+    (λ c κs. search needs) (λ c κs. search needs) (λ c κs. search needs) (λ c κs. search needs) (λ c κs. search needs)
+    (λ c κs. search needs) (λ c κs. search needs) (λ c κs. search needs)
+    returns)

@@ -1,0 +1,59 @@
+// update_scaling, the one entry that makes a record. It judges its arguments by the table of document 01, makes the new record from the
+// cone and the call's other arguments, judges that, and only then hands it out, with the serial that follows the old one.
+ghost use mathlib.Core.Path.{_≡_};
+ghost use Rattle.call_record.specs.update.Entries.{updateRows, updateScalingOf};
+use cone::LAST_SERIAL;
+use cone::Scaling;
+use cone::Updated;
+use cone::table::Faults;
+use cone::table::first_row;
+use double::is_finite;
+use judges::all_finite;
+use judges::cone_ok;
+use judges::numel;
+use judges::record_finite;
+use judges::refusal::last_rows;
+use judges::strategy_ok;
+use scaling::update::new_record;
+
+fn update_rows(scaling: Scaling, s: &[f64], z: &[f64], mu: f64, strategy: u32) -> u32
+    ensures { λ r. ⌜ r ≡ updateRows scaling (now (s .entry)) (now (z .entry)) mu strategy ⌝ }
+{
+    let n = numel(scaling.cone);
+    first_row(Faults {
+        cone: !cone_ok(scaling.cone),
+        length: (s.len() != n) | (z.len() != n),
+        number: !(all_finite(s) & all_finite(z) & is_finite(mu) & record_finite(scaling)),
+        setting: !strategy_ok(strategy),
+        spent: scaling.serial == LAST_SERIAL,
+        unscaled: false,
+        serial: false,
+    })
+}
+
+// Both scalings. All or nothing: a refused update hands the record back as it came.
+pub fn update_scaling(scaling: Scaling, s: &[f64], z: &[f64], mu: f64, strategy: u32) -> Updated
+    ensures { λ r. ⌜ r ≡ updateScalingOf scaling (now (s .entry)) (now (z .entry)) mu strategy ⌝ }
+{
+    let first = update_rows(scaling, s, z, mu, strategy);
+    if first != 0 {
+        return Updated {
+            code: first,
+            scaling,
+        };
+    }
+    let attempt = new_record(scaling.cone, s, z, mu, strategy);
+    let last = last_rows(attempt);
+    if last != 0 {
+        return Updated {
+            code: last,
+            scaling,
+        };
+    }
+    let mut new = attempt.scaling;
+    new.serial = scaling.serial + 1;
+    Updated {
+        code: 0,
+        scaling: new,
+    }
+}

@@ -48,16 +48,47 @@ fn word_of(bytes: &[u8], n: usize) -> u64
     x
 }
 
+// The same for eight bytes and for four, written out: where they are there, the compiler reads them at once.
+fn eight(bytes: &[u8]) -> u64
+    ensures { λ r. ⌜ r ≡ spelled (take 8 (now (bytes .entry))) ⌝ }
+{
+    byte(bytes, 0)
+        + byte(bytes, 1) * 0x100
+        + byte(bytes, 2) * 0x1_0000
+        + byte(bytes, 3) * 0x100_0000
+        + byte(bytes, 4) * 0x1_0000_0000
+        + byte(bytes, 5) * 0x100_0000_0000
+        + byte(bytes, 6) * 0x1_0000_0000_0000
+        + byte(bytes, 7) * 0x100_0000_0000_0000
+}
+
+fn four(bytes: &[u8]) -> u64
+    ensures { λ r. ⌜ (r ≡ spelled (take 4 (now (bytes .entry)))) × (r < 256 ^ 4) ⌝ }
+{
+    byte(bytes, 0)
+        + byte(bytes, 1) * 0x100
+        + byte(bytes, 2) * 0x1_0000
+        + byte(bytes, 3) * 0x100_0000
+}
+
 pub fn u64_at(bytes: &[u8], place: usize) -> u64
     ensures { λ r. ⌜ r ≡ wordAt 8 (now (bytes .entry)) place ⌝ }
 {
-    word_of(behind(bytes, place), 8)
+    let rest = behind(bytes, place);
+    if 8 <= rest.len() {
+        return eight(rest);
+    }
+    word_of(rest, 8)
 }
 
 pub fn u32_at(bytes: &[u8], place: usize) -> u32
     ensures { λ r. ⌜ r ≡ wordAt 4 (now (bytes .entry)) place ⌝ }
 {
-    word_of(behind(bytes, place), 4) as u32
+    let rest = behind(bytes, place);
+    if 4 <= rest.len() {
+        return four(rest) as u32;
+    }
+    word_of(rest, 4) as u32
 }
 
 // Writes the n bytes of x at a place.

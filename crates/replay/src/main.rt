@@ -1,11 +1,11 @@
-// replay FILE: the searches of a trace, run again. 02, Order 2. It reads, calls and writes; what it prints is `printedOf` of the crate
-// replay_file. The file, its text and the offsets lie on the stack.
+// replay FILE: the searches of a trace, run again. 02, Order 2. It reads, calls and writes; what it prints is `printedOf` of
+// `trace_replay::file`. The file, its text and the offsets lie on the stack.
 ghost use mathlib.Core.Path.{_≡_};
 ghost use lib.ListN.{length};
 use libc::STDERR_FILENO;
 use program_files::print_text;
 use program_files::read_argument;
-use trace_replay::replay_file::put_replay;
+use trace_replay::file::put_replay;
 
 // One byte more than a file may have, so that a larger one shows. The `ensures` gives the length alone, which lending the array needs.
 fn file_room() -> [u8; 65537]

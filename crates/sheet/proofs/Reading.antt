@@ -6,14 +6,14 @@ use Prim.Native.Nat.{ℕ, _+_, _≤_}
 use native.Mathlib.Omega.{arith}
 use lib.ListN.{length, length-append}
 use Rattle.octets.specs.words.Words.{AllBelow}
-use Rattle.trace_sheet.specs.sheet_counts.Laws.{AllBytes}
-use Rattle.trace_sheet.specs.declared.sheet_rows.Totals.{Totals}
-use Rattle.trace_sheet.specs.sheet_rows.Rows.{Held, addOf}
-use Rattle.trace_sheet.specs.sheet_rows.Sums.{Begun, Countable, addAll}
-use Rattle.trace_sheet.proofs.sheet_rows.Sums.{bytes-append}
-use Rattle.trace_sheet.specs.declared.sheet_text.Printed.{Printed}
-use Rattle.trace_sheet.specs.sheet_text.Printed.{textRoom, Told, printOf}
-use Rattle.trace_sheet.proofs.sheet_text.FromFiles.{files-printed}
+use Rattle.trace_sheet.specs.counts.Laws.{AllBytes}
+use Rattle.trace_sheet.specs.declared.rows.Totals.{Totals}
+use Rattle.trace_sheet.specs.rows.Rows.{Held, addOf}
+use Rattle.trace_sheet.specs.rows.Sums.{Begun, Countable, addAll}
+use Rattle.trace_sheet.proofs.rows.Sums.{bytes-append}
+use Rattle.trace_sheet.specs.declared.text.Printed.{Printed}
+use Rattle.trace_sheet.specs.text.Printed.{textRoom, Told, printOf}
+use Rattle.trace_sheet.proofs.text.FromFiles.{files-printed}
 use Rattle.sheet.specs.Counting.{Added, FilesCounted, SheetPrinted}
 
 no-bytes : AllBytes []

@@ -7,11 +7,11 @@ use mathlib.Core.Logic.{_⊎_}
 use mathlib.Core.List.{List}
 use lib.ListN.{length}
 use lib.Seq.{sets}
-use Rattle.trace_sheet.specs.sheet_counts.Laws.{AllBytes}
-use Rattle.trace_sheet.specs.sheet_counts.Sheet.{sheetOf}
-use Rattle.trace_sheet.specs.sheet_rows.Rows.{Held}
-use Rattle.trace_sheet.specs.sheet_rows.Sums.{addAll}
-use Rattle.trace_sheet.specs.sheet_text.Printed.{sheetText}
+use Rattle.trace_sheet.specs.counts.Laws.{AllBytes}
+use Rattle.trace_sheet.specs.counts.Sheet.{sheetOf}
+use Rattle.trace_sheet.specs.rows.Rows.{Held}
+use Rattle.trace_sheet.specs.rows.Sums.{addAll}
+use Rattle.trace_sheet.specs.text.Printed.{sheetText}
 
 -- so many files, each of bytes, were added one by one
 pub record Added (n : ℕ) (before after : Held) : Type 0 where

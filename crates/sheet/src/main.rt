@@ -1,30 +1,26 @@
 // sheet FILE ..: the monthly sheet of traces, files numbered from 1 as given. 02, Order 14. It reads, calls and writes; what it prints is
-// `sheetText` of the crate sheet_text of `sheetOf` of the crate sheet_counts, by the contract of `put_files`. A file that cannot be read is
-// said in one line, and then no sheet is printed. Where there are many files, a line on standard error tells how far it is. One file at a
-// time, the rows and the text lie on the stack.
+// `sheetText` of `trace_sheet::text` of `sheetOf` of `trace_sheet::counts`, by the contract of `put_files`. A file that cannot be read is
+// said in one line, and then no sheet is printed. One file at a time, the rows and the text lie on the stack.
 ghost use mathlib.Core.Path.{_≡_};
 ghost use mathlib.Core.List.{[]};
 ghost use Prim.Native.Nat.{_≤_};
 ghost use lib.ListN.{length};
-ghost use Rattle.trace_sheet.specs.sheet_counts.Counts.{Fresh};
-ghost use Rattle.trace_sheet.specs.sheet_counts.Sheet.{sheetOf};
-ghost use Rattle.trace_sheet.specs.sheet_rows.Rows.{totalsOf};
-ghost use Rattle.trace_sheet.specs.sheet_text.Printed.{textRoom};
+ghost use Rattle.trace_sheet.specs.counts.Counts.{Fresh};
+ghost use Rattle.trace_sheet.specs.counts.Sheet.{sheetOf};
+ghost use Rattle.trace_sheet.specs.rows.Rows.{totalsOf};
+ghost use Rattle.trace_sheet.specs.text.Printed.{textRoom};
 ghost use Rattle.sheet.specs.Counting.{FilesCounted, FilesPrinted};
 use libc::STDERR_FILENO;
 use octets::words::front;
 use program_files::print_text;
 use program_files::read_argument;
-use trace_sheet::sheet_counts::Largest;
-use trace_sheet::sheet_rows::Totals;
-use trace_sheet::sheet_rows::add;
-use trace_sheet::sheet_text::put_sheet;
+use trace_sheet::counts::Largest;
+use trace_sheet::rows::Totals;
+use trace_sheet::rows::add;
+use trace_sheet::text::put_sheet;
 
 // 02, Order 14: "At most 1,000 files"
 const MOST_FILES: usize = 1000;
-
-// After so many files it tells how far it is.
-const MANY: usize = 100;
 
 // One byte more than a file may have, so that a larger one shows. The `ensures` gives the length alone, which lending the array needs.
 fn file_room() -> [u8; 65537]
@@ -70,17 +66,6 @@ fn nothing() -> Totals
     }
 }
 
-// How far it is, where files are many and some are left.
-fn tell(done: usize, files: usize) {
-    if done % MANY == 0 && done < files {
-        io::write_all(STDERR_FILENO, b"sheet: ");
-        io::print_decimal(STDERR_FILENO, done as u64);
-        io::write_all(STDERR_FILENO, b" of ");
-        io::print_decimal(STDERR_FILENO, files as u64);
-        io::write_all(STDERR_FILENO, b" files\n");
-    }
-}
-
 // What was counted, and whether every file was read.
 struct Counted {
     done: bool,
@@ -110,7 +95,6 @@ fn count_files(
             };
         }
         totals = add(totals, dual, primal, skipped, front(file, got.count));
-        tell(i + 1, files);
     }
     Counted { done: true, totals }
 }

@@ -3,22 +3,25 @@ ghost use mathlib.Core.Path.{_≡_};
 ghost use Rattle.kernels.specs.Door.{sqrtOf, logOf, expOf, powfOf};
 ghost use Rattle.root.specs.table_root.Steps.{tableSqrtOf};
 ghost use Rattle.cone.specs.Fresh.{houseSettings, houseStrategy};
-ghost use Rattle.call_cone.specs.cone_entries.Entries.{freshOf, isPrimalFeasibleOf, isDualFeasibleOf, barrierDualOf, dualGradHOf};
-ghost use Rattle.call_cone.specs.cone_entries.Entries.{unitInitializationOf, rectifyEquilibrationOf, affineDsOf, dsFromDzOffsetOf};
-ghost use Rattle.call_search.specs.search_entries.Entries.{backtrackSearchOf, stepLengthOf};
-ghost use Rattle.cone.specs.cone_words.Words.{conesOf};
-ghost use Rattle.call_search.specs.plan_entries.Entries.{commonStepOf, planStepOf};
-ghost use Rattle.call_record.specs.record_update.Entries.{updateScalingOf};
-ghost use Rattle.call_record.specs.record_entries.Entries.{gradientPrimalOf, barrierPrimalOf, computeBarrierOf, getHsOf, mulHsOf};
-ghost use Rattle.call_record.specs.record_entries.Entries.{higherCorrectionOf, combinedDsShiftOf};
-ghost use Rattle.trace.specs.trace_entries.Writing.{createOf, appendOf};
-ghost use Rattle.trace.specs.trace_entries.Opened.{openedOf};
-ghost use Rattle.trace.specs.recorded.Recorded.{recordedIn};
-ghost use Rattle.trace_replay.specs.replayed.Replay.{Noted, replayOf};
-ghost use Rattle.trace_rescue.specs.rescued.Rescue.{rescueOf};
-ghost use Rattle.trace_thin.specs.thinned.Thin.{thinOf, thinInPlaceOf};
-ghost use Rattle.trace_sheet.specs.sheet_rows.Rows.{joinOf, addOf};
-ghost use Rattle.trace_sheet.specs.sheet_text.Printed.{printOf};
+ghost use Rattle.call_cone.specs.formulas.Entries.{freshOf, isPrimalFeasibleOf, isDualFeasibleOf, barrierDualOf, dualGradHOf};
+ghost use Rattle.call_cone.specs.formulas.Entries.{unitInitializationOf, rectifyEquilibrationOf, affineDsOf, dsFromDzOffsetOf};
+ghost use Rattle.call_search.specs.single.Entries.{backtrackSearchOf, stepLengthOf};
+ghost use Rattle.cone.specs.words.Words.{conesOf};
+ghost use Rattle.call_search.specs.plans.Entries.{commonStepOf, planStepOf};
+ghost use Rattle.call_record.specs.update.Entries.{updateScalingOf};
+ghost use Rattle.call_record.specs.entries.Entries.{gradientPrimalOf, barrierPrimalOf, computeBarrierOf, getHsOf, mulHsOf};
+ghost use Rattle.call_record.specs.entries.Entries.{higherCorrectionOf, combinedDsShiftOf};
+ghost use Rattle.octets.specs.words.Words.{AllBelow};
+ghost use Rattle.trace.specs.entries.Values.{Passed};
+ghost use Rattle.trace.specs.entries.Writing.{createOf, appendOf};
+ghost use Rattle.trace.specs.entries.Opened.{openedOf};
+ghost use Rattle.trace.specs.value.Recorded.{recordedIn};
+ghost use Rattle.trace.specs.recording.Recording.{recordPutOf, recordAtOf, traceSealOf};
+ghost use Rattle.trace_replay.specs.slices.Replay.{Noted, replayOf};
+ghost use Rattle.trace_rescue.specs.slices.Rescue.{rescueOf};
+ghost use Rattle.trace_thin.specs.slices.Thin.{thinOf, thinInPlaceOf};
+ghost use Rattle.trace_sheet.specs.rows.Rows.{joinOf, addOf};
+ghost use Rattle.trace_sheet.specs.text.Printed.{printOf};
 use cone::Cone;
 use cone::DualGrad;
 use cone::Found;
@@ -31,14 +34,22 @@ use cone::Updated;
 use cone::YesNo;
 use cone::verdict::Verdict;
 use root::table_root::Root;
-use trace::recorded::Recorded;
-use trace::trace_entries::Opened;
-use trace::trace_entries::Written;
-use trace_replay::replayed::Replayed;
-use trace_rescue::rescued::Rescued;
-use trace_sheet::sheet_rows::Totals;
-use trace_sheet::sheet_text::Printed;
-use trace_thin::thinned::Thinned;
+use trace::entries::Opened;
+use trace::entries::Written;
+use trace::value::Recorded;
+use trace_replay::slices::Replayed;
+use trace_rescue::slices::Rescued;
+use trace_sheet::rows::Totals;
+use trace_sheet::text::Printed;
+use trace_thin::slices::Thinned;
+
+// Which library this is: 10,000 times the version's first number, 100 times its second, its third. For 1.0.0.
+#[no_mangle]
+pub extern "C" fn spindle_version() -> u32
+    ensures { λ r. ⌜ r ≡ 10000 ⌝ }
+{
+    10000
+}
 
 // The four kernels. Every double is taken, nothing refused.
 
@@ -92,35 +103,35 @@ pub extern "C" fn spindle_table_sqrt(x: f64) -> Root
 pub extern "C" fn spindle_fresh(cone: Cone) -> Updated
     ensures { λ r. ⌜ r ≡ freshOf cone ⌝ }
 {
-    call_cone::cone_entries::fresh(cone)
+    call_cone::formulas::fresh(cone)
 }
 
 #[no_mangle]
 pub extern "C" fn spindle_is_primal_feasible(cone: Cone, s: &[f64]) -> Verdict
     ensures { λ r. ⌜ r ≡ isPrimalFeasibleOf cone (now (s .entry)) ⌝ }
 {
-    call_cone::cone_entries::is_primal_feasible(cone, s)
+    call_cone::formulas::is_primal_feasible(cone, s)
 }
 
 #[no_mangle]
 pub extern "C" fn spindle_is_dual_feasible(cone: Cone, z: &[f64]) -> Verdict
     ensures { λ r. ⌜ r ≡ isDualFeasibleOf cone (now (z .entry)) ⌝ }
 {
-    call_cone::cone_entries::is_dual_feasible(cone, z)
+    call_cone::formulas::is_dual_feasible(cone, z)
 }
 
 #[no_mangle]
 pub extern "C" fn spindle_barrier_dual(cone: Cone, z: &[f64]) -> Number
     ensures { λ r. ⌜ r ≡ barrierDualOf cone (now (z .entry)) ⌝ }
 {
-    call_cone::cone_entries::barrier_dual(cone, z)
+    call_cone::formulas::barrier_dual(cone, z)
 }
 
 #[no_mangle]
 pub extern "C" fn spindle_dual_grad_h(cone: Cone, z: &[f64]) -> DualGrad
     ensures { λ r. ⌜ r ≡ dualGradHOf cone (now (z .entry)) ⌝ }
 {
-    call_cone::cone_entries::dual_grad_h(cone, z)
+    call_cone::formulas::dual_grad_h(cone, z)
 }
 
 #[no_mangle]
@@ -149,7 +160,7 @@ pub extern "C" fn spindle_backtrack_search(
     ensures { λ r. ⌜ record { answer = r; slice = now (point .exit) }
         ≡ backtrackSearchOf cone primal (now (dq .entry)) (now (q .entry)) (now (point .entry)) settings ⌝ }
 {
-    call_search::search_entries::backtrack_search(cone, primal, dq, q, point, settings)
+    call_search::single::backtrack_search(cone, primal, dq, q, point, settings)
 }
 
 #[no_mangle]
@@ -167,7 +178,7 @@ pub extern "C" fn spindle_step_length(
         ≡ stepLengthOf cone (now (dz .entry)) (now (ds .entry)) (now (z .entry)) (now (s .entry)) (now (dualpoint .entry))
         (now (primalpoint .entry)) settings ⌝ }
 {
-    call_search::search_entries::step_length(cone, dz, ds, z, s, dualpoint, primalpoint, settings)
+    call_search::single::step_length(cone, dz, ds, z, s, dualpoint, primalpoint, settings)
 }
 
 // The list is the memory of C's `const Cone *cones, size_t ncones`: 34 words a cone.
@@ -183,7 +194,7 @@ pub extern "C" fn spindle_common_step(
     ensures { λ r. ⌜ record { answer = r; slice = now (point .exit) }
         ≡ commonStepOf (conesOf (now (cones .entry))) primal (now (dq .entry)) (now (q .entry)) (now (point .entry)) settings ⌝ }
 {
-    call_search::plan_entries::common_step(cones, primal, dq, q, point, settings)
+    call_search::plans::common_step(cones, primal, dq, q, point, settings)
 }
 
 #[no_mangle]
@@ -201,7 +212,7 @@ pub extern "C" fn spindle_plan_step(
         ≡ planStepOf (conesOf (now (cones .entry))) (now (dz .entry)) (now (ds .entry)) (now (z .entry)) (now (s .entry))
         (now (dualpoint .entry)) (now (primalpoint .entry)) settings ⌝ }
 {
-    call_search::plan_entries::plan_step(cones, dz, ds, z, s, dualpoint, primalpoint, settings)
+    call_search::plans::plan_step(cones, dz, ds, z, s, dualpoint, primalpoint, settings)
 }
 
 #[no_mangle]
@@ -209,7 +220,7 @@ pub extern "C" fn spindle_unit_initialization(cone: Cone, z: &mut [f64], s: &mut
     ensures { λ r. ⌜ record { answer = r; first = now (z .exit); second = now (s .exit) }
         ≡ unitInitializationOf cone (now (z .entry)) (now (s .entry)) ⌝ }
 {
-    call_cone::cone_entries::unit_initialization(cone, z, s)
+    call_cone::formulas::unit_initialization(cone, z, s)
 }
 
 #[no_mangle]
@@ -217,14 +228,14 @@ pub extern "C" fn spindle_rectify_equilibration(cone: Cone, delta: &mut [f64], e
     ensures { λ r. ⌜ record { answer = r; slice = now (delta .exit) }
         ≡ rectifyEquilibrationOf cone (now (delta .entry)) (now (e .entry)) ⌝ }
 {
-    call_cone::cone_entries::rectify_equilibration(cone, delta, e)
+    call_cone::formulas::rectify_equilibration(cone, delta, e)
 }
 
 #[no_mangle]
 pub extern "C" fn spindle_affine_ds(cone: Cone, ds: &mut [f64], s: &[f64]) -> u32
     ensures { λ r. ⌜ record { answer = r; slice = now (ds .exit) } ≡ affineDsOf cone (now (ds .entry)) (now (s .entry)) ⌝ }
 {
-    call_cone::cone_entries::affine_ds(cone, ds, s)
+    call_cone::formulas::affine_ds(cone, ds, s)
 }
 
 #[no_mangle]
@@ -237,7 +248,7 @@ pub extern "C" fn spindle_ds_from_dz_offset(
     ensures { λ r. ⌜ record { answer = r; slice = now (out .exit) }
         ≡ dsFromDzOffsetOf cone (now (out .entry)) (now (ds .entry)) (now (z .entry)) ⌝ }
 {
-    call_cone::cone_entries::ds_from_dz_offset(cone, out, ds, z)
+    call_cone::formulas::ds_from_dz_offset(cone, out, ds, z)
 }
 
 // ---- entries that take a scaling record
@@ -252,21 +263,21 @@ pub extern "C" fn spindle_update_scaling(
 ) -> Updated
     ensures { λ r. ⌜ r ≡ updateScalingOf scaling (now (s .entry)) (now (z .entry)) mu strategy ⌝ }
 {
-    call_record::record_update::update_scaling(scaling, s, z, mu, strategy)
+    call_record::update::update_scaling(scaling, s, z, mu, strategy)
 }
 
 #[no_mangle]
 pub extern "C" fn spindle_gradient_primal(scaling: Scaling, g: &mut [f64], s: &[f64]) -> Rounds
     ensures { λ r. ⌜ record { answer = r; slice = now (g .exit) } ≡ gradientPrimalOf scaling (now (g .entry)) (now (s .entry)) ⌝ }
 {
-    call_record::record_entries::gradient_primal(scaling, g, s)
+    call_record::entries::gradient_primal(scaling, g, s)
 }
 
 #[no_mangle]
 pub extern "C" fn spindle_barrier_primal(scaling: Scaling, s: &[f64]) -> Number
     ensures { λ r. ⌜ r ≡ barrierPrimalOf scaling (now (s .entry)) ⌝ }
 {
-    call_record::record_entries::barrier_primal(scaling, s)
+    call_record::entries::barrier_primal(scaling, s)
 }
 
 #[no_mangle]
@@ -280,21 +291,21 @@ pub extern "C" fn spindle_compute_barrier(
 ) -> Number
     ensures { λ r. ⌜ r ≡ computeBarrierOf scaling (now (z .entry)) (now (s .entry)) (now (dz .entry)) (now (ds .entry)) alpha ⌝ }
 {
-    call_record::record_entries::compute_barrier(scaling, z, s, dz, ds, alpha)
+    call_record::entries::compute_barrier(scaling, z, s, dz, ds, alpha)
 }
 
 #[no_mangle]
 pub extern "C" fn spindle_get_hs(scaling: Scaling, serial: u32, block: &mut [f64]) -> u32
     ensures { λ r. ⌜ record { answer = r; slice = now (block .exit) } ≡ getHsOf scaling serial (now (block .entry)) ⌝ }
 {
-    call_record::record_entries::get_hs(scaling, serial, block)
+    call_record::entries::get_hs(scaling, serial, block)
 }
 
 #[no_mangle]
 pub extern "C" fn spindle_mul_hs(scaling: Scaling, serial: u32, y: &mut [f64], x: &[f64]) -> u32
     ensures { λ r. ⌜ record { answer = r; slice = now (y .exit) } ≡ mulHsOf scaling serial (now (y .entry)) (now (x .entry)) ⌝ }
 {
-    call_record::record_entries::mul_hs(scaling, serial, y, x)
+    call_record::entries::mul_hs(scaling, serial, y, x)
 }
 
 #[no_mangle]
@@ -308,7 +319,7 @@ pub extern "C" fn spindle_higher_correction(
     ensures { λ r. ⌜ record { answer = r; slice = now (eta .exit) }
         ≡ higherCorrectionOf scaling serial (now (eta .entry)) (now (ds .entry)) (now (v .entry)) ⌝ }
 {
-    call_record::record_entries::higher_correction(scaling, serial, eta, ds, v)
+    call_record::entries::higher_correction(scaling, serial, eta, ds, v)
 }
 
 #[no_mangle]
@@ -323,7 +334,7 @@ pub extern "C" fn spindle_combined_ds_shift(
     ensures { λ r. ⌜ record { answer = r; slice = now (shifted .exit) }
         ≡ combinedDsShiftOf scaling serial (now (shifted .entry)) (now (stepz .entry)) (now (steps .entry)) sigmamu ⌝ }
 {
-    call_record::record_entries::combined_ds_shift(scaling, serial, shifted, stepz, steps, sigmamu)
+    call_record::entries::combined_ds_shift(scaling, serial, shifted, stepz, steps, sigmamu)
 }
 
 // ---- 02, Order 1: traces of step searches
@@ -332,9 +343,10 @@ pub extern "C" fn spindle_combined_ds_shift(
 pub extern "C" fn spindle_trace_create(trace: &mut [u8]) -> Written
     ensures { λ r. ⌜ record { answer = r; bytes = now (trace .exit) } ≡ createOf (now (trace .entry)) ⌝ }
 {
-    trace::trace_entries::create(trace)
+    trace::entries::create(trace)
 }
 
+// Beside the equation the contract says what every call has, and what reading back asks: bytes, and arguments that are values of their types.
 #[no_mangle]
 pub extern "C" fn spindle_trace_append(
     trace: &mut [u8],
@@ -348,25 +360,76 @@ pub extern "C" fn spindle_trace_append(
     s: &[f64],
     steps: Steps,
 ) -> Written
-    ensures { λ r. ⌜ record { answer = r; bytes = now (trace .exit) }
+    ensures { λ r. ⌜ (record { answer = r; bytes = now (trace .exit) }
         ≡ appendOf (now (trace .entry)) used cone flag settings
-        (now (dz .entry)) (now (ds .entry)) (now (z .entry)) (now (s .entry)) steps ⌝ }
+        (now (dz .entry)) (now (ds .entry)) (now (z .entry)) (now (s .entry)) steps)
+        × AllBelow 256 (now (trace .entry))
+        × Passed cone flag settings (now (dz .entry)) (now (ds .entry)) (now (z .entry)) (now (s .entry)) steps ⌝ }
 {
-    trace::trace_entries::append(trace, used, cone, flag, settings, dz, ds, z, s, steps)
+    trace::entries::append(trace, used, cone, flag, settings, dz, ds, z, s, steps)
 }
 
 #[no_mangle]
 pub extern "C" fn spindle_trace_open(trace: &[u8]) -> Opened
     ensures { λ r. ⌜ r ≡ openedOf (now (trace .entry)) ⌝ }
 {
-    trace::trace_entries::open(trace)
+    trace::entries::open(trace)
 }
 
 #[no_mangle]
 pub extern "C" fn spindle_trace_record(trace: &[u8], i: u32) -> Recorded
     ensures { λ r. ⌜ r ≡ recordedIn (now (trace .entry)) i ⌝ }
 {
-    trace::recorded::record(trace, i)
+    trace::value::record(trace, i)
+}
+
+// ---- the same record by record, as searches are made: each call judges only what it touches
+
+#[no_mangle]
+pub extern "C" fn spindle_record_put(
+    bytes: &mut [u8],
+    at: usize,
+    edition: u32,
+    cone: Cone,
+    flag: u32,
+    settings: Settings,
+    dz: &[f64],
+    ds: &[f64],
+    z: &[f64],
+    s: &[f64],
+    steps: Steps,
+) -> Written
+    ensures { λ r. ⌜ record { answer = r; bytes = now (bytes .exit) }
+        ≡ recordPutOf (now (bytes .entry)) at edition cone flag settings
+        (now (dz .entry)) (now (ds .entry)) (now (z .entry)) (now (s .entry)) steps ⌝ }
+{
+    trace::recording::put(
+        bytes,
+        at,
+        edition,
+        cone,
+        flag,
+        settings,
+        dz,
+        ds,
+        z,
+        s,
+        steps,
+    )
+}
+
+#[no_mangle]
+pub extern "C" fn spindle_record_at(bytes: &[u8], edition: u32, at: usize) -> Recorded
+    ensures { λ r. ⌜ r ≡ recordAtOf (now (bytes .entry)) edition at ⌝ }
+{
+    trace::recording::record_at(bytes, edition, at)
+}
+
+#[no_mangle]
+pub extern "C" fn spindle_trace_seal(bytes: &mut [u8], used: usize, edition: u32) -> Written
+    ensures { λ r. ⌜ record { answer = r; bytes = now (bytes .exit) } ≡ traceSealOf (now (bytes .entry)) used edition ⌝ }
+{
+    trace::recording::seal(bytes, used, edition)
 }
 
 // ---- 02, Order 2: a trace replayed
@@ -375,7 +438,7 @@ pub extern "C" fn spindle_trace_record(trace: &[u8], i: u32) -> Recorded
 pub extern "C" fn spindle_replay(trace: &[u8], at: &mut [u64]) -> Replayed
     ensures { λ r. ⌜ record { answer = r; offsets = now (at .exit) } ≡ replayOf (now (trace .entry)) (now (at .entry)) ⌝ }
 {
-    trace_replay::replayed::replay(trace, at)
+    trace_replay::slices::replay(trace, at)
 }
 
 // ---- 02, Order 7: a cut trace rescued
@@ -384,7 +447,7 @@ pub extern "C" fn spindle_replay(trace: &[u8], at: &mut [u64]) -> Replayed
 pub extern "C" fn spindle_rescue(input: &[u8], output: &mut [u8], edition: u32) -> Rescued
     ensures { λ r. ⌜ record { answer = r; output = now (output .exit) } ≡ rescueOf (now (input .entry)) (now (output .entry)) edition ⌝ }
 {
-    trace_rescue::rescued::rescue(input, output, edition)
+    trace_rescue::slices::rescue(input, output, edition)
 }
 
 // ---- 02, Order 13: a trace thinned
@@ -393,14 +456,14 @@ pub extern "C" fn spindle_rescue(input: &[u8], output: &mut [u8], edition: u32) 
 pub extern "C" fn spindle_thin(trace: &[u8], output: &mut [u8]) -> Thinned
     ensures { λ r. ⌜ record { answer = r; output = now (output .exit) } ≡ thinOf (now (trace .entry)) (now (output .entry)) ⌝ }
 {
-    trace_thin::thinned::thin(trace, output)
+    trace_thin::slices::thin(trace, output)
 }
 
 #[no_mangle]
 pub extern "C" fn spindle_thin_in_place(trace: &mut [u8]) -> Thinned
     ensures { λ r. ⌜ record { answer = r; output = now (trace .exit) } ≡ thinInPlaceOf (now (trace .entry)) ⌝ }
 {
-    trace_thin::thinned::thin_in_place(trace)
+    trace_thin::slices::thin_in_place(trace)
 }
 
 // ---- 02, Order 14: a sheet in lent rows
@@ -417,7 +480,7 @@ pub extern "C" fn spindle_sheet_add(
         ≡ addOf (record { totals = sheet; dual = now (dual .entry); primal = now (primal .entry); skipped = now (skipped .entry) })
         (now (file .entry)) ⌝ }
 {
-    trace_sheet::sheet_rows::add(sheet, dual, primal, skipped, file)
+    trace_sheet::rows::add(sheet, dual, primal, skipped, file)
 }
 
 #[no_mangle]
@@ -435,7 +498,7 @@ pub extern "C" fn spindle_sheet_join(
         ≡ joinOf (record { totals = sheet; dual = now (dual .entry); primal = now (primal .entry); skipped = now (skipped .entry) })
         (record { totals = second; dual = now (dual2 .entry); primal = now (primal2 .entry); skipped = now (skipped2 .entry) }) ⌝ }
 {
-    trace_sheet::sheet_rows::join(
+    trace_sheet::rows::join(
         sheet,
         dual,
         primal,
@@ -459,5 +522,5 @@ pub extern "C" fn spindle_sheet_text(
         ≡ printOf (now (text .entry))
         (record { totals = sheet; dual = now (dual .entry); primal = now (primal .entry); skipped = now (skipped .entry) }) ⌝ }
 {
-    trace_sheet::sheet_text::put_sheet(text, sheet, dual, primal, skipped)
+    trace_sheet::text::put_sheet(text, sheet, dual, primal, skipped)
 }

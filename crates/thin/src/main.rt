@@ -1,5 +1,5 @@
 // thin IN OUT: a trace without the records that are equal to an earlier one. 02, Order 13. It reads, calls and writes; what it prints is
-// `printedOf` and what it writes `writtenOf` of the crate thin_file. OUT is opened when all is known, and may be IN: a file that is refused
+// `printedOf` and what it writes `writtenOf` of `trace_thin::file`. OUT is opened when all is known, and may be IN: a file that is refused
 // leaves it alone. The file, its text and the output lie on the stack.
 ghost use mathlib.Core.Path.{_≡_};
 ghost use lib.ListN.{length};
@@ -8,7 +8,7 @@ use octets::words::front;
 use program_files::print_text;
 use program_files::read_argument;
 use program_files::write_argument;
-use trace_thin::thin_file::put_thin;
+use trace_thin::file::put_thin;
 
 // One byte more than a file may have, so that a larger one shows. The `ensures` gives the length alone, which lending the array needs.
 fn file_room() -> [u8; 65537]

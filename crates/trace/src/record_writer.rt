@@ -5,16 +5,16 @@ ghost use lib.ListN.{length};
 ghost use lib.Seq.{sets};
 ghost use Rattle.octets.specs.words.Words.{rowBytes};
 ghost use Rattle.trace_layout.specs.Records.{rulesIn, settingsIn};
-ghost use Rattle.trace_layout.specs.trace.Entries.{bitsOf};
+ghost use Rattle.trace_layout.specs.pieces.Entries.{bitsOf};
 ghost use Rattle.trace.specs.record_writer.Parts.{headRow, ruleRow, searchBytes, answerBytes, resultBytes, vectorBytes, entryBytes};
 use double::to_bits;
 use octets::words::put;
 use octets::words::put_words;
-use trace_layout::trace::Entry;
-use trace_layout::trace::STEP_MARK;
-use trace_layout::trace::layout::rules_in;
-use trace_layout::trace::layout::settings_in;
-use trace_layout::trace::layout::size_for;
+use trace_layout::pieces::Entry;
+use trace_layout::pieces::STEP_MARK;
+use trace_layout::pieces::layout::rules_in;
+use trace_layout::pieces::layout::settings_in;
+use trace_layout::pieces::layout::size_for;
 
 fn put_row(bytes: &mut [u8], place: usize, row: &[f64])
     requires { ⌜ place + 8 * length (now row) ≤ length (now bytes) ⌝ }

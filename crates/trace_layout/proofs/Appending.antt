@@ -20,7 +20,7 @@ unfolding AllLaid
 all-laid-more e [] r h l g = (l, g, tt)
 all-laid-more e (x ∷ rs) r h l g = (h .0, h .1, all-laid-more e rs r (h .2) l g)
 
-records-more : (e : ℕ) (rs : List Record) (r : Record) → recordsBytes e (rs ++ single r) ≡ recordsBytes e rs ++ bytesOf e r
+pub records-more : (e : ℕ) (rs : List Record) (r : Record) → recordsBytes e (rs ++ single r) ≡ recordsBytes e rs ++ bytesOf e r
 unfolding recordsBytes
 records-more e [] r = append-nil (bytesOf e r)
 records-more e (x ∷ rs) r = rw (records-more e rs r, append-assoc (bytesOf e x) (recordsBytes e rs) (bytesOf e r))

@@ -5,7 +5,7 @@ use mathlib.Core.Bool.{Bool, true, false, cond, _&&_}
 use mathlib.Core.List.{List, [], _∷_, _++_}
 use native.Mathlib.Omega.{arith}
 use lib.Dec.{eqb, leb, leb→le}
-use lib.ListN.{length, take, drop, getD, replicate, length-append, length-replicate}
+use lib.ListN.{length, take, drop, getD, replicate, length-append, length-replicate, length-drop}
 use borrow.Author.Tests.{eq-eqb, eqb-true, leb-true, le-leb, ltb-true}
 use mathlib.Core.Logic.{_⊎_, inl, inr, ⊎-elim}
 use Rattle.arith.proofs.Branches.{and-left, and-right, false-not-true}
@@ -276,6 +276,12 @@ found e t h =
       dualstep = p .4;
       primalstep = p .5;
     }
+
+-- a record that stands at a place ends within the bytes
+pub laid-inside : (e at : ℕ) (bs : List ℕ) → laidAt e (drop at bs) ≡ true → at + sizeAt e (drop at bs) ≤ length bs
+laid-inside e at bs h =
+    let t = drop at bs in
+    omega (arith, found e t h .room, length-drop at bs, size-least e (kindAt t) (dim1At t) (dim2At t) (flagAt e t))
 
 module _ (e : ℕ) (t : List ℕ) (bytes : AllBelow 256 t) (laid : laidAt e t ≡ true) where
   abbrev Rs : List Run

@@ -1,4 +1,4 @@
 pub mod Records
 pub mod Traces
 pub mod Inverses
-pub mod trace
+pub mod pieces

@@ -1,4 +1,4 @@
 pub mod rerun
-pub mod replayed
-pub mod replay_text
-pub mod replay_file
+pub mod slices
+pub mod text
+pub mod file

@@ -4,11 +4,11 @@ ghost use Prim.Native.Nat.{_≤_};
 ghost use Rattle.cone.specs.Codes.{numelOf};
 ghost use Rattle.trace_replay.specs.rerun.Rerun.{sameAnswers, blankPoint, agreesOf};
 use algebra::vector::head;
-use call_search::search_entries::step_length;
+use call_search::single::step_length;
 use cone::Steps;
 use double::to_bits;
 use judges::numel;
-use trace::recorded::Recorded;
+use trace::value::Recorded;
 
 // Whether both answers are the same, bit for bit. A search that was refused gives none.
 fn same_answers(a: Steps, b: Steps) -> bool

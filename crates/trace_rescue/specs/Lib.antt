@@ -1,2 +1,2 @@
-pub mod rescued
-pub mod rescue_file
+pub mod slices
+pub mod file

@@ -1,2 +1,3 @@
-pub mod rescue_file;
-pub mod rescued;
+// A cut trace rescued (slices), and what the program prints and writes of a file (file).
+pub mod file;
+pub mod slices;

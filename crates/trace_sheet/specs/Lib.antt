@@ -1,5 +1,5 @@
-pub mod sheet_counts
-pub mod sheet_trace
-pub mod sheet_rows
-pub mod sheet_lines
-pub mod sheet_text
+pub mod counts
+pub mod one_file
+pub mod rows
+pub mod lines
+pub mod text

@@ -1,3 +1,3 @@
 pub mod firsts
-pub mod thinned
-pub mod thin_file
+pub mod slices
+pub mod file

@@ -15,7 +15,7 @@ use octets::equal_bytes::same;
 use octets::words::behind;
 use octets::words::front;
 use octets::words::u32_at;
-use trace::trace_sealed::copy;
+use trace::seal::copy;
 
 // How many pieces are chosen, and how many bytes they have.
 pub struct Chosen {

@@ -1,3 +1,5 @@
+// A trace thinned: which records are the first of their kind (firsts), the calls in both forms (slices), and what the program prints and
+// writes of a file (file).
+pub mod file;
 pub mod firsts;
-pub mod thin_file;
-pub mod thinned;
+pub mod slices;

@@ -30,6 +30,37 @@ read-none zero bs = refl
 read-none (suc n) [] = refl
 read-none (suc n) (b ∷ bs) = read-none n bs
 
+-- four bytes and eight, written out
+pub spelled-four : (bs : List ℕ) → spelled (take 4 bs) ≡ getD bs 0 0 + getD bs 1 0 * 2 ^ 8 + getD bs 2 0 * 2 ^ 16 + getD bs 3 0 * 2 ^ 24
+spelled-four bs =
+    omega (
+      arith,
+      read-turn 0 4 bs (omega arith),
+      read-turn 1 4 bs (omega arith),
+      read-turn 2 4 bs (omega arith),
+      read-turn 3 4 bs (omega arith),
+      read-none 4 bs,
+    )
+
+pub spelled-eight :
+    (bs : List ℕ)
+    → spelled (take 8 bs)
+    ≡ getD bs 0 0 + getD bs 1 0 * 2 ^ 8 + getD bs 2 0 * 2 ^ 16 + getD bs 3 0 * 2 ^ 24 + getD bs 4 0 * 2 ^ 32 + getD bs 5 0 * 2 ^ 40
+    + getD bs 6 0 * 2 ^ 48 + getD bs 7 0 * 2 ^ 56
+spelled-eight bs =
+    omega (
+      arith,
+      read-turn 0 8 bs (omega arith),
+      read-turn 1 8 bs (omega arith),
+      read-turn 2 8 bs (omega arith),
+      read-turn 3 8 bs (omega arith),
+      read-turn 4 8 bs (omega arith),
+      read-turn 5 8 bs (omega arith),
+      read-turn 6 8 bs (omega arith),
+      read-turn 7 8 bs (omega arith),
+      read-none 8 bs,
+    )
+
 -- a number of k bytes and one byte more
 pub one-more : (x b k : ℕ) → x < 256 ^ k → b < 256 → x * 256 + b < 256 ^ suc k
 one-more x b k h g = omega arith

@@ -6,9 +6,9 @@ use Prim.Native.Nat.{ℕ, _-_, _≤_, _<_}
 use native.Mathlib.Omega.{arith}
 use lib.ListN.{length}
 use denote.Ref.{now}
-use Rattle.trace_sheet.specs.sheet_counts.Sheet.{sheetOf}
-use Rattle.trace_sheet.specs.declared.sheet_rows.Totals.{Totals}
-use Rattle.trace_sheet.specs.sheet_rows.Rows.{Held, totalsOf}
+use Rattle.trace_sheet.specs.counts.Sheet.{sheetOf}
+use Rattle.trace_sheet.specs.declared.rows.Totals.{Totals}
+use Rattle.trace_sheet.specs.rows.Rows.{Held, totalsOf}
 use Rattle.sheet.specs.Counting.{Added}
 use Rattle.sheet.proofs.Reading.{none-added, one-more, unread}
 use Rattle.sheet.proofs.count_files.Statement.{statement}
@@ -33,8 +33,8 @@ turn c = c .before .before .before .before
 abbrev unread-file : tie.Then1 Inv-loop μ-loop → tie.After-read-argument Inv-loop μ-loop
 unread-file c = c .before .before .before .before
 
-abbrev added : tie.After-tell Inv-loop μ-loop → tie.After-add Inv-loop μ-loop
-added c = c .before .before .before .before .before .before .before
+abbrev added : tie.After-slice-known8 Inv-loop μ-loop → tie.After-add Inv-loop μ-loop
+added c = c .before .before .before .before .before .before
 
 abbrev read : tie.After-add Inv-loop μ-loop → tie.After-read-argument Inv-loop μ-loop
 read c = c .before .before .before .before .before .before .before .before .before .before
@@ -44,9 +44,6 @@ given c = c .before .before .before .before .before .before
 
 early : (c : tie.After-read-argument Inv-loop μ-loop) → turn c .loop .i < given (turn c) .args .files
 early c = omega arith
-
-add-tell : tie.Need-add-tell Inv-loop μ-loop
-add-tell c = let r = read (c .before .before .before .before .before .before) in omega (arith, early r, given (turn r) .good)
 
 add-i : tie.Need-add-i Inv-loop μ-loop
 add-i c = let r = read (added c) in omega (arith, early r, given (turn r) .good)
@@ -94,8 +91,6 @@ count-files-spec =
     (λ c. turn (unread-file c) .loop .inv .4)
     returns
     (λ c κs. tt) (λ c κs. tt)
-    add-tell
-    (λ c κs. tt)
     add-i
     loop-less
     loop-again

@@ -1,6 +1,6 @@
 -- `count_room` meets its contract: every place is 0. Assumes nothing.
 use mathlib.Core.Path.{refl}
-use Rattle.trace_sheet.proofs.sheet_rows.Summing.{zeros}
+use Rattle.trace_sheet.proofs.rows.Summing.{zeros}
 use Rattle.sheet.proofs.count_room.Statement.{statement}
 use Rattle.sheet.proofs.count_room.Tie as tie
 

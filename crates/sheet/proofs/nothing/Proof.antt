@@ -1,8 +1,8 @@
 -- `nothing` meets its contract: the sheet of no files has no records, no flags and no largest. Assumes nothing.
 use mathlib.Core.Path.{refl}
-use Rattle.trace_sheet.specs.sheet_counts.Counts.{largestOf}
-use Rattle.trace_sheet.specs.sheet_counts.Sheet.{entriesFrom, sheetOf}
-use Rattle.trace_sheet.specs.sheet_rows.Rows.{totalsOf}
+use Rattle.trace_sheet.specs.counts.Counts.{largestOf}
+use Rattle.trace_sheet.specs.counts.Sheet.{entriesFrom, sheetOf}
+use Rattle.trace_sheet.specs.rows.Rows.{totalsOf}
 use Rattle.sheet.proofs.nothing.Statement.{statement}
 use Rattle.sheet.proofs.nothing.Tie as tie
 

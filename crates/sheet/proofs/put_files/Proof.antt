@@ -5,9 +5,9 @@ use mathlib.Core.Logic.{inl, inr}
 use denote.Ref.{now}
 use borrow.Author.Needs.{needs}
 use borrow.Author.Tests.{not-false}
-use Rattle.trace_sheet.specs.sheet_counts.Sheet.{sheetOf}
-use Rattle.trace_sheet.specs.sheet_rows.Rows.{Held, totalsOf}
-use Rattle.trace_sheet.specs.sheet_rows.Sums.{Begun}
+use Rattle.trace_sheet.specs.counts.Sheet.{sheetOf}
+use Rattle.trace_sheet.specs.rows.Rows.{Held, totalsOf}
+use Rattle.trace_sheet.specs.rows.Sums.{Begun}
 use Rattle.sheet.proofs.Reading.{sheet-printed}
 use Rattle.sheet.proofs.put_files.Statement.{statement}
 use Rattle.sheet.proofs.put_files.Tie as tie

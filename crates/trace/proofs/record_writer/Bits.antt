@@ -9,7 +9,7 @@ use Rattle.octets.specs.words.Words.{rowBytes}
 use Rattle.octets.proofs.words.Words.{length-rowBytes}
 use borrow.Author.Tests.{eq-eqb, ne-eqb}
 use Rattle.trace_layout.specs.Records.{rulesIn, settingsIn}
-use Rattle.trace_layout.specs.trace.Entries.{bitsOf}
+use Rattle.trace_layout.specs.pieces.Entries.{bitsOf}
 use Rattle.trace.specs.record_writer.Parts.{vectorBytes}
 
 pub length-bitsOf : (row : List Float) → length (bitsOf row) ≡ length row

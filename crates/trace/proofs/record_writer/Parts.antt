@@ -12,8 +12,8 @@ use Rattle.trace_layout.specs.Records.{rulesIn, settingsIn, bytesOf, runsFor, r
 use Rattle.octets.proofs.words.Words.{length-le, length-rowBytes}
 use Rattle.trace_layout.proofs.Records.{settings-most}
 use Rattle.trace.proofs.record_writer.Bits.{length-row, length-vectors}
-use Rattle.trace_layout.specs.declared.trace.Entry.{Entry}
-use Rattle.trace_layout.specs.trace.Entries.{bitsOf, settingsRow, recordOf}
+use Rattle.trace_layout.specs.declared.pieces.Entry.{Entry}
+use Rattle.trace_layout.specs.pieces.Entries.{bitsOf, settingsRow, recordOf}
 use Rattle.trace.specs.record_writer.Parts.{headRow, ruleRow, searchBytes, resultBytes, vectorBytes, entryBytes}
 
 grouped-six : (a b c d f g : List ℕ) → ((((a ++ b) ++ c) ++ d) ++ f) ++ g ≡ a ++ (b ++ (c ++ (d ++ (f ++ g))))

@@ -6,8 +6,8 @@ use lib.Ieee.{Float}
 use Rattle.octets.specs.words.Words.{le, rowBytes}
 use Rattle.trace_layout.specs.Records.{stepMark, rulesIn, runsFor}
 use Rattle.octets.specs.words.Runs.{runsSize}
-use Rattle.trace_layout.specs.declared.trace.Entry.{Entry}
-use Rattle.trace_layout.specs.trace.Entries.{bitsOf, settingsRow}
+use Rattle.trace_layout.specs.declared.pieces.Entry.{Entry}
+use Rattle.trace_layout.specs.pieces.Entries.{bitsOf, settingsRow}
 
 -- "the four bytes `STEP`, whole record length, kind, dim1, dim2"
 abbrev pub headRow : ℕ → Entry → List ℕ

@@ -8,8 +8,8 @@ use lib.ListN.{take, replicate}
 use Rattle.double.specs.Numbers.{#0}
 use Rattle.cone.specs.declared.Steps.{Steps}
 use Rattle.cone.specs.Codes.{numelOf}
-use Rattle.call_search.specs.search_entries.Entries.{stepLengthOf}
-use Rattle.trace.specs.declared.recorded.Recorded.{Recorded}
+use Rattle.call_search.specs.single.Entries.{stepLengthOf}
+use Rattle.trace.specs.declared.value.Recorded.{Recorded}
 
 -- "compare steps and counts bit for bit"; "Records whose cone, numbers or settings are refused count as differing"
 unfoldable pub sameAnswers : Steps → Steps → Bool

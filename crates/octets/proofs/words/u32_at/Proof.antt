@@ -1,4 +1,4 @@
--- `u32_at` meets its contract: the bytes behind the place, and of these the number in front. Assumes nothing.
+-- `u32_at` meets its contract: the bytes behind the place, and of these the number in front, read at once or one by one. Assumes nothing.
 use mathlib.Core.Path.{_∙_, ap}
 use mathlib.Core.List.{List}
 use Prim.Native.Nat.{ℕ}
@@ -10,7 +10,11 @@ use Rattle.octets.proofs.words.u32_at.Tie as tie
 
 returns : tie.Need-returns
 unfolding wordAt
-returns c = c .word-of .ensures .0 ∙ ap (λ (l : List ℕ). spelled (take 4 l)) (c .before .behind .ensures)
+returns c = c .four .ensures .0 ∙ ap (λ (l : List ℕ). spelled (take 4 l)) (c .before .before .behind .ensures)
+
+returns-2 : tie.Need-returns-2
+unfolding wordAt
+returns-2 c = c .word-of .ensures .0 ∙ ap (λ (l : List ℕ). spelled (take 4 l)) (c .before .before .behind .ensures)
 
 pub u32-at-spec : {M : Type 1} → statement M
-u32-at-spec = tie.close (tie.spec (λ c κs. search needs) (λ c κs. search needs) (λ c. search needs) returns)
+u32-at-spec = tie.close (tie.spec (λ c κs. search needs) (λ c κs. search needs) (λ c. search needs) returns (λ c κs. search needs) (λ c. search needs) returns-2)

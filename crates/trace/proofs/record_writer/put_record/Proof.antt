@@ -9,7 +9,7 @@ use Rattle.octets.specs.words.Words.{rowBytes}
 use Rattle.octets.specs.words.Runs.{runsSize}
 use Rattle.octets.proofs.words.Stores.{wrote-after}
 use Rattle.trace_layout.specs.Records.{rulesIn, settingsIn, runsFor}
-use Rattle.trace_layout.specs.trace.Entries.{bitsOf}
+use Rattle.trace_layout.specs.pieces.Entries.{bitsOf}
 use Rattle.trace.specs.record_writer.Parts.{headRow, ruleRow, searchBytes, resultBytes, vectorBytes, entryBytes}
 use Rattle.trace.proofs.record_writer.Bits.{length-row, length-vectors}
 use Rattle.trace.proofs.record_writer.Parts.{length-head, length-rule, length-search, length-entry}

@@ -9,7 +9,7 @@ use lib.Seq.{sets, length-sets}
 use Rattle.octets.specs.words.Words.{le, rowBytes}
 use Rattle.octets.proofs.words.Stores.{row-turn, row-begun, row-done}
 use Rattle.trace.proofs.record_writer.Bits.{length-bitsOf, bits-at}
-use Rattle.trace_layout.specs.trace.Entries.{bitsOf}
+use Rattle.trace_layout.specs.pieces.Entries.{bitsOf}
 use Rattle.trace.proofs.record_writer.put_row.Statement.{statement}
 use Rattle.trace.proofs.record_writer.put_row.Tie as tie
 

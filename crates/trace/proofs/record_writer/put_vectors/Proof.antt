@@ -5,7 +5,7 @@ use native.Mathlib.Omega.{arith}
 use lib.ListN.{length, length-append}
 use Rattle.octets.specs.words.Words.{rowBytes}
 use Rattle.octets.proofs.words.Stores.{wrote-after}
-use Rattle.trace_layout.specs.trace.Entries.{bitsOf}
+use Rattle.trace_layout.specs.pieces.Entries.{bitsOf}
 use Rattle.trace.specs.record_writer.Parts.{vectorBytes}
 use Rattle.trace.proofs.record_writer.Bits.{length-row, length-vectors}
 use borrow.Author.Needs.{needs}

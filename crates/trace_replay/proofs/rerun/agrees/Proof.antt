@@ -10,8 +10,8 @@ use lib.Seq.{length-take-le}
 use Rattle.cone.specs.declared.Steps.{Steps}
 use Rattle.cone.specs.Codes.{numelOf}
 use Rattle.judges.specs.Refusals.{LentTwo}
-use Rattle.call_search.specs.search_entries.Entries.{stepLengthOf}
-use Rattle.trace.specs.declared.recorded.Recorded.{Recorded}
+use Rattle.call_search.specs.single.Entries.{stepLengthOf}
+use Rattle.trace.specs.declared.value.Recorded.{Recorded}
 use Rattle.trace_replay.specs.rerun.Rerun.{sameAnswers, blankPoint, rerunOf, agreesOf}
 use borrow.Author.Needs.{needs, length-unmapped}
 use Rattle.trace_replay.proofs.rerun.agrees.Statement.{statement}
@@ -54,9 +54,9 @@ copied c = c .before .before
 abbrev counted : tie.After-blank2 → tie.After-numel
 counted c = copied c .before .before .before .before
 
--- the eighth field behind the first is an array of 64 places
+-- the ninth field behind the first is an array of 64 places
 s-places : (c : tie.Start) → 64 ≡ length (c .args .r .s)
-s-places c = sym (length-unmapped Float (c .args .r .s) 64 (c .good .0 .1 .1 .1 .1 .1 .1 .1 .1 .1 .1 .0 .1 .0 .1))
+s-places c = sym (length-unmapped Float (c .args .r .s) 64 (c .good .0 .1 .1 .1 .1 .1 .1 .1 .1 .1 .1 .1 .0 .1 .0 .1))
 
 few : (c : tie.After-numel) → c .numel .result ≤ 64
 few c = omega (arith, c .numel .ensures, c .before .pre)

@@ -1,0 +1,2 @@
+-- When the program asks for an edition (Asking).
+pub mod Asking

@@ -1,3 +1,0 @@
-pub mod Appended
-pub mod Made
-pub mod Kept

@@ -1,6 +1,0 @@
--- What is written of an input (Saving), from the walk to the answer (Answers), the theorems (Rescues), and that any two outcomes agree
--- (Agree).
-pub mod Saving
-pub mod Answers
-pub mod Rescues
-pub mod Agree

@@ -1,2 +1,0 @@
-pub mod Rescue
-pub mod Rescues

@@ -10,8 +10,8 @@ use Rattle.arith.specs.Turns.{iter}
 use Rattle.double.specs.Numbers.{#0, #1}
 use Rattle.double.specs.Sizes.{absOf}
 use Rattle.double.specs.Fields.{mag, shift, normalOf}
-use Rattle.series.specs.series_change.SignedArithmetic.{BelowZero}
-use Rattle.logarithm.specs.logarithm_table.Table.{table}
+use Rattle.series.specs.change.SignedArithmetic.{BelowZero}
+use Rattle.logarithm.specs.table.Table.{table}
 use Rattle.logarithm.specs.Steps.{upper, ratioOf, shortSeriesOf, mantissaOf, scaledOf, positiveOf, byFieldOf, logOf}
 use Rattle.cone.specs.verdict.Answers.{toldOf}
 use Rattle.certain.specs.Coordinates.{InRange, Point}

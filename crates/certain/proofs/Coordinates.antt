@@ -17,9 +17,9 @@ use Rattle.double.proofs.Fields.{measured}
 use Rattle.series.specs.Series.{lOf}
 use Rattle.series.proofs.SignedFractions.{over-pos-of}
 use Rattle.logarithm.specs.Steps.{logOf}
-use Rattle.series.proofs.series_change.LSizes.{L-most}
-use Rattle.rounding.proofs.rounding_errors.Divided.{Divided}
-use Rattle.rounding.proofs.rounding_errors.Ordered.{lt-units}
+use Rattle.series.proofs.change.LSizes.{L-most}
+use Rattle.rounding.proofs.errors.Divided.{Divided}
+use Rattle.rounding.proofs.errors.Ordered.{lt-units}
 use Rattle.certain.specs.Coordinates.{largest, InRange}
 use Rattle.certain.proofs.Room.{largest-positive}
 use Rattle.certain.proofs.ExactCoordinates.{cross-of, num-pos-of}
@@ -136,7 +136,7 @@ module _ {a b : ℕ} (d : Sides a b) where
   over = at-most b a largest (2 ^ 1001) (2 ^ 1074) (leb→le _ _ tt) (d .b-most) (d .a-least)
 
 -- the rounded quotient is above 0
-quotient-pos : (g b x : ℕ) → 0 < x → x * 2 ^ 53 ≤ g * b * 2 ^ 53 + x → 0 < g
+pub quotient-pos : (g b x : ℕ) → 0 < x → x * 2 ^ 53 ≤ g * b * 2 ^ 53 + x → 0 < g
 quotient-pos zero b x p h = let e : 0 * b ≡ 0 = zero-mul b in omega arith
 quotient-pos (suc g) b x p h = omega arith
 

@@ -14,9 +14,9 @@ use Rattle.series.specs.Series.{Signed}
 use Rattle.cone.specs.declared.verdict.Answer.{Answer}
 use Rattle.cone.specs.declared.verdict.Answer.the-variants.{No, Yes, Undecided}
 use Rattle.cone.specs.verdict.Answers.{toldOf, judged, isYes}
-use Rattle.rounding.specs.rounding_errors.Errors.{above, below}
-use Rattle.rounding.proofs.rounding_errors.Added.{neg-units}
-use Rattle.rounding.proofs.rounding_errors.Ordered.{lt-units}
+use Rattle.rounding.specs.errors.Errors.{above, below}
+use Rattle.rounding.proofs.errors.Added.{neg-units}
+use Rattle.rounding.proofs.errors.Ordered.{lt-units}
 use Rattle.certain.proofs.DecisionSum.{above-sum}
 use Rattle.certain.proofs.Logarithms.{LogNear}
 use Rattle.certain.proofs.Margins.{Weighed}

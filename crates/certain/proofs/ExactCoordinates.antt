@@ -8,7 +8,7 @@ use lib.Pow.{pow-pos}
 use lib.Ieee.{Float, nan, inf, fin, up, down}
 use lib.Ieee.Positive.{num, den, den-pos}
 use Rattle.double.specs.Fields.{Sized}
-use Rattle.rounding.specs.rounding_errors.Errors.{above, below}
+use Rattle.rounding.specs.errors.Errors.{above, below}
 use Rattle.series.specs.Series.{Signed, Same, lOf}
 use Rattle.series.proofs.SameFraction.{L-of-equal}
 use Rattle.series.proofs.SignedFractions.{over-pos-of}

@@ -18,10 +18,10 @@ use Rattle.logarithm.specs.Steps.{logOf}
 use Rattle.logarithm.specs.Bound.{Close}
 use Rattle.logarithm.proofs.Bound.{close-moves}
 use Rattle.logarithm.proofs.Promise.{promise}
-use Rattle.series.specs.series_change.Distances.{Apart}
-use Rattle.series.proofs.series_change.Distances.{difference-moves}
-use Rattle.series.proofs.series_change.RelativeChange.{L-relative}
-use Rattle.rounding.specs.rounding_errors.Errors.{above, below}
+use Rattle.series.specs.change.Distances.{Apart}
+use Rattle.series.proofs.change.Distances.{difference-moves}
+use Rattle.series.proofs.change.RelativeChange.{L-relative}
+use Rattle.rounding.specs.errors.Errors.{above, below}
 use Rattle.certain.proofs.LogSum.{log-sum, log-most}
 
 -- log of g units, g above 0: 01's bound, with L on the units

@@ -10,8 +10,8 @@ use Rattle.double.specs.Numbers.{#1}
 use Rattle.double.specs.Sizes.{absOf}
 use Rattle.double.specs.Fields.{Sized, Units}
 use Rattle.rounding.specs.Units.{unitsOf}
-use Rattle.rounding.proofs.rounding_errors.Multiplied.{Multiplied, mul-near}
-use Rattle.rounding.proofs.rounding_errors.Added.{Totalled, total-near, total-swapped}
+use Rattle.rounding.proofs.errors.Multiplied.{Multiplied, mul-near}
+use Rattle.rounding.proofs.errors.Added.{Totalled, total-near, total-swapped}
 use Rattle.certain.specs.Coordinates.{largest}
 use Rattle.certain.specs.Weights.{#part}
 use Rattle.certain.proofs.OneOperation.{sum-most, product-most}

@@ -6,7 +6,7 @@ use lib.Ieee.{Float}
 use lib.Ieee.Fits.{and-l, and-r}
 use Rattle.double.specs.Operators.{_≺_}
 use Rattle.double.specs.Numbers.{#0}
-use Rattle.series.specs.series_change.SignedArithmetic.{BelowZero}
+use Rattle.series.specs.change.SignedArithmetic.{BelowZero}
 use Rattle.cone.specs.declared.verdict.Answer.the-variants.{No, Yes}
 use Rattle.certain.specs.Coordinates.{Point}
 use Rattle.certain.specs.Primal as primal
@@ -16,7 +16,7 @@ use Rattle.certain.proofs.Decided.{yes-tests, no-tests}
 use Rattle.certain.proofs.Primal as primal-proved
 use Rattle.certain.proofs.Dual as dual-proved
 
-holds : (b : Bool) → b ≡ true → T b
+pub holds : (b : Bool) → b ≡ true → T b
 holds b e = subst T (sym e) tt
 
 module _ (x y z : Float) (p : Point x y z) where

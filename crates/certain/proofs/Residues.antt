@@ -8,9 +8,9 @@ use lib.Ieee.{Float, binary64, unlike}
 use Rattle.double.specs.Operators.{_⊖_, _⊗_}
 use Rattle.double.specs.Fields.{Sized, Units}
 use Rattle.rounding.specs.Within.{Within}
-use Rattle.rounding.specs.rounding_errors.Errors.{above, below}
-use Rattle.rounding.proofs.rounding_errors.Multiplied.{Multiplied, mul-near}
-use Rattle.rounding.proofs.rounding_errors.Added.{Added, sub-near, added-most}
+use Rattle.rounding.specs.errors.Errors.{above, below}
+use Rattle.rounding.proofs.errors.Multiplied.{Multiplied, mul-near}
+use Rattle.rounding.proofs.errors.Added.{Added, sub-near, added-most}
 use Rattle.certain.specs.Coordinates.{largest}
 use Rattle.certain.proofs.OneOperation.{product-most}
 use Rattle.certain.proofs.ResidueSums.{primal-sum, dual-sum}
@@ -31,13 +31,13 @@ pub record ResidueNear (r : Float) (b h c lp lm xp xm : ℕ) : Type 0 where
   pub not-below : ResidueAtMost (below sign units) (above sign units) b lm lp xm xp h c
 
 -- a product of b with ±h has the sign of the second
-signed-product :
+pub signed-product :
     (s : Bool) (n b h U : ℕ) → Within (n * U * 2 ^ 53) (b * h * 2 ^ 53) (b * h + 2 ^ 52 * U)
     → Within (2 ^ 53 * (above s n * U + b * below s h)) (2 ^ 53 * (below s n * U + b * above s h)) (b * h + 2 ^ 52 * U)
 signed-product true n b h U w = record { not-above = omega (arith, w .not-below); not-below = omega (arith, w .not-above) }
 signed-product false n b h U w = record { not-above = omega (arith, w .not-above); not-below = omega (arith, w .not-below) }
 
-unlike-false : (s : Bool) → unlike false s ≡ s
+pub unlike-false : (s : Bool) → unlike false s ≡ s
 unlike-false true = refl
 unlike-false false = refl
 

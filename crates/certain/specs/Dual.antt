@@ -5,7 +5,7 @@ use Rattle.double.specs.Operators.{_⊕_, _⊖_, _⊗_, _⊘_, _≺_}
 use Rattle.double.specs.Numbers.{#0, #1}
 use Rattle.double.specs.Sizes.{absOf}
 use Rattle.series.specs.Series.{Signed}
-use Rattle.series.specs.series_change.SignedArithmetic.{times, minus, AboveZero, BelowZero}
+use Rattle.series.specs.change.SignedArithmetic.{times, minus, AboveZero, BelowZero}
 use Rattle.logarithm.specs.Steps.{logOf}
 use Rattle.cone.specs.declared.verdict.Answer.{Answer}
 use Rattle.cone.specs.verdict.Answers.{judged}

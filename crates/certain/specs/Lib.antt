@@ -3,5 +3,5 @@ pub mod Weights
 pub mod Primal
 pub mod Dual
 pub mod Meaning
-pub mod certain_power
-pub mod certain_wide
+pub mod power
+pub mod wide

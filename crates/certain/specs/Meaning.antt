@@ -2,7 +2,7 @@
 use mathlib.Core.Path.{_≡_}
 use mathlib.Core.Bool.{true}
 use lib.Ieee.{Float}
-use Rattle.series.specs.series_change.SignedArithmetic.{BelowZero}
+use Rattle.series.specs.change.SignedArithmetic.{BelowZero}
 use Rattle.cone.specs.declared.verdict.Answer.the-variants.{No, Yes}
 use Rattle.certain.specs.Coordinates.{Point}
 use Rattle.certain.specs.Primal as primal

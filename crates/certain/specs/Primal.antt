@@ -1,5 +1,5 @@
 -- The test of the exponential cone on three numbers, and the exact number beside it. Definitions only.
--- The test is Order 5's. It stands here, below the crate that has it of a point (expcone_feasible/specs/Feasible), so that the test and
+-- The test is Order 5's. It stands here, below the crate that has it of a point (expcone's specs/feasible/Feasible), so that the test and
 -- what is proved of it are in one small crate.
 use mathlib.Core.Bool.{Bool, _&&_}
 use lib.Ieee.{Float}
@@ -7,7 +7,7 @@ use Rattle.double.specs.Operators.{_⊕_, _⊖_, _⊗_, _⊘_, _≺_}
 use Rattle.double.specs.Numbers.{#0, #1}
 use Rattle.double.specs.Sizes.{absOf}
 use Rattle.series.specs.Series.{Signed}
-use Rattle.series.specs.series_change.SignedArithmetic.{times, minus, AboveZero}
+use Rattle.series.specs.change.SignedArithmetic.{times, minus, AboveZero}
 use Rattle.logarithm.specs.Steps.{logOf}
 use Rattle.cone.specs.declared.verdict.Answer.{Answer}
 use Rattle.cone.specs.verdict.Answers.{judged}

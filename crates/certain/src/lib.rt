@@ -1,4 +1,4 @@
 // Laws only: what a yes and a no of the exponential cone's test say of the exact point. No code.
 
-pub mod certain_power;
-pub mod certain_wide;
+pub mod power;
+pub mod wide;

@@ -1,8 +1,13 @@
 pub mod undecided
-pub mod certain_entries
-pub mod certain_cones
+pub mod yes_of_calls
+pub mod yes_of_cones
 pub mod serials
 pub mod rules
+pub mod read_back
 pub mod replay_kept
 pub mod thin_kept
 pub mod border
+pub mod cut_traces
+pub mod demand_one
+pub mod demand_three
+pub mod sheet_lines

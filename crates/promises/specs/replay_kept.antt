@@ -1,2 +1,4 @@
 pub mod Replays
+pub mod Refused
+pub mod Traces
 pub mod Outright

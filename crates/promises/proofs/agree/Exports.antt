@@ -11,12 +11,13 @@ use Rattle.cone.specs.declared.Found.{Found}
 use Rattle.cone.specs.declared.Steps.{Steps}
 use Rattle.cone.specs.declared.Rounds.{Rounds}
 use Rattle.judges.proofs.Outcomes.{one, two}
-use Rattle.trace.proofs.trace_entries.Agree.{left}
-use Rattle.trace_replay.proofs.replayed.Agree.{noted-alike}
-use Rattle.trace_rescue.proofs.rescued.Agree.{saved-alike}
-use Rattle.trace_thin.proofs.thinned.Agree.{left-alike}
-use Rattle.trace_sheet.proofs.sheet_rows.Agree.{held-alike}
-use Rattle.trace_sheet.proofs.sheet_text.Agree.{told-alike}
+use Rattle.trace.proofs.entries.Agree.{left}
+use Rattle.trace_replay.proofs.slices.Agree.{noted-alike}
+use Rattle.trace_rescue.proofs.slices.Agree.{saved-alike}
+use Rattle.trace_thin.proofs.slices.Agree.{left-alike}
+use Rattle.trace_sheet.proofs.rows.Agree.{held-alike}
+use Rattle.trace_sheet.proofs.text.Agree.{told-alike}
+use Rattle.spindle.proofs.spindle_version.Reads as version
 use Rattle.spindle.proofs.spindle_sqrt.Reads as sqrt
 use Rattle.spindle.proofs.spindle_log.Reads as log
 use Rattle.spindle.proofs.spindle_exp.Reads as exp
@@ -48,6 +49,9 @@ use Rattle.spindle.proofs.spindle_trace_create.Reads as trace-create
 use Rattle.spindle.proofs.spindle_trace_append.Reads as trace-append
 use Rattle.spindle.proofs.spindle_trace_open.Reads as trace-open
 use Rattle.spindle.proofs.spindle_trace_record.Reads as trace-record
+use Rattle.spindle.proofs.spindle_record_put.Reads as record-put
+use Rattle.spindle.proofs.spindle_record_at.Reads as record-at
+use Rattle.spindle.proofs.spindle_trace_seal.Reads as trace-seal
 use Rattle.spindle.proofs.spindle_replay.Reads as replay
 use Rattle.spindle.proofs.spindle_rescue.Reads as rescue
 use Rattle.spindle.proofs.spindle_thin.Reads as thin
@@ -55,6 +59,9 @@ use Rattle.spindle.proofs.spindle_thin_in_place.Reads as thin-in-place
 use Rattle.spindle.proofs.spindle_sheet_add.Reads as sheet-add
 use Rattle.spindle.proofs.spindle_sheet_join.Reads as sheet-join
 use Rattle.spindle.proofs.spindle_sheet_text.Reads as sheet-text
+
+pub version-agrees : OneAnswer version.Post
+version-agrees κs a x y s t p q = p ∙ sym q
 
 pub sqrt-agrees : OneAnswer sqrt.Post
 sqrt-agrees κs a x y s t p q = p ∙ sym q
@@ -144,13 +151,22 @@ pub trace-create-agrees : OneOutcome trace-create.Post {A = List ℕ} (λ κs s.
 trace-create-agrees κs a x y s t p q = left (p ∙ sym q)
 
 pub trace-append-agrees : OneOutcome trace-append.Post {A = List ℕ} (λ κs s. now (s .0))
-trace-append-agrees κs a x y s t p q = left (p ∙ sym q)
+trace-append-agrees κs a x y s t p q = left (p .0 ∙ sym (q .0))
 
 pub trace-open-agrees : OneAnswer trace-open.Post
 trace-open-agrees κs a x y s t p q = p ∙ sym q
 
 pub trace-record-agrees : OneAnswer trace-record.Post
 trace-record-agrees κs a x y s t p q = p ∙ sym q
+
+pub record-put-agrees : OneOutcome record-put.Post {A = List ℕ} (λ κs s. now (s .0))
+record-put-agrees κs a x y s t p q = left (p ∙ sym q)
+
+pub record-at-agrees : OneAnswer record-at.Post
+record-at-agrees κs a x y s t p q = p ∙ sym q
+
+pub trace-seal-agrees : OneOutcome trace-seal.Post {A = List ℕ} (λ κs s. now (s .0))
+trace-seal-agrees κs a x y s t p q = left (p ∙ sym q)
 
 pub replay-agrees : OneOutcome replay.Post {A = List ℕ} (λ κs s. now (s .1 .0))
 replay-agrees κs a x y s t p q = noted-alike (p ∙ sym q)

@@ -7,7 +7,7 @@ use Rattle.arith.specs.Turns.{iter}
 use Rattle.double.specs.Numbers.{dec}
 use Rattle.double.specs.Fields.{mag, shift, normalOf}
 use Rattle.double.specs.Sizes.{absOf}
-use Rattle.logarithm.specs.logarithm_table.Table.{table as logarithms}
+use Rattle.logarithm.specs.table.Table.{table as logarithms}
 use Rattle.logarithm.specs.Steps.{upper, ratioOf, shortSeriesOf, mantissaOf, scaledOf, positiveOf, byFieldOf, logOf}
 use Rattle.exponential.specs.Sum.{factorial}
 use Rattle.exponential.specs.Steps.{border, gap, placeOf, raised, rest, coefficient, horner, composed, expAt, expOf}
@@ -18,7 +18,7 @@ use Rattle.cone.specs.Codes.{numelOf}
 use Rattle.judges.specs.Judges.{allOf, coneOk, coneOkWithin, threeOk, threeFinite, recordFinite}
 use Rattle.cone.specs.table.Table.{firstRow, settle}
 use Rattle.judges.specs.Refusals.{lastRows}
-use Rattle.expcone.specs.expcone_feasible.Feasible as expcone
+use Rattle.expcone.specs.feasible.Feasible as expcone
 use Rattle.expcone.specs.wright.Omega.{taylorStart, startOf, refineOf, refinedAt, refinedOf, omegaOf, omegaArg, omegaAt}
 use Rattle.expcone.specs.PrimalGradient.{gradientBy, gradientPrimalOf}
 use Rattle.expcone.specs.DualGradient.{gradHAt, updateDualGradHOf}
@@ -30,12 +30,12 @@ use Rattle.kinds.specs.Cones as cones
 use Rattle.search.specs.trials.Trials.{trial}
 use Rattle.search.specs.trials.Search.{scan, searchOf}
 use Rattle.algebra.specs.Vectors.{movedOf}
-use Rattle.call_cone.specs.cone_entries.Rows.{readFaults}
-use Rattle.call_cone.specs.cone_entries.Entries.{isPrimalFeasibleOf, isDualFeasibleOf, dualGradHOf}
-use Rattle.call_search.specs.search_entries.Rows.{searchFaults}
-use Rattle.call_search.specs.search_entries.Entries.{backtrackSearchOf}
-use Rattle.call_record.specs.record_entries.Rows.{gradientRows}
-use Rattle.call_record.specs.record_entries.Entries as record-entries
+use Rattle.call_cone.specs.formulas.Rows.{readFaults}
+use Rattle.call_cone.specs.formulas.Entries.{isPrimalFeasibleOf, isDualFeasibleOf, dualGradHOf}
+use Rattle.call_search.specs.single.Rows.{searchFaults}
+use Rattle.call_search.specs.single.Entries.{backtrackSearchOf}
+use Rattle.call_record.specs.entries.Rows.{gradientRows}
+use Rattle.call_record.specs.entries.Entries as record-entries
 use Rattle.promises.specs.border.Rows.{AllRight, Border, table}
 
 pub border-rows : Border

@@ -17,10 +17,10 @@ use Rattle.judges.specs.Judges.{coneOk}
 use Rattle.cone.specs.table.Table.{settle}
 use Rattle.judges.specs.Refusals.{LentTwo, otherLength}
 use Rattle.cone.proofs.table.Settled.{no-fault}
-use Rattle.call_search.specs.search_entries.Rows.{stepFaults}
-use Rattle.call_search.specs.search_entries.Entries.{refuseSteps, stepLengthOf}
+use Rattle.call_search.specs.single.Rows.{stepFaults}
+use Rattle.call_search.specs.single.Entries.{refuseSteps, stepLengthOf}
 use Rattle.trace_replay.specs.rerun.Rerun.{sameAnswers, blankPoint}
-use Rattle.trace.specs.trace_kept.Kept.{keptSteps}
+use Rattle.trace.specs.kept.Kept.{keptSteps}
 use Rattle.promises.proofs.replay_kept.Cones.{Alike}
 
 -- ---- what was answered, and what that says of the arguments

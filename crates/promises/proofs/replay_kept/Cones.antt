@@ -19,8 +19,8 @@ use Rattle.kinds.specs.Answers.{answerIn, powAnswer, genpowAnswer}
 use Rattle.kinds.specs.Passes.{passesIn}
 use Rattle.kinds.proofs.EachKind.{cone, each-kind}
 use Rattle.trace_layout.specs.Records.{exponents}
-use Rattle.trace.specs.trace_places.Given.{dim1Of, dim2Of, usedExps}
-use Rattle.trace.specs.recorded.Recorded.{padded}
+use Rattle.trace.specs.places.Given.{dim1Of, dim2Of, usedExps}
+use Rattle.trace.specs.value.Recorded.{padded}
 
 -- as `keptOf` has it
 abbrev pub keptCone : Cone → Cone

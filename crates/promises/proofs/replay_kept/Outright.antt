@@ -8,14 +8,14 @@ use lib.Ieee.{Float, binary64, ofBits}
 use lib.ListN.{take, getD}
 use Rattle.cone.specs.declared.Settings.{Settings}
 use Rattle.cone.specs.Codes.{numelOf}
-use Rattle.call_search.specs.search_entries.Entries.{stepLengthOf}
+use Rattle.call_search.specs.single.Entries.{stepLengthOf}
 use Rattle.trace_layout.specs.Records.{Record, sizeIn}
 use Rattle.trace_layout.specs.Traces.{editionAt}
-use Rattle.trace.specs.recorded.Defaults.{defaultOf, toldStep}
-use Rattle.trace.specs.recorded.Recorded.{valuesOf, padded, coneOf, settingsOf, stepsOf, recordedOf}
-use Rattle.trace.proofs.recorded.Defaults.{defaults-right}
+use Rattle.trace.specs.value.Defaults.{defaultOf, toldStep}
+use Rattle.trace.specs.value.Recorded.{valuesOf, padded, coneOf, settingsOf, stepsOf, recordedOf}
+use Rattle.trace.proofs.value.Defaults.{defaults-right}
 use Rattle.trace_replay.specs.rerun.Rerun.{sameAnswers, blankPoint, rerunOf, agreesOf}
-use Rattle.trace_replay.specs.replayed.Replay.{sameRecord, sameCount, differing, replayOf}
+use Rattle.trace_replay.specs.slices.Replay.{sameRecord, sameCount, differing, replayOf}
 use Rattle.promises.specs.replay_kept.Outright.{toldSettings, sameTold, countBy, differingBy, replayBy, Outright}
 
 -- an edition whose default is a step that is told

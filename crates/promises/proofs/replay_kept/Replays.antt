@@ -12,19 +12,19 @@ use Rattle.cone.specs.declared.Settings.{Settings}
 use Rattle.cone.specs.declared.Steps.{Steps}
 use Rattle.cone.specs.Codes.{numelOf}
 use Rattle.judges.proofs.Lengths.{numel-at-most}
-use Rattle.call_search.specs.search_entries.Entries.{stepLengthOf}
+use Rattle.call_search.specs.single.Entries.{stepLengthOf}
 use Rattle.trace_layout.specs.Records.{Record, sizeIn}
-use Rattle.trace.specs.trace_places.Given.{givenOf}
-use Rattle.trace.specs.trace_entries.Values.{Passed}
-use Rattle.trace.specs.recorded.Defaults.{defaultOf}
-use Rattle.trace.specs.recorded.Recorded.{padded, valuesOf, coneOf, settingsOf, stepsOf, recordedOf}
-use Rattle.trace.specs.trace_kept.Kept.{keptOf, keptSteps}
-use Rattle.trace.proofs.trace_kept.Appended.{append-done}
-use Rattle.trace.proofs.trace_kept.Kept.{values-kept}
+use Rattle.trace.specs.places.Given.{givenOf}
+use Rattle.trace.specs.entries.Values.{Passed}
+use Rattle.trace.specs.value.Defaults.{defaultOf}
+use Rattle.trace.specs.value.Recorded.{padded, valuesOf, coneOf, settingsOf, stepsOf, recordedOf}
+use Rattle.trace.specs.kept.Kept.{keptOf, keptSteps}
+use Rattle.trace.proofs.kept.Appended.{append-done}
+use Rattle.trace.proofs.kept.Kept.{values-kept}
 use Rattle.promises.specs.rules.Entries.{stepLength, call, codeOf}
 use Rattle.promises.proofs.rules.Answers.{answers}
 use Rattle.trace_replay.specs.rerun.Rerun.{sameAnswers, blankPoint, rerunOf, agreesOf}
-use Rattle.trace_replay.specs.replayed.Replay.{sameRecord, noted, differing}
+use Rattle.trace_replay.specs.slices.Replay.{sameRecord, noted, differing}
 use Rattle.promises.specs.replay_kept.Replays.{Searched, ReplaysSame, NoRuleDiffers}
 use Rattle.promises.proofs.replay_kept.Cones.{keptCone, Alike, take-padded, kept-alike}
 use Rattle.promises.proofs.replay_kept.Again.{Taken, taken, other-cone, same-kept, blank-length}

@@ -17,13 +17,13 @@ use Rattle.cone.specs.table.Table.{firstRow, settle}
 use Rattle.judges.specs.Refusals.{lastRows}
 use Rattle.kinds.specs.Cones as kinds
 use Rattle.scaling.specs.Updates.{newThree, newWide, newRecordOf}
-use Rattle.call_cone.specs.cone_entries.Rows.{freshFaults, readFaults, unitFaults, copyFaults, offsetFaults}
-use Rattle.call_cone.specs.cone_entries.Entries as cones
-use Rattle.call_search.specs.search_entries.Rows.{searchFaults, stepFaults}
-use Rattle.call_search.specs.search_entries.Entries as searches
-use Rattle.call_record.specs.record_update.Entries as updates
-use Rattle.call_record.specs.record_entries.Rows.{gradientRows, barrierRows, computeRows, blockRows, productRows, correctionRows}
-use Rattle.call_record.specs.record_entries.Entries as records
+use Rattle.call_cone.specs.formulas.Rows.{freshFaults, readFaults, unitFaults, copyFaults, offsetFaults}
+use Rattle.call_cone.specs.formulas.Entries as cones
+use Rattle.call_search.specs.single.Rows.{searchFaults, stepFaults}
+use Rattle.call_search.specs.single.Entries as searches
+use Rattle.call_record.specs.update.Entries as updates
+use Rattle.call_record.specs.entries.Rows.{gradientRows, barrierRows, computeRows, blockRows, productRows, correctionRows}
+use Rattle.call_record.specs.entries.Entries as records
 use Rattle.promises.specs.rules.Entries.{Entry, call, codeOf, under, recordUnder, updatedUnder, carrying}
 use Rattle.promises.specs.rules.Entries.{withCone, updated, fresh, isPrimalFeasible, isDualFeasible, barrierDual, dualGradH}
 use Rattle.promises.specs.rules.Entries.{unitInitialization, rectifyEquilibration, affineDs, dsFromDzOffset, backtrackSearch, stepLength}

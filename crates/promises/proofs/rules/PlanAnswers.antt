@@ -1,16 +1,14 @@
--- The common step, and the step of both sides, look at the rules of their cones in row 1 alone: neither the length of a cone's part nor its test reads the rule, so that
--- lists which differ in their rules have one search. Assumes nothing.
+-- The common step, and the step of both sides, look at the rules of their cones in row 1 alone: neither the length of a cone's part nor its
+-- test reads the rule, so that lists which differ in their rules have one search. Assumes nothing.
 use Prim.Native.Nat.{ℕ, zero, suc, _+_, _<_}
 use native.Mathlib.Nat.{le-of-suc-le-suc, not-suc-le-zero}
 use mathlib.Core.Path.{_≡_, refl, sym, ap, _∙_, fun-ext}
 use mathlib.Core.Bool.{Bool, true, false, cond, _&&_, and-false}
 use mathlib.Core.List.{List, [], _∷_}
-use lib.Dec.{eqb, leb}
-use lib.Ieee.{Float, lt, eq, le, ofBits}
+use lib.Dec.{leb}
+use lib.Ieee.{Float}
 use lib.ListN.{length, take, drop, length-map}
 use Rattle.arith.proofs.Branches.{and-left, and-right, and-both}
-use Rattle.double.specs.Operators.{_≼_}
-use Rattle.double.specs.Numbers.{#tolerance1, #tolerance2}
 use Rattle.cone.specs.declared.Cone.{Cone}
 use Rattle.cone.specs.declared.Settings.{Settings}
 use Rattle.cone.specs.Codes.{numelOf}
@@ -19,25 +17,14 @@ use Rattle.cone.specs.table.Table.{firstRow, settle}
 use Rattle.plan.specs.Plans.{totalOf, allConesOk, mostCones, planOk, conePasses, allPass, testsOf}
 use Rattle.plan.specs.EachCone.{coneAt}
 use Rattle.plan.specs.Sides.{bothPass, bothTests, dualSide, primalSide}
-use Rattle.call_search.specs.plan_entries.Rows.{planFaults, sidesFaults}
-use Rattle.call_search.specs.plan_entries.Entries.{commonStepOf, planStepOf}
+use Rattle.call_search.specs.plans.Rows.{planFaults, sidesFaults}
+use Rattle.call_search.specs.plans.Entries.{commonStepOf, planStepOf}
 use Rattle.promises.specs.rules.Entries.{under}
 use Rattle.promises.specs.rules.Rules.{allUnder, OneStep, PlanAnswers, OneStepOfBoth, SidesAnswers}
-use Rattle.promises.proofs.rules.Tolerances.{wider}
+use Rattle.promises.proofs.rules.Tolerances.{cone-takes}
 use Rattle.promises.proofs.rules.Answers.{not-taken}
 
 -- ---- what is taken
-
-either-at-most : (is-2 : Bool) → (cond is-2 #tolerance2 #tolerance1 ≼ #tolerance1) ≡ true
-unfolding ofBits le lt eq
-either-at-most true = refl
-either-at-most false = refl
-
-cone-takes : (c : Cone) → coneOk c ≡ true → coneOk (under rule1 c) ≡ true
-unfolding coneOk coneOkWithin toleranceOf
-cone-takes c ok =
-    let t = toleranceOf (c .rule) in
-    wider .within t (toleranceOf rule1) (either-at-most (eqb (c .rule) rule2)) c (and-right (ruleOk (c .rule)) (coneOkWithin t c) ok)
 
 cones-take : (cs : List Cone) → allConesOk cs ≡ true → allConesOk (allUnder rule1 cs) ≡ true
 unfolding allConesOk

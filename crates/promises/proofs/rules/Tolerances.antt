@@ -9,10 +9,10 @@ use lib.Ieee.{Float, neg, lt, eq, le, ofBits}
 use lib.ListN.{take}
 use Rattle.arith.proofs.Branches.{and-left, and-right, and-both}
 use Rattle.double.specs.Operators.{_⊖_, _≼_}
-use Rattle.double.specs.Numbers.{#1}
+use Rattle.double.specs.Numbers.{#1, #tolerance1, #tolerance2}
 use Rattle.algebra.specs.Vectors.{sumOf}
 use Rattle.cone.specs.declared.Cone.{Cone}
-use Rattle.judges.specs.Judges.{allOf, exponentOk, rule1, rule2, toleranceOf, sumOk, wideOk, coneOkWithin, coneOk}
+use Rattle.judges.specs.Judges.{allOf, exponentOk, rule1, rule2, ruleOk, toleranceOf, sumOk, wideOk, coneOkWithin, coneOk}
 use Rattle.promises.specs.rules.Entries.{under}
 use Rattle.promises.specs.rules.Rules.{Wider}
 use Rattle.promises.proofs.rules.Order.{at-most-through, signs-turn}
@@ -51,3 +51,15 @@ wider = record {
   tolerances = tolerances;
   takes = λ c ok. within (toleranceOf rule2) (toleranceOf rule1) tolerances c ok;
 }
+
+either-at-most : (is-2 : Bool) → (cond is-2 #tolerance2 #tolerance1 ≼ #tolerance1) ≡ true
+unfolding ofBits le lt eq
+either-at-most true = refl
+either-at-most false = refl
+
+-- a cone that is taken, whichever rule it has, is taken under rule 1
+pub cone-takes : (c : Cone) → coneOk c ≡ true → coneOk (under rule1 c) ≡ true
+unfolding coneOk coneOkWithin toleranceOf
+cone-takes c ok =
+    let t = toleranceOf (c .rule) in
+    wider .within t (toleranceOf rule1) (either-at-most (eqb (c .rule) rule2)) c (and-right (ruleOk (c .rule)) (coneOkWithin t c) ok)

@@ -13,18 +13,18 @@ use Rattle.octets.specs.words.Runs.{runsSize}
 use Rattle.trace_layout.specs.Records.{Record, runsFor, ruleAt, sizeAt, recordAt}
 use Rattle.trace_layout.specs.Traces.{listAt, countAt, editionAt, recordsIn, recordsOf}
 use Rattle.trace_layout.proofs.Fields.{rule-of}
-use Rattle.trace_layout.specs.trace.Entries.{recordOf}
+use Rattle.trace_layout.specs.pieces.Entries.{recordOf}
 use Rattle.trace.proofs.record_writer.Bits.{no-rule}
-use Rattle.trace.specs.trace_places.Given.{dim1Of, dim2Of, entryOf, usedExps, canLay}
-use Rattle.trace.specs.trace_entries.Writing.{refuse, leave, goodFront, longer, appendRows, appendOf}
-use Rattle.trace.proofs.trace_entries.Judged.{can-lay, free, longer-length}
-use Rattle.trace.specs.declared.recorded.Recorded.{Recorded}
-use Rattle.trace.specs.recorded.Recorded.{coneOf, recordedOf, recordedIn}
-use Rattle.trace.specs.trace_kept.Appended.{traceIn}
-use Rattle.trace.specs.trace_kept.Kept.{keptOf}
-use Rattle.trace.specs.trace_kept.Made.{Call, handed, called}
-use Rattle.trace.proofs.trace_kept.Appended.{exponent-places}
-use Rattle.trace.proofs.trace_kept.Kept.{append-kept}
+use Rattle.trace.specs.places.Given.{dim1Of, dim2Of, entryOf, usedExps, canLay}
+use Rattle.trace.specs.entries.Writing.{refuse, leave, goodFront, longer, appendRows, appendOf}
+use Rattle.trace.proofs.entries.Judged.{can-lay, free, longer-length}
+use Rattle.trace.specs.declared.value.Recorded.{Recorded}
+use Rattle.trace.specs.value.Recorded.{coneOf, recordedOf, recordedIn}
+use Rattle.trace.specs.kept.Appended.{traceIn}
+use Rattle.trace.specs.kept.Kept.{keptOf}
+use Rattle.trace.specs.kept.Made.{Call, handed, called}
+use Rattle.trace.proofs.kept.Appended.{exponent-places}
+use Rattle.trace.proofs.kept.Kept.{append-kept}
 use Rattle.promises.specs.rules.Traces.{OldUnderRule1, callUnder, PassedIn, Appends}
 
 -- ---- a record of editions 1 and 2

@@ -15,10 +15,10 @@ use Rattle.cone.specs.Fresh as fresh
 use Rattle.cone.specs.table.Table.{settle}
 use Rattle.judges.specs.Refusals.{Lent, refuse}
 use Rattle.cone.proofs.table.Settled.{no-fault}
-use Rattle.call_cone.specs.cone_entries.Entries.{freshOf}
-use Rattle.call_record.proofs.record_update.Updates.{refused-keeps, completed-makes}
-use Rattle.call_record.specs.record_entries.Rows.{blockRows, productRows, correctionRows}
-use Rattle.call_record.specs.record_entries.Entries.{getHsOf, mulHsOf, higherCorrectionOf, combinedDsShiftOf}
+use Rattle.call_cone.specs.formulas.Entries.{freshOf}
+use Rattle.call_record.proofs.update.Updates.{refused-keeps, completed-makes}
+use Rattle.call_record.specs.entries.Rows.{blockRows, productRows, correctionRows}
+use Rattle.call_record.specs.entries.Entries.{getHsOf, mulHsOf, higherCorrectionOf, combinedDsShiftOf}
 use Rattle.promises.specs.serials.Serials.{Given, updated, after, completedIn, Counts, Named, Refuses, ToldApart}
 
 -- ---- counts

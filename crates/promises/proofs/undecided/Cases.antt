@@ -11,14 +11,14 @@ use Rattle.arith.specs.Turns.{iter}
 use Rattle.double.specs.Numbers.{#½, #1}
 use Rattle.double.specs.Fields.{mag, shift, normalOf}
 use Rattle.double.specs.Sizes.{absOf}
-use Rattle.logarithm.specs.logarithm_table.Table.{table as logarithms}
+use Rattle.logarithm.specs.table.Table.{table as logarithms}
 use Rattle.logarithm.specs.Steps.{upper, ratioOf, shortSeriesOf, mantissaOf, scaledOf, positiveOf, byFieldOf, logOf}
 use Rattle.exponential.specs.Sum.{factorial}
 use Rattle.exponential.specs.Steps.{border, gap, placeOf, raised, rest, coefficient, horner, composed, expAt, expOf}
 use Rattle.cone.specs.declared.verdict.Answer.the-variants.{No, Undecided}
 use Rattle.cone.specs.verdict.Answers.{toldOf}
 use Rattle.cone.specs.verdict.Margins.{powerMargin}
-use Rattle.expcone.specs.expcone_feasible.Feasible as expcone
+use Rattle.expcone.specs.feasible.Feasible as expcone
 use Rattle.powcone.specs.Feasible as powcone
 
 abbrev triple : Float → Float → Float → List Float

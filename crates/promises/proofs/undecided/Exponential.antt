@@ -11,8 +11,8 @@ use Rattle.double.specs.Numbers.{#0, #1}
 use Rattle.double.specs.Sizes.{absOf}
 use Rattle.kernels.specs.Door.{logOf}
 use Rattle.cone.specs.verdict.Margins.{#2⁻⁴⁰}
-use Rattle.expcone.specs.expcone_feasible.Feasible.{primalResidueAt, primalResidue, primalMarginAt, primalMargin, primalSigns}
-use Rattle.expcone.specs.expcone_feasible.Feasible.{dualResidueAt, dualResidue, dualMarginAt, dualMargin, dualSigns}
+use Rattle.expcone.specs.feasible.Feasible.{primalResidueAt, primalResidue, primalMarginAt, primalMargin, primalSigns}
+use Rattle.expcone.specs.feasible.Feasible.{dualResidueAt, dualResidue, dualMarginAt, dualMargin, dualSigns}
 use Rattle.promises.proofs.undecided.Unsigned.{unsigned, abs-unsigned, add-unsigned, mul-unsigned, of-above, one-unsigned}
 use Rattle.promises.proofs.undecided.Boundless.{boundless, abs-boundless, left-boundless, right-boundless, times-boundless, boundless-times}
 use Rattle.promises.proofs.undecided.Kernels.{log-size}

@@ -20,7 +20,7 @@ use Rattle.kernels.specs.Door.{logOf, expOf}
 use Rattle.cone.specs.verdict.Margins.{powerMargin}
 use Rattle.algebra.specs.Vectors.{sumsqOf}
 use Rattle.judges.specs.Judges.{allOf, allFinite, exponentOk}
-use Rattle.genpowcone.specs.genpowcone_loops.Folds.{aboveZeroTurn, allAboveZero, primalLogSum, dualLogSum}
+use Rattle.genpowcone.specs.loops.Folds.{aboveZeroTurn, allAboveZero, primalLogSum, dualLogSum}
 use Rattle.genpowcone.specs.Feasible.{residueAt, primalResidue, primalMargin, dualResidue, dualMargin, signs}
 use Rattle.promises.proofs.undecided.Unsigned.{unsigned, mul-unsigned, square-unsigned, of-above}
 use Rattle.promises.proofs.undecided.Boundless.{boundless, square-boundless}

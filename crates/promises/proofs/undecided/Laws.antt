@@ -7,7 +7,7 @@ use Prim.Native.Nat.{ℕ}
 use native.Mathlib.Omega.{arith}
 use lib.Dec.{T, leb}
 use lib.ListN.{length, take}
-use lib.Ieee.{Float}
+use lib.Ieee.{Float, inf}
 use lib.Ieee.Scale.{finite}
 use Rattle.arith.proofs.Branches.{and-left, and-right, false-not-true}
 use Rattle.double.specs.Operators.{at}
@@ -16,7 +16,7 @@ use Rattle.cone.specs.declared.Cone.{Cone}
 use Rattle.cone.specs.Codes.{numelOf}
 use Rattle.judges.specs.Judges.{allOf, allFinite, powerOk, exponentOk, toleranceOf, sumOk, wideOk, coneOk}
 use Rattle.cone.specs.Points.{threeOf}
-use Rattle.expcone.specs.expcone_feasible.Feasible as expcone
+use Rattle.expcone.specs.feasible.Feasible as expcone
 use Rattle.powcone.specs.Feasible as powcone
 use Rattle.genpowcone.specs.Feasible as genpowcone
 use Rattle.kinds.specs.Answers.{expAnswer, powAnswer, genpowAnswer, answerIn, answerOf}
@@ -26,7 +26,7 @@ use Rattle.promises.specs.undecided.Parts.{signsOf, residueOf, marginOf}
 use Rattle.promises.specs.undecided.Laws.{Laws}
 use Rattle.promises.proofs.undecided.Unsigned.{unsigned, not-below-zero}
 use Rattle.promises.proofs.undecided.Boundless.{boundless}
-use Rattle.promises.proofs.undecided.Told.{boundless-undecided, yes-before, no-before}
+use Rattle.promises.proofs.undecided.Told.{boundless-undecided, nan-undecided, yes-before, no-before}
 use Rattle.promises.proofs.undecided.Exponential as exponential
 use Rattle.promises.proofs.undecided.Power as power
 use Rattle.promises.proofs.undecided.Generalized as generalized
@@ -126,6 +126,9 @@ unfolding passesIn
 laws c ok primal p = record {
   told-by = f .made;
   no-by-sign = λ h. f .made ∙ ap (λ (s : Bool). judged s res margin) h;
+  nan-margin-undecided = λ h e. f .made ∙ boundless-undecided signs res margin h (rw e tt);
+  infinite-margin-undecided = λ s h e. f .made ∙ boundless-undecided signs res margin h (infinite s e (f .margin-unsigned h));
+  nan-residue-undecided = λ h e. f .made ∙ nan-undecided signs res margin h e;
   not-finite-undecided = λ l n h. f .made ∙ boundless-undecided signs res margin h (f .margin-boundless l n h);
   not-finite-fails = λ l n. ap isYes (f .made) ∙ fails signs res margin (f .margin-boundless l n);
   margin-not-negative = λ h. not-below-zero margin (f .margin-unsigned h);
@@ -144,3 +147,8 @@ laws c ok primal p = record {
 
     f : Facts c primal p
     f = facts c ok primal p
+
+    -- minus infinity has a sign
+    infinite : (s : Bool) → margin ≡ inf s → T (unsigned margin) → T (boundless margin)
+    infinite true e u = absurd (rw e at u)
+    infinite false e u = rw e tt

@@ -44,6 +44,21 @@ pub boundless-undecided : (signs : Bool) (res margin : Float) → signs ≡ true
 unfolding toldOf
 boundless-undecided signs res margin s h = rw (s, not-above margin res h, not-below margin res h)
 
+-- nor does a NaN residue tell anything
+nan-not-above : (m : Float) → (m ≺ nan) ≡ false
+unfolding lt
+nan-not-above nan = refl
+nan-not-above (inf s) = refl
+nan-not-above (fin s m e) = refl
+
+nan-not-below : (m : Float) → (nan ≺ m) ≡ false
+unfolding lt
+nan-not-below m = refl
+
+pub nan-undecided : (signs : Bool) (res margin : Float) → signs ≡ true → res ≡ nan → judged signs res margin ≡ Undecided
+unfolding toldOf
+nan-undecided signs res margin s e = rw (s, e, nan-not-above margin, nan-not-below (neg margin))
+
 -- ---- what is decided was decided so before
 
 some-over : (a b d k : ℕ) → a * d < b * k → 0 < b * 1

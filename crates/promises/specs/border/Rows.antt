@@ -13,9 +13,9 @@ use Rattle.cone.specs.declared.Cone.{Cone}
 use Rattle.cone.specs.declared.Settings.{Settings}
 use Rattle.cone.specs.Fresh.{freshOf}
 use Rattle.expcone.specs.wright.Omega.{omegaOf}
-use Rattle.call_cone.specs.cone_entries.Entries.{verdictOf, isPrimalFeasibleOf, isDualFeasibleOf, dualGradHOf}
-use Rattle.call_record.specs.record_entries.Entries.{gradientPrimalOf}
-use Rattle.call_search.specs.search_entries.Entries.{backtrackSearchOf}
+use Rattle.call_cone.specs.formulas.Entries.{verdictOf, isPrimalFeasibleOf, isDualFeasibleOf, dualGradHOf}
+use Rattle.call_record.specs.entries.Entries.{gradientPrimalOf}
+use Rattle.call_search.specs.single.Entries.{backtrackSearchOf}
 
 abbrev pub exponential : Cone
 exponential = record { kind = 1; dim1 = 0; dim2 = 0; rule = 1; exps = replicate 32 #0 }

@@ -11,13 +11,13 @@ use Rattle.double.specs.Numbers.{dec}
 use Rattle.cone.specs.declared.Settings.{Settings}
 use Rattle.cone.specs.Codes.{numelOf}
 use Rattle.cone.specs.table.Table.{traceRow, settle}
-use Rattle.call_search.specs.search_entries.Entries.{stepLengthOf}
+use Rattle.call_search.specs.single.Entries.{stepLengthOf}
 use Rattle.trace_layout.specs.Records.{Record, sizeIn}
 use Rattle.trace_layout.specs.Traces.{editionAt, goodTrace, recordsOf}
-use Rattle.trace.specs.recorded.Defaults.{toldStep}
-use Rattle.trace.specs.recorded.Recorded.{valuesOf, padded, coneOf, stepsOf}
+use Rattle.trace.specs.value.Defaults.{toldStep}
+use Rattle.trace.specs.value.Recorded.{valuesOf, padded, coneOf, stepsOf}
 use Rattle.trace_replay.specs.rerun.Rerun.{sameAnswers, blankPoint}
-use Rattle.trace_replay.specs.replayed.Replay.{noted, Noted, refuse, replayOf}
+use Rattle.trace_replay.specs.slices.Replay.{noted, Noted, refuse, replayOf}
 
 -- the settings of a record: those that follow a flag of 0, and else the step that is told
 unfoldable pub toldSettings : Float → Record → Settings

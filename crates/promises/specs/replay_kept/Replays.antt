@@ -11,15 +11,15 @@ use Rattle.cone.specs.declared.Settings.{Settings}
 use Rattle.cone.specs.declared.Steps.{Steps}
 use Rattle.judges.specs.Judges.{ruleOk}
 use Rattle.octets.specs.words.Words.{AllBelow}
-use Rattle.call_search.specs.search_entries.Entries.{stepLengthOf}
+use Rattle.call_search.specs.single.Entries.{stepLengthOf}
 use Rattle.trace_layout.specs.Records.{Record}
 use Rattle.trace_layout.specs.Traces.{editionAt, recordsOf}
-use Rattle.trace.specs.trace_places.Given.{givenOf}
-use Rattle.trace.specs.trace_entries.Writing.{appendOf}
-use Rattle.trace.specs.trace_entries.Values.{Passed}
-use Rattle.trace.specs.recorded.Defaults.{defaultOf}
-use Rattle.trace.specs.trace_kept.Appended.{traceIn}
-use Rattle.trace_replay.specs.replayed.Replay.{sameRecord, differing}
+use Rattle.trace.specs.places.Given.{givenOf}
+use Rattle.trace.specs.entries.Writing.{appendOf}
+use Rattle.trace.specs.entries.Values.{Passed}
+use Rattle.trace.specs.value.Defaults.{defaultOf}
+use Rattle.trace.specs.kept.Appended.{traceIn}
+use Rattle.trace_replay.specs.slices.Replay.{sameRecord, differing}
 
 -- what a record holds comes of a search that was made: `step_length` was called with these arguments, with the edition's default settings
 -- at flag 1, and answered these steps

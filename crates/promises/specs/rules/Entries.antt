@@ -15,10 +15,10 @@ use Rattle.cone.specs.declared.Steps.{Steps}
 use Rattle.cone.specs.declared.DualGrad.{DualGrad}
 use Rattle.cone.specs.declared.Updated.{Updated}
 use Rattle.judges.specs.Refusals.{Lent, LentTwo}
-use Rattle.call_cone.specs.cone_entries.Entries as cones
-use Rattle.call_search.specs.search_entries.Entries as searches
-use Rattle.call_record.specs.record_update.Entries as updates
-use Rattle.call_record.specs.record_entries.Entries as records
+use Rattle.call_cone.specs.formulas.Entries as cones
+use Rattle.call_search.specs.single.Entries as searches
+use Rattle.call_record.specs.update.Entries as updates
+use Rattle.call_record.specs.entries.Entries as records
 
 -- ---- an entry with all its arguments but the cone. Of a record that is passed, the cone is the one that a call names
 

@@ -1,6 +1,6 @@
 -- 02, Order 9: "Every cone that rule 2 takes, rule 1 takes as well, with equal answers but for the rule number carried; prove that once
--- over both tolerances." Statements, of the calls themselves; proofs/Tolerances, proofs/Answers, proofs/PlanAnswers and proofs/AtTolerance
--- have the proofs.
+-- over both tolerances." Statements, of the definitions that the calls' contracts name; proofs/Tolerances, proofs/Answers,
+-- proofs/PlanAnswers and proofs/AtTolerance have the proofs.
 use Prim.Native.Nat.{ℕ, _<_}
 use mathlib.Core.Path.{_≡_}
 use mathlib.Core.Bool.{Bool, true, false}
@@ -14,7 +14,7 @@ use Rattle.cone.specs.declared.Settings.{Settings}
 use Rattle.judges.specs.Judges.{rule1, rule2, ruleOk, toleranceOf, coneOkWithin, coneOk}
 use Rattle.plan.specs.Plans.{planOk}
 use Rattle.plan.specs.EachCone.{coneAt}
-use Rattle.call_search.specs.plan_entries.Entries.{commonStepOf, planStepOf}
+use Rattle.call_search.specs.plans.Entries.{commonStepOf, planStepOf}
 use Rattle.promises.specs.rules.Entries.{Entry, call, codeOf, under, carrying}
 
 -- ---- the cones

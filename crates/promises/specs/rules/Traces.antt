@@ -7,10 +7,10 @@ use mathlib.Core.List.{List}
 use lib.ListN.{take}
 use Rattle.octets.specs.words.Words.{AllBelow}
 use Rattle.trace_layout.specs.Traces.{countAt, editionAt, goodTrace}
-use Rattle.trace.specs.trace_entries.Values.{Passed}
-use Rattle.trace.specs.recorded.Recorded.{recordedIn}
-use Rattle.trace.specs.trace_kept.Appended.{traceIn}
-use Rattle.trace.specs.trace_kept.Made.{Call, called}
+use Rattle.trace.specs.entries.Values.{Passed}
+use Rattle.trace.specs.value.Recorded.{recordedIn}
+use Rattle.trace.specs.kept.Appended.{traceIn}
+use Rattle.trace.specs.kept.Made.{Call, called}
 use Rattle.promises.specs.rules.Entries.{under}
 
 -- "cones from editions 1 and 2 are under rule 1": every record of a good trace of an edition other than 3

@@ -1,5 +1,5 @@
 -- 02, Order 6: "Put a serial into the scaling record: 0 when fresh, one more after each completed update, unchanged by a refused one."
--- Statements of the calls themselves; proofs/Serials has the proofs.
+-- Statements, of the definitions that the calls' contracts name; proofs/Serials has the proofs.
 use Prim.Native.Nat.{ℕ, _+_, _<_}
 use mathlib.Core.Path.{_≡_}
 use mathlib.Core.Bool.{cond}
@@ -9,9 +9,9 @@ use lib.Ieee.{Float}
 use Rattle.cone.specs.declared.Cone.{Cone}
 use Rattle.cone.specs.declared.Scaling.{Scaling}
 use Rattle.cone.specs.declared.Updated.{Updated}
-use Rattle.call_cone.specs.cone_entries.Entries.{freshOf}
-use Rattle.call_record.specs.record_update.Entries.{updateScalingOf}
-use Rattle.call_record.specs.record_entries.Entries.{getHsOf, mulHsOf, higherCorrectionOf, combinedDsShiftOf}
+use Rattle.call_cone.specs.formulas.Entries.{freshOf}
+use Rattle.call_record.specs.update.Entries.{updateScalingOf}
+use Rattle.call_record.specs.entries.Entries.{getHsOf, mulHsOf, higherCorrectionOf, combinedDsShiftOf}
 
 -- what an update is given beside its record
 pub record Given : Type 0 where

@@ -4,7 +4,7 @@ use mathlib.Core.Path.{_≡_}
 use mathlib.Core.Bool.{Bool, true, false}
 use mathlib.Core.List.{List}
 use lib.ListN.{length}
-use lib.Ieee.{Float}
+use lib.Ieee.{Float, nan, inf}
 use Rattle.double.specs.Operators.{_≺_}
 use Rattle.double.specs.Numbers.{#0}
 use Rattle.cone.specs.declared.verdict.Answer.the-variants.{No, Yes, Undecided}
@@ -20,6 +20,11 @@ pub record Laws (c : Cone) (primal : Bool) (p : List Float) : Type 0 where
   -- "Yes if the residue is above the margin, no if it is below minus the margin or a sign test fails, else undecided"
   pub told-by : answerOf c primal p ≡ judged (signsOf c primal p) (residueOf c primal p) (marginOf c primal p)
   pub no-by-sign : signsOf c primal p ≡ false → answerOf c primal p ≡ No
+  -- "else undecided, NaN and infinite margins included", whatever the residue is
+  pub nan-margin-undecided : signsOf c primal p ≡ true → marginOf c primal p ≡ nan → answerOf c primal p ≡ Undecided
+  pub infinite-margin-undecided : (s : Bool) → signsOf c primal p ≡ true → marginOf c primal p ≡ inf s → answerOf c primal p ≡ Undecided
+  -- a NaN residue is neither above the margin nor below minus the margin, whatever the margin is
+  pub nan-residue-undecided : signsOf c primal p ≡ true → residueOf c primal p ≡ nan → answerOf c primal p ≡ Undecided
   -- "a trial point with an infinity or NaN in it counts as undecided unless a sign test fails"
   pub not-finite-undecided :
       length p ≡ numelOf c → allFinite p ≡ false → signsOf c primal p ≡ true → answerOf c primal p ≡ Undecided

@@ -9,7 +9,7 @@ use Rattle.double.specs.Numbers.{#0}
 use Rattle.cone.specs.declared.Cone.{Cone}
 use Rattle.cone.specs.Codes.{byKind}
 use Rattle.cone.specs.Points.{threeOf}
-use Rattle.expcone.specs.expcone_feasible.Feasible as expcone
+use Rattle.expcone.specs.feasible.Feasible as expcone
 use Rattle.powcone.specs.Feasible as powcone
 use Rattle.genpowcone.specs.Feasible as genpowcone
 

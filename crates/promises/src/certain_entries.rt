@@ -1,1 +1,0 @@
-// Laws only: what a yes, a no and a step other than zero of the exported calls say of the exact point, exponential cone. No code.

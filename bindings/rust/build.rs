@@ -1,4 +1,5 @@
-//! Links libspindle.a: from the folder that SPINDLE_ARCHIVE names, else from the project's target/staticlib if it is fresh there. Proves
+//! Links libspindle.a. It looks in the folder that SPINDLE_ARCHIVE names; then where pkg-config finds an installed library of this version
+//! or a later one with the same first number; then in the repository that this crate stands in, if the library there is fresh. It proves
 //! nothing: that takes minutes, and cargo would be silent about it.
 use std::{env, path::PathBuf, process::Command};
 
@@ -7,33 +8,70 @@ fn stop(why: String) -> ! {
     std::process::exit(1)
 }
 
-fn main() {
-    println!("cargo:rerun-if-env-changed=SPINDLE_ARCHIVE");
-    let folder = match env::var_os("SPINDLE_ARCHIVE") {
-        Some(folder) => PathBuf::from(folder),
-        None => {
-            if env::var("CARGO_CFG_TARGET_ARCH").as_deref() != Ok("x86_64") {
-                println!("cargo:warning=libspindle.a is an x86-64 archive: build this crate for x86-64");
-            }
-            let root = PathBuf::from(env::var_os("CARGO_MANIFEST_DIR").unwrap()).join("../..");
-            for part in ["crates.txt", "crates", "build.sh", "target/staticlib/libspindle.a"] {
-                println!("cargo:rerun-if-changed={}", root.join(part).display());
-            }
-            let fresh = Command::new("sh").arg(root.join("build.sh")).arg("--fresh").status();
-            if !fresh.is_ok_and(|status| status.success()) {
-                let root = root.canonicalize().unwrap_or(root);
-                stop(format!(
-                    "the archive is not built, or older than its sources. Run\n\n    sh {}/build.sh --archive\n\n\
-                     first (some minutes from nothing), or name the folder of a libspindle.a by SPINDLE_ARCHIVE.",
-                    root.display()
-                ));
-            }
-            root.join("target/staticlib")
-        }
+/// What pkg-config prints, if it is there and its status is 0.
+fn pkg_config(words: &[&str]) -> Option<String> {
+    let command = env::var_os("PKG_CONFIG").unwrap_or_else(|| "pkg-config".into());
+    let said = Command::new(command).args(words).output().ok()?;
+    said.status.success().then(|| String::from_utf8_lossy(&said.stdout).trim().to_string())
+}
+
+/// The folder of an installed library, or why there is none to take.
+fn installed() -> Result<PathBuf, String> {
+    let wanted = env!("CARGO_PKG_VERSION");
+    let Some(found) = pkg_config(&["--modversion", "spindle"]) else {
+        return Err("pkg-config finds no spindle (PKG_CONFIG_PATH names the folder of its spindle.pc)".into());
     };
-    if !folder.join("libspindle.a").is_file() {
-        stop(format!("there is no libspindle.a in {}", folder.display()));
+    let later = env!("CARGO_PKG_VERSION_MAJOR").parse::<u32>().unwrap() + 1;
+    if pkg_config(&["--exists", &format!("spindle >= {wanted}"), &format!("spindle < {later}")]).is_none() {
+        return Err(format!("pkg-config finds spindle {found}, and this crate is {wanted}"));
     }
+    let folder = PathBuf::from(pkg_config(&["--variable=libdir", "spindle"]).unwrap_or_default());
+    if folder.join("libspindle.a").is_file() {
+        Ok(folder)
+    } else {
+        Err(format!("pkg-config finds spindle {found}, and there is no libspindle.a in its folder {}", folder.display()))
+    }
+}
+
+/// The library of the repository that this crate stands in, or why there is none to take.
+fn repository() -> Result<PathBuf, String> {
+    let root = PathBuf::from(env::var_os("CARGO_MANIFEST_DIR").unwrap()).join("../..");
+    if !root.join("crates.txt").is_file() || !root.join("build.sh").is_file() {
+        return Err("this crate stands in no clone of its repository".into());
+    }
+    for part in ["crates.txt", "crates", "build.sh", "include", "tools", "target/native"] {
+        println!("cargo:rerun-if-changed={}", root.join(part).display());
+    }
+    if Command::new("sh").arg(root.join("build.sh")).arg("--fresh").status().is_ok_and(|status| status.success()) {
+        return Ok(root.join("target/native"));
+    }
+    let root = root.canonicalize().unwrap_or(root);
+    Err(format!(
+        "the repository's library is not built, or older than its sources: run sh {}/build.sh --archive (some minutes from nothing)",
+        root.display()
+    ))
+}
+
+fn main() {
+    for name in ["SPINDLE_ARCHIVE", "PKG_CONFIG", "PKG_CONFIG_PATH", "PKG_CONFIG_LIBDIR"] {
+        println!("cargo:rerun-if-env-changed={name}");
+    }
+    let folder = match env::var_os("SPINDLE_ARCHIVE") {
+        Some(folder) => {
+            let folder = PathBuf::from(folder);
+            if !folder.join("libspindle.a").is_file() {
+                stop(format!("SPINDLE_ARCHIVE names a folder without a libspindle.a: {}", folder.display()));
+            }
+            folder
+        }
+        None => installed().unwrap_or_else(|first| {
+            repository().unwrap_or_else(|second| {
+                stop(format!(
+                    "there is no library to link:\n  - {first}\n  - {second}\nSPINDLE_ARCHIVE may name the folder of a libspindle.a, too."
+                ))
+            })
+        }),
+    };
     // cargo does not look at the archive by itself, and would go on with the one it linked before
     println!("cargo:rerun-if-changed={}", folder.join("libspindle.a").display());
     println!("cargo:rustc-link-search=native={}", folder.display());

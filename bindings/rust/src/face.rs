@@ -126,6 +126,7 @@ type In = *const f64;
 type Out = *mut f64;
 
 extern "C" {
+    pub fn spindle_version() -> u32;
     pub fn spindle_sqrt(x: f64) -> f64;
     pub fn spindle_log(x: f64) -> f64;
     pub fn spindle_exp(x: f64) -> f64;
@@ -150,6 +151,10 @@ extern "C" {
     pub fn spindle_common_step(
         cones: *const Cone, ncones: usize, primal: bool, dq: In, ndq: usize, q: In, nq: usize, point: Out, np: usize, settings: Settings,
     ) -> FoundOut;
+    pub fn spindle_plan_step(
+        cones: *const Cone, ncones: usize, dz: In, ndz: usize, ds: In, nds: usize, z: In, nz: usize, s: In, ns: usize, dual_point: Out,
+        ndp: usize, primal_point: Out, npp: usize, settings: Settings,
+    ) -> FoundOut;
     pub fn spindle_unit_initialization(cone: Cone, z: Out, nz: usize, s: Out, ns: usize) -> u32;
     pub fn spindle_rectify_equilibration(cone: Cone, delta: Out, nd: usize, e: In, ne: usize) -> YesNo;
     pub fn spindle_affine_ds(cone: Cone, ds: Out, nds: usize, s: In, ns: usize) -> u32;
@@ -163,20 +168,19 @@ extern "C" {
     ) -> Number;
     pub fn spindle_get_hs(record: Scaling, serial: u32, block: Out, nb: usize) -> u32;
     pub fn spindle_mul_hs(record: Scaling, serial: u32, y: Out, ny: usize, x: In, nx: usize) -> u32;
-    pub fn spindle_higher_correction(
-        record: Scaling, serial: u32, eta: Out, ne: usize, ds: In, nds: usize, v: In, nv: usize,
-    ) -> u32;
+    pub fn spindle_higher_correction(record: Scaling, serial: u32, eta: Out, ne: usize, ds: In, nds: usize, v: In, nv: usize) -> u32;
     pub fn spindle_combined_ds_shift(
         record: Scaling, serial: u32, shift: Out, nsh: usize, step_z: In, nsz: usize, step_s: In, nss: usize, sigma_mu: f64,
     ) -> u32;
 
     pub fn spindle_trace_create(trace: *mut u8, room: usize) -> Written;
-    pub fn spindle_trace_append(
-        trace: *mut u8, room: usize, used: usize, cone: Cone, flag: u32, settings: Settings, dz: In, ndz: usize, ds: In, nds: usize, z: In,
-        nz: usize, s: In, ns: usize, steps: Steps,
-    ) -> Written;
     pub fn spindle_trace_open(trace: *const u8, n: usize) -> Opened;
-    pub fn spindle_trace_record(trace: *const u8, n: usize, i: u32) -> Recorded;
+    pub fn spindle_record_put(
+        bytes: *mut u8, room: usize, at: usize, edition: u32, cone: Cone, flag: u32, settings: Settings, dz: In, ndz: usize, ds: In,
+        nds: usize, z: In, nz: usize, s: In, ns: usize, steps: Steps,
+    ) -> Written;
+    pub fn spindle_record_at(bytes: *const u8, n: usize, edition: u32, at: usize) -> Recorded;
+    pub fn spindle_trace_seal(bytes: *mut u8, room: usize, used: usize, edition: u32) -> Written;
     pub fn spindle_replay(trace: *const u8, n: usize, at: *mut u64, nat: usize) -> Replayed;
     pub fn spindle_rescue(input: *const u8, n: usize, output: *mut u8, room: usize, edition: u32) -> Rescued;
     pub fn spindle_thin(trace: *const u8, n: usize, output: *mut u8, room: usize) -> Thinned;
@@ -185,10 +189,11 @@ extern "C" {
         sheet: Totals, dual: *mut u64, nd: usize, primal: *mut u64, np: usize, skipped: *mut u8, ns: usize, file: *const u8, n: usize,
     ) -> Totals;
     pub fn spindle_sheet_join(
-        sheet: Totals, dual: *mut u64, nd: usize, primal: *mut u64, np: usize, skipped: *mut u8, ns: usize, second: Totals, dual2: *const u64,
-        nd2: usize, primal2: *const u64, np2: usize, skipped2: *const u8, ns2: usize,
+        sheet: Totals, dual: *mut u64, nd: usize, primal: *mut u64, np: usize, skipped: *mut u8, ns: usize, second: Totals,
+        dual2: *const u64, nd2: usize, primal2: *const u64, np2: usize, skipped2: *const u8, ns2: usize,
     ) -> Totals;
     pub fn spindle_sheet_text(
-        text: *mut u8, room: usize, sheet: Totals, dual: *const u64, nd: usize, primal: *const u64, np: usize, skipped: *const u8, ns: usize,
+        text: *mut u8, room: usize, sheet: Totals, dual: *const u64, nd: usize, primal: *const u64, np: usize, skipped: *const u8,
+        ns: usize,
     ) -> Printed;
 }

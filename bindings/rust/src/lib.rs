@@ -15,7 +15,7 @@
 //! A test of feasibility answers yes, no or undecided ([`Answer`]): near the wall of a cone the sign of what it computes is noise. A search
 //! takes a point only on yes.
 //!
-//! A [`Plan`] searches the one step that all cones of a list can take.
+//! A [`Plan`] searches the one step that all cones of a list can take, on one side or on both.
 //!
 //! A [`Recorder`] makes the same searches and keeps each in a trace, bytes that a [`Trace`] reads again, and replays: every search is run
 //! once more and compared with its record. What a host that lost power left of one, [`rescue`] makes a trace again; [`thin`] and
@@ -24,7 +24,7 @@
 //! A call that is refused changes nothing that it was lent: slices keep their contents, a record stays as it was. The numbers of a
 //! [`Refusal`] are those of the library's scope document. No call allocates, and none panics.
 //!
-//! The library is x86-64 alone. Structs pass by value: a call with a [`Scaling`] copies its 2,744 bytes. The calls of a round take up to
+//! The library runs on Linux, x86-64 or Arm (aarch64). Structs pass by value: a call with a [`Scaling`] copies its 2,744 bytes. The calls of a round take up to
 //! 25 KB of stack each, as bench/run measures them; [`thin`] and [`thin_in_place`] take 66 KB, [`Trace::replay`] 42, [`rescue`] and [`Sheet::add`] 33.
 //!
 //! Why the calls are safe to make: the library takes every number, length and code and answers all of them; a lent slice is the pointer and
@@ -37,22 +37,32 @@ mod face;
 mod plan;
 mod sheet;
 mod trace;
+mod trouble;
 
 pub use plan::{Parts, Plan, MOST_CONES};
 pub use sheet::{Most, Sheet, Side, MOST_FILES, SHEET_TEXT};
-pub use trace::{rescue, thin, thin_in_place, Recorded, Recorder, Records, Replay, Rescue, Thin, Trace, TraceBuffer, MOST_RECORDS, NEWEST_EDITION};
+pub use trace::{
+    rescue, thin, thin_in_place, Recorded, Recorder, Records, Replay, Rescue, Thin, Trace, TraceBuffer, FILE_BYTES, MOST_RECORDS,
+    NEWEST_EDITION,
+};
+pub use trouble::Trouble;
 
 /// The version of this crate, which is that of the library and its C header.
 pub const VERSION: &str = env!("CARGO_PKG_VERSION");
+
+/// The version of the library that the program runs with, as 10000 times its first number, 100 times its second and its third.
+pub fn version() -> u32 {
+    unsafe { face::spindle_version() }
+}
 
 /// Why a call was refused. [`Refusal::number`] is the number that the C face hands back. Later versions may give more.
 #[derive(Clone, Copy, Debug, PartialEq, Eq, Hash)]
 #[non_exhaustive]
 pub enum Refusal {
     /// 1: the cone's kind, rule, exponents, dims or exponent sum, or a generalized cone in a correction or combined shift; a plan of no
-    /// cones or of more than 1,024.
-    BadCone,
-    /// 2: a lent slice has another length than needed.
+    /// cones or of more than 1,024. The [`Trouble`] says which of them, with the number that is wrong.
+    BadCone(Trouble),
+    /// 2: a slice has another length than needed.
     BadLength,
     /// 3: an input number is NaN or infinite.
     NotFinite,
@@ -82,7 +92,7 @@ impl Refusal {
     /// The number of the scope document's table.
     pub fn number(self) -> u32 {
         match self {
-            Refusal::BadCone => 1,
+            Refusal::BadCone(_) => 1,
             Refusal::BadLength => 2,
             Refusal::NotFinite => 3,
             Refusal::BadSettings => 4,
@@ -97,18 +107,24 @@ impl Refusal {
         }
     }
 
-    /// One sentence on what was wrong.
+    /// One sentence on what the number means. What is wrong with a cone is told by its [`Trouble`], and by the refusal's `Display`.
     pub fn sentence(self) -> &'static str {
         match self {
-            Refusal::BadCone => "bad cone: its kind, its rule, an exponent, a dim or the exponent sum is not allowed; or a plan of no cones or above 1,024",
-            Refusal::BadLength => "a lent slice has another length than needed",
+            Refusal::BadCone(_) => {
+                "bad cone: its kind, its rule, an exponent, a dim or the exponent sum is not allowed; or a plan of no cones or above 1,024"
+            }
+            Refusal::BadLength => "a slice has another length than needed",
             Refusal::NotFinite => "an input number is NaN or infinite",
             Refusal::BadSettings => "the search start, step, smallest step or the strategy is not allowed",
             Refusal::NeverScaled => "the record was never scaled",
             Refusal::OutOfRange => "the point lies where the formula has no value",
             Refusal::AnswerNotFinite => "the finished answer holds a NaN or an infinity",
-            Refusal::NoRoom => "no room for what the trace, the sheet or its text would become or for the offsets; or 4,096 records or 1,000 files already",
-            Refusal::BadTrace => "no trace, a record that breaks a trace's layout, an edition that is not known, or a sheet that no files can have",
+            Refusal::NoRoom => {
+                "no room for what the trace, the sheet or its text would become or for the offsets; or 4,096 records or 1,000 files already"
+            }
+            Refusal::BadTrace => {
+                "no trace, a record that breaks a trace's layout, an edition that is not known, or a sheet that no files can have"
+            }
             Refusal::OtherSerial => "the record has another serial than the call expects",
             Refusal::NoSerialLeft => "the record has the last serial: make a fresh one",
             Refusal::Unknown(_) => "a number that this crate does not know",
@@ -118,7 +134,7 @@ impl Refusal {
     fn check(code: u32) -> Result<(), Refusal> {
         match code {
             0 => Ok(()),
-            1 => Err(Refusal::BadCone),
+            1 => Err(Refusal::BadCone(Trouble::Unknown)),
             2 => Err(Refusal::BadLength),
             3 => Err(Refusal::NotFinite),
             4 => Err(Refusal::BadSettings),
@@ -136,7 +152,10 @@ impl Refusal {
 
 impl core::fmt::Display for Refusal {
     fn fmt(&self, f: &mut core::fmt::Formatter<'_>) -> core::fmt::Result {
-        write!(f, "refused with {}: {}", self.number(), self.sentence())
+        match self {
+            Refusal::BadCone(trouble) => write!(f, "refused with 1: {trouble}"),
+            _ => write!(f, "refused with {}: {}", self.number(), self.sentence()),
+        }
     }
 }
 
@@ -186,7 +205,7 @@ impl Default for Strategy {
 /// The margins are those of document 02's Order 5: with l the logarithm of the residue, 2^-40·(s2·(1+|l|)+|s1|) for the exponential cone
 /// and 2^-40·(|z2|+|z1|·(1+|l|)) for its dual; 2^-30·(e+q) for both power cones, whose residue is e-q.
 ///
-/// Of the exponential cone, where each coordinate is zero or from 2^-500 to 2^500 in size, a yes says that the point itself lies inside,
+/// Where each coordinate is zero or from 2^-500 to 2^500 in size, a yes says that the point itself lies inside,
 /// with document 01's L for the logarithm and no rounding at all, and a no that no sign has caused says that it lies outside (document 02's
 /// Order 12). Undecided promises nothing.
 #[derive(Clone, Copy, Debug, PartialEq, Eq, Hash)]
@@ -219,7 +238,7 @@ impl Answer {
 #[derive(Clone, Copy, Debug, PartialEq)]
 pub struct Found {
     /// The first allowed trial whose point passed, its test's answer being [`Answer::Yes`]; 0 exactly if none did. Where it is not 0, a
-    /// point of an exponential cone with coordinates of the sizes that [`Answer`] names lies exactly inside.
+    /// point with coordinates of the sizes that [`Answer`] names lies exactly inside.
     pub step: f64,
     /// How many points were tested; of a [`Plan`], how many cones.
     pub tests: u32,
@@ -232,14 +251,15 @@ pub struct Found {
 /// they are told another.
 ///
 /// ```
-/// use spindle::{Cone, Refusal, Rule};
+/// use spindle::{Cone, Rule};
 ///
 /// // a sum of 1 + 2^-45
 /// let exponents = [0.25, 0.75 + 2f64.powi(-45)];
-/// assert_eq!(Cone::generalized(&exponents, 2), Err(Refusal::BadCone));
+/// let why = Cone::generalized(&exponents, 2).unwrap_err();
+/// assert_eq!(why.to_string(), "refused with 1: the exponents sum to 1.0000000000000284: rule 2 takes 1 within 2^-50");
 /// let old = Cone::generalized_under(Rule::One, &exponents, 2)?;
-/// assert_eq!((old.rule(), old.under(Rule::Two)), (Rule::One, Err(Refusal::BadCone)));
-/// # Ok::<(), Refusal>(())
+/// assert_eq!((old.rule(), old.under(Rule::Two)), (Rule::One, Err(why)));
+/// # Ok::<(), spindle::Refusal>(())
 /// ```
 #[derive(Clone, Copy, Debug, PartialEq, Eq, Hash)]
 #[repr(u32)]
@@ -264,6 +284,25 @@ impl Default for Rule {
     /// [`Rule::NEWEST`].
     fn default() -> Rule {
         Rule::NEWEST
+    }
+}
+
+/// Which of the three cones it is.
+#[derive(Clone, Copy, Debug, PartialEq, Eq, Hash)]
+#[repr(u32)]
+pub enum Kind {
+    /// The exponential cone.
+    Exponential = 1,
+    /// The power cone.
+    Power = 2,
+    /// The generalized power cone.
+    Generalized = 3,
+}
+
+impl Kind {
+    /// The number that the C face and a trace have: 1, 2 or 3.
+    pub fn number(self) -> u32 {
+        self as u32
     }
 }
 
@@ -304,8 +343,11 @@ impl Cone {
 
     /// The generalized power cone under the rule that is named.
     pub fn generalized_under(rule: Rule, exponents: &[f64], dim2: usize) -> Result<Cone, Refusal> {
-        if exponents.len() > 32 || dim2 > 32 {
-            return Err(Refusal::BadCone);
+        if exponents.len() > 32 {
+            return Err(Refusal::BadCone(Trouble::Dim1(exponents.len())));
+        }
+        if dim2 > 32 {
+            return Err(Refusal::BadCone(Trouble::Dim2(dim2)));
         }
         let mut exps = [0.0; 32];
         exps[..exponents.len()].copy_from_slice(exponents);
@@ -328,17 +370,69 @@ impl Cone {
     }
 
     fn judged(self) -> Result<Cone, Refusal> {
-        Refusal::check(unsafe { face::spindle_fresh(self) }.code)?;
-        Ok(self)
+        match unsafe { face::spindle_fresh(self) }.code {
+            0 => Ok(self),
+            1 => Err(Refusal::BadCone(Trouble::of(&self).unwrap_or(Trouble::Unknown))),
+            code => Refusal::check(code).map(|()| self),
+        }
     }
 
-    /// How many numbers a point of the cone has.
-    pub fn numel(&self) -> usize {
-        if self.kind == 3 {
-            (self.dim1 + self.dim2) as usize
-        } else {
-            3
+    /// Which of the three cones it is.
+    pub fn kind(&self) -> Kind {
+        match self.kind {
+            1 => Kind::Exponential,
+            2 => Kind::Power,
+            _ => Kind::Generalized,
         }
+    }
+
+    /// How many numbers the head and the tail of a point have. A generalized cone's head has a number for each exponent; the other two
+    /// kinds have 3 and 0, as in a trace.
+    ///
+    /// ```
+    /// use spindle::{Cone, Kind};
+    /// let cone = Cone::generalized(&[0.5, 0.25, 0.25], 2)?;
+    /// assert_eq!((cone.kind(), cone.dims(), cone.exponents()), (Kind::Generalized, (3, 2), &[0.5, 0.25, 0.25][..]));
+    /// assert_eq!((cone.length(), cone.degree()), (5, 4));
+    /// let cone = Cone::power(0.75)?;
+    /// assert_eq!((cone.kind(), cone.dims(), cone.exponents()), (Kind::Power, (3, 0), &[0.75][..]));
+    /// assert_eq!((cone.length(), cone.degree()), (3, 3));
+    /// # Ok::<(), spindle::Refusal>(())
+    /// ```
+    pub fn dims(&self) -> (usize, usize) {
+        match self.kind() {
+            Kind::Generalized => (self.dim1 as usize, self.dim2 as usize),
+            _ => (3, 0),
+        }
+    }
+
+    /// The exponents: none, one, or as many as the head has numbers.
+    pub fn exponents(&self) -> &[f64] {
+        let count = match self.kind() {
+            Kind::Exponential => 0,
+            Kind::Power => 1,
+            Kind::Generalized => self.dim1 as usize,
+        };
+        &self.exps[..count]
+    }
+
+    /// How many numbers a point of the cone has: both [`Cone::dims`] together.
+    pub fn length(&self) -> usize {
+        let (head, tail) = self.dims();
+        head + tail
+    }
+
+    /// What the cone adds to a plan's degree, by which μ = ⟨s,z⟩/degree: 3, or one more than the exponents.
+    pub fn degree(&self) -> usize {
+        match self.kind() {
+            Kind::Generalized => self.dim1 as usize + 1,
+            _ => 3,
+        }
+    }
+
+    /// [`Cone::length`], by the name that the Rust solver has for it.
+    pub fn numel(&self) -> usize {
+        self.length()
     }
 
     /// A record for this cone that was never scaled.
@@ -389,7 +483,17 @@ impl Cone {
 
     fn search(&self, primal: bool, dq: &[f64], q: &[f64], point: &mut [f64], settings: Settings) -> Result<Found, Refusal> {
         let out = unsafe {
-            face::spindle_backtrack_search(*self, primal, dq.as_ptr(), dq.len(), q.as_ptr(), q.len(), point.as_mut_ptr(), point.len(), settings)
+            face::spindle_backtrack_search(
+                *self,
+                primal,
+                dq.as_ptr(),
+                dq.len(),
+                q.as_ptr(),
+                q.len(),
+                point.as_mut_ptr(),
+                point.len(),
+                settings,
+            )
         };
         Refusal::check(out.code)?;
         Ok(Found { step: out.step, tests: out.count })
@@ -399,33 +503,31 @@ impl Cone {
     /// primal answer; `dual_point` and `primal_point` become the tested points, or z and s for step 0.
     #[allow(clippy::too_many_arguments)]
     pub fn step_length(
-        &self,
-        dz: &[f64],
-        ds: &[f64],
-        z: &[f64],
-        s: &[f64],
-        dual_point: &mut [f64],
-        primal_point: &mut [f64],
-        settings: Settings,
+        &self, dz: &[f64], ds: &[f64], z: &[f64], s: &[f64], dual_point: &mut [f64], primal_point: &mut [f64], settings: Settings,
     ) -> Result<(Found, Found), Refusal> {
         self.steps(dz, ds, z, s, dual_point, primal_point, settings).map(|steps| steps.found())
     }
 
     #[allow(clippy::too_many_arguments)]
     fn steps(
-        &self,
-        dz: &[f64],
-        ds: &[f64],
-        z: &[f64],
-        s: &[f64],
-        dual_point: &mut [f64],
-        primal_point: &mut [f64],
-        settings: Settings,
+        &self, dz: &[f64], ds: &[f64], z: &[f64], s: &[f64], dual_point: &mut [f64], primal_point: &mut [f64], settings: Settings,
     ) -> Result<face::Steps, Refusal> {
         let out = unsafe {
             face::spindle_step_length(
-                *self, dz.as_ptr(), dz.len(), ds.as_ptr(), ds.len(), z.as_ptr(), z.len(), s.as_ptr(), s.len(),
-                dual_point.as_mut_ptr(), dual_point.len(), primal_point.as_mut_ptr(), primal_point.len(), settings,
+                *self,
+                dz.as_ptr(),
+                dz.len(),
+                ds.as_ptr(),
+                ds.len(),
+                z.as_ptr(),
+                z.len(),
+                s.as_ptr(),
+                s.len(),
+                dual_point.as_mut_ptr(),
+                dual_point.len(),
+                primal_point.as_mut_ptr(),
+                primal_point.len(),
+                settings,
             )
         };
         Refusal::check(out.code)?;
@@ -598,7 +700,16 @@ impl Scaling {
     pub fn compute_barrier(&self, z: &[f64], s: &[f64], dz: &[f64], ds: &[f64], alpha: f64) -> Result<f64, Refusal> {
         number(unsafe {
             face::spindle_compute_barrier(
-                *self, z.as_ptr(), z.len(), s.as_ptr(), s.len(), dz.as_ptr(), dz.len(), ds.as_ptr(), ds.len(), alpha,
+                *self,
+                z.as_ptr(),
+                z.len(),
+                s.as_ptr(),
+                s.len(),
+                dz.as_ptr(),
+                dz.len(),
+                ds.as_ptr(),
+                ds.len(),
+                alpha,
             )
         })
     }
@@ -616,23 +727,26 @@ impl Scaling {
     /// Writes the third-order correction η for the steps ds and v; zeros where the Hessian has no Cholesky factor. Not for generalized
     /// cones.
     pub fn higher_correction(&self, serial: Serial, eta: &mut [f64], ds: &[f64], v: &[f64]) -> Result<(), Refusal> {
-        Refusal::check(unsafe {
+        corrected(unsafe {
             face::spindle_higher_correction(*self, serial.0, eta.as_mut_ptr(), eta.len(), ds.as_ptr(), ds.len(), v.as_ptr(), v.len())
         })
     }
 
     /// Writes the combined step's shift: the dual gradient times σμ, less the third-order correction. Not for generalized cones.
     pub fn combined_ds_shift(
-        &self,
-        serial: Serial,
-        shift: &mut [f64],
-        step_z: &[f64],
-        step_s: &[f64],
-        sigma_mu: f64,
+        &self, serial: Serial, shift: &mut [f64], step_z: &[f64], step_s: &[f64], sigma_mu: f64,
     ) -> Result<(), Refusal> {
-        Refusal::check(unsafe {
+        corrected(unsafe {
             face::spindle_combined_ds_shift(
-                *self, serial.0, shift.as_mut_ptr(), shift.len(), step_z.as_ptr(), step_z.len(), step_s.as_ptr(), step_s.len(), sigma_mu,
+                *self,
+                serial.0,
+                shift.as_mut_ptr(),
+                shift.len(),
+                step_z.as_ptr(),
+                step_z.len(),
+                step_s.as_ptr(),
+                step_s.len(),
+                sigma_mu,
             )
         })
     }
@@ -653,7 +767,7 @@ pub mod kernels {
     pub struct Root {
         /// The root.
         pub root: f64,
-        /// 3 or 4 at a positive number, never more; 0 at a zero, at +infinity and where the root is NaN.
+        /// 4 or 5 at a positive number, never more; 0 at a zero, at +infinity and where the root is NaN.
         pub steps: u32,
     }
 
@@ -667,7 +781,7 @@ pub mod kernels {
     /// ```
     /// use spindle::kernels;
     /// let two = kernels::table_sqrt(2.0);
-    /// assert_eq!((two.root, two.steps), (std::f64::consts::SQRT_2, 4));
+    /// assert_eq!((two.root, two.steps), (std::f64::consts::SQRT_2, 5));
     /// assert_eq!(kernels::plain_sqrt(2.0), two.root);
     /// ```
     pub fn table_sqrt(x: f64) -> Root {
@@ -694,6 +808,14 @@ impl face::Steps {
     /// The dual and the primal answer.
     fn found(&self) -> (Found, Found) {
         (Found { step: self.dual_step, tests: self.dual_count }, Found { step: self.primal_step, tests: self.primal_count })
+    }
+}
+
+// A record's cone was judged when it was made: a correction refuses it with 1 only where it has none.
+fn corrected(code: u32) -> Result<(), Refusal> {
+    match code {
+        1 => Err(Refusal::BadCone(Trouble::NoCorrection)),
+        _ => Refusal::check(code),
     }
 }
 

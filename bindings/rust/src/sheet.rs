@@ -74,8 +74,15 @@ impl Sheet {
     pub fn add(&mut self, file: &[u8]) -> Result<(), Refusal> {
         let totals = unsafe {
             face::spindle_sheet_add(
-                self.totals, self.dual.as_mut_ptr(), PLACES, self.primal.as_mut_ptr(), PLACES, self.skipped.as_mut_ptr(), MOST_FILES,
-                file.as_ptr(), file.len(),
+                self.totals,
+                self.dual.as_mut_ptr(),
+                PLACES,
+                self.primal.as_mut_ptr(),
+                PLACES,
+                self.skipped.as_mut_ptr(),
+                MOST_FILES,
+                file.as_ptr(),
+                file.len(),
             )
         };
         self.become_(totals)
@@ -88,8 +95,20 @@ impl Sheet {
     pub fn join(&mut self, second: &Sheet) -> Result<(), Refusal> {
         let totals = unsafe {
             face::spindle_sheet_join(
-                self.totals, self.dual.as_mut_ptr(), PLACES, self.primal.as_mut_ptr(), PLACES, self.skipped.as_mut_ptr(), MOST_FILES,
-                second.totals, second.dual.as_ptr(), PLACES, second.primal.as_ptr(), PLACES, second.skipped.as_ptr(), MOST_FILES,
+                self.totals,
+                self.dual.as_mut_ptr(),
+                PLACES,
+                self.primal.as_mut_ptr(),
+                PLACES,
+                self.skipped.as_mut_ptr(),
+                MOST_FILES,
+                second.totals,
+                second.dual.as_ptr(),
+                PLACES,
+                second.primal.as_ptr(),
+                PLACES,
+                second.skipped.as_ptr(),
+                MOST_FILES,
             )
         };
         self.become_(totals)
@@ -156,7 +175,14 @@ impl Sheet {
     pub fn text<'b>(&self, text: &'b mut [u8]) -> Result<&'b str, Refusal> {
         let printed = unsafe {
             face::spindle_sheet_text(
-                text.as_mut_ptr(), text.len(), self.totals, self.dual.as_ptr(), PLACES, self.primal.as_ptr(), PLACES, self.skipped.as_ptr(),
+                text.as_mut_ptr(),
+                text.len(),
+                self.totals,
+                self.dual.as_ptr(),
+                PLACES,
+                self.primal.as_ptr(),
+                PLACES,
+                self.skipped.as_ptr(),
                 MOST_FILES,
             )
         };

@@ -5,6 +5,9 @@ use crate::{face, Cone, Found, Refusal, Rule, Settings};
 /// The most records that a trace can hold.
 pub const MOST_RECORDS: usize = 4096;
 
+/// The largest file that the programs `replay`, `rescue`, `thin` and `sheet` take. A recorder's buffer of this length never grows above it.
+pub const FILE_BYTES: usize = 65_536;
+
 /// The edition of a new trace. Every trace of it or of an earlier one, from 1 on, is known.
 pub const NEWEST_EDITION: u32 = 3;
 
@@ -27,7 +30,7 @@ pub const NEWEST_EDITION: u32 = 3;
 /// # Ok::<(), spindle::Refusal>(())
 /// ```
 ///
-/// Reading a record walks over the heads of all records of the trace: all N of them take N² steps of that walk.
+/// Opening a trace walks over the heads of all its records; reading a record afterwards touches that record alone.
 #[derive(Clone, Copy, Debug)]
 pub struct Trace<'a> {
     bytes: &'a [u8],
@@ -66,8 +69,12 @@ impl<'a> Trace<'a> {
 
     /// Record i, counted from 0; none from [`Trace::len`] on.
     pub fn get(&self, i: usize) -> Option<Recorded> {
-        let i = u32::try_from(i).ok()?;
-        let out = unsafe { face::spindle_trace_record(self.bytes.as_ptr(), self.bytes.len(), i) };
+        if i >= self.len() {
+            return None;
+        }
+        // the trace was judged: where record i begins, the list says
+        let at = word(self.bytes, list_of(self.bytes) + 8 * i);
+        let out = unsafe { face::spindle_record_at(self.bytes.as_ptr(), self.bytes.len(), self.edition, at) };
         (out.code == 0).then_some(out)
     }
 
@@ -279,6 +286,7 @@ pub struct Recorded {
     code: u32,
     flag: u32,
     at: u64,
+    next: u64,
     cone: Cone,
     settings: Settings,
     dz: [f64; 64],
@@ -289,12 +297,17 @@ pub struct Recorded {
 }
 
 // the C struct's size
-const _: () = assert!(core::mem::size_of::<Recorded>() == 2392);
+const _: () = assert!(core::mem::size_of::<Recorded>() == 2400);
 
 impl Recorded {
     /// The byte of the trace at which the record begins.
     pub fn offset(&self) -> u64 {
         self.at
+    }
+
+    /// The byte behind the record: where the next one begins, or, behind the last one, the list.
+    pub fn next_offset(&self) -> u64 {
+        self.next
     }
 
     /// The cone of the search, judged, under the rule that the record has: [`Refusal::BadCone`] where that is none, or its exponents are
@@ -386,36 +399,67 @@ impl core::fmt::Debug for Recorded {
     }
 }
 
-/// A trace at the front of a lent buffer, to which records can be appended. Bytes behind the trace stay as they were.
+/// A trace in a lent buffer, to which records can be added, each in the same time. The buffer's front is a trace once [`TraceBuffer::bytes`] or
+/// [`TraceBuffer::trace`] has sealed it; until then the records stand there, and [`rescue`] would keep them. Bytes behind the trace stay as
+/// they were.
 #[derive(Debug)]
 pub struct TraceBuffer<'a> {
     bytes: &'a mut [u8],
-    used: usize,
+    // the place behind the records, and the length of the trace once they are sealed
+    at: usize,
+    sealed: Option<usize>,
     edition: u32,
     records: u32,
     defaults: Settings,
 }
 
+/// The number of eight bytes at a place of a trace that was judged.
+fn word(bytes: &[u8], place: usize) -> usize {
+    let mut eight = [0; 8];
+    eight.copy_from_slice(&bytes[place..place + 8]);
+    u64::from_le_bytes(eight) as usize
+}
+
+/// Where the list of a trace stands, which is where its records end: the trailer's first number.
+fn list_of(trace: &[u8]) -> usize {
+    word(trace, trace.len() - TRAILER)
+}
+
+/// The list's bytes for one record, and the trailer's.
+const ENTRY: usize = 8;
+const TRAILER: usize = 20;
+
 /// What a record by default means in a trace of the edition, as the library itself reads one: the table of editions stands there alone.
 fn defaults(edition: u32) -> Settings {
-    let (mut bytes, zeros) = ([0; 184], [0.0; 3]);
+    let (mut bytes, zeros) = ([0; 160], [0.0; 3]);
     let (x, n) = (zeros.as_ptr(), zeros.len());
     // every edition keeps a cone of rule 1
     let cone = Cone { rule: Rule::One as u32, ..Cone::exponential() };
     unsafe {
-        let empty = face::spindle_trace_create(bytes.as_mut_ptr(), bytes.len());
-        // the empty trace is its trailer: list, count, edition, `BACK`
-        bytes[12..16].copy_from_slice(&edition.to_le_bytes());
-        let one = face::spindle_trace_append(
-            bytes.as_mut_ptr(), bytes.len(), empty.length as usize, cone, 1, Settings::house(1.0), x, n, x, n, x, n, x, n,
+        face::spindle_record_put(
+            bytes.as_mut_ptr(),
+            bytes.len(),
+            0,
+            edition,
+            cone,
+            1,
+            Settings::house(1.0),
+            x,
+            n,
+            x,
+            n,
+            x,
+            n,
+            x,
+            n,
             face::Steps::default(),
         );
-        face::spindle_trace_record(bytes.as_ptr(), one.length as usize, 0).settings
+        face::spindle_record_at(bytes.as_ptr(), bytes.len(), edition, 0).settings
     }
 }
 
 impl<'a> TraceBuffer<'a> {
-    /// Writes the trace with no record, 20 bytes. [`Refusal::NoRoom`] where the buffer has fewer.
+    /// Begins with the trace of no record, 20 bytes. [`Refusal::NoRoom`] where the buffer has fewer.
     pub fn create(bytes: &'a mut [u8]) -> Result<TraceBuffer<'a>, Refusal> {
         let out = unsafe { face::spindle_trace_create(bytes.as_mut_ptr(), bytes.len()) };
         Refusal::check(out.code)?;
@@ -424,11 +468,12 @@ impl<'a> TraceBuffer<'a> {
 
     /// Goes on with the trace that the first `used` bytes are. [`Refusal::BadTrace`] if they are none, or the buffer is shorter.
     pub fn open(bytes: &'a mut [u8], used: usize) -> Result<TraceBuffer<'a>, Refusal> {
-        let Trace { edition, records, .. } = Trace::open(bytes.get(..used).ok_or(Refusal::BadTrace)?)?;
-        Ok(TraceBuffer { bytes, used, edition, records, defaults: defaults(edition) })
+        let Trace { bytes: trace, edition, records } = Trace::open(bytes.get(..used).ok_or(Refusal::BadTrace)?)?;
+        let at = list_of(trace);
+        Ok(TraceBuffer { bytes, at, sealed: Some(used), edition, records, defaults: defaults(edition) })
     }
 
-    /// Appends a record of another trace; every NaN of it is written as 7FF8000000000000. A search by default keeps its settings: where
+    /// Adds a record of another trace; every NaN of it is written as 7FF8000000000000. A search by default keeps its settings: where
     /// this trace's edition means others, they are written outright. Its cone keeps its rule: [`Refusal::BadTrace`] where that is not rule
     /// 1 and this trace is of edition 1 or 2, which have no place for it. [`Refusal::NoRoom`] where the buffer has no room for it, or
     /// [`MOST_RECORDS`] are there.
@@ -441,25 +486,63 @@ impl<'a> TraceBuffer<'a> {
         let meant = (settings.step, settings.smallest) == (self.defaults.step, self.defaults.smallest);
         let flag = if meant { flag } else { 0 };
         let out = unsafe {
-            face::spindle_trace_append(
-                self.bytes.as_mut_ptr(), self.bytes.len(), self.used, *cone, flag, settings, dz.as_ptr(), dz.len(), ds.as_ptr(), ds.len(),
-                z.as_ptr(), z.len(), s.as_ptr(), s.len(), steps,
+            face::spindle_record_put(
+                self.bytes.as_mut_ptr(),
+                self.room(),
+                self.at,
+                self.edition,
+                *cone,
+                flag,
+                settings,
+                dz.as_ptr(),
+                dz.len(),
+                ds.as_ptr(),
+                ds.len(),
+                z.as_ptr(),
+                z.len(),
+                s.as_ptr(),
+                s.len(),
+                steps,
             )
         };
         Refusal::check(out.code)?;
-        self.used = out.length as usize;
+        self.at = out.length as usize;
+        self.sealed = None;
         self.records += 1;
         Ok(())
     }
 
+    // Up to where one record more may stand, so that a seal has room behind it: nowhere, if there are as many as a trace may have.
+    fn room(&self) -> usize {
+        let behind = ENTRY * (self.records as usize + 1) + TRAILER;
+        if self.records as usize == MOST_RECORDS {
+            self.at
+        } else {
+            self.bytes.len().saturating_sub(behind).max(self.at)
+        }
+    }
+
     /// The bytes of the trace: what goes into a file. Their count is the `used` of [`TraceBuffer::open`].
-    pub fn bytes(&self) -> &[u8] {
-        &self.bytes[..self.used]
+    pub fn bytes(&mut self) -> &[u8] {
+        let used = match self.sealed {
+            Some(used) => used,
+            // every put left room for it
+            None => unsafe { face::spindle_trace_seal(self.bytes.as_mut_ptr(), self.bytes.len(), self.at, self.edition).length as usize },
+        };
+        self.sealed = Some(used);
+        &self.bytes[..used]
     }
 
     /// The trace as it stands now.
-    pub fn trace(&self) -> Trace<'_> {
-        Trace { bytes: self.bytes(), edition: self.edition, records: self.records }
+    pub fn trace(&mut self) -> Trace<'_> {
+        let (edition, records) = (self.edition, self.records);
+        Trace { bytes: self.bytes(), edition, records }
+    }
+
+    /// The records' bytes, without list and trailer: a host may write them to a file as they come, and the rest of [`TraceBuffer::bytes`] at
+    /// the end.
+    pub fn records(&self) -> &[u8] {
+        &self.bytes[..self.at]
     }
 }
 
@@ -490,15 +573,7 @@ impl<'a> Recorder<'a> {
     /// be put under it ([`Cone::under`]) with the same answers.
     #[allow(clippy::too_many_arguments)]
     pub fn step_length(
-        &mut self,
-        cone: &Cone,
-        dz: &[f64],
-        ds: &[f64],
-        z: &[f64],
-        s: &[f64],
-        dual_point: &mut [f64],
-        primal_point: &mut [f64],
-        start: f64,
+        &mut self, cone: &Cone, dz: &[f64], ds: &[f64], z: &[f64], s: &[f64], dual_point: &mut [f64], primal_point: &mut [f64], start: f64,
     ) -> Result<(Found, Found), Refusal> {
         self.search(cone, 1, Settings::house(start), [dz, ds, z, s], dual_point, primal_point)
     }
@@ -506,26 +581,14 @@ impl<'a> Recorder<'a> {
     /// The same with settings that are told outright, and recorded so.
     #[allow(clippy::too_many_arguments)]
     pub fn step_length_with(
-        &mut self,
-        cone: &Cone,
-        dz: &[f64],
-        ds: &[f64],
-        z: &[f64],
-        s: &[f64],
-        dual_point: &mut [f64],
-        primal_point: &mut [f64],
+        &mut self, cone: &Cone, dz: &[f64], ds: &[f64], z: &[f64], s: &[f64], dual_point: &mut [f64], primal_point: &mut [f64],
         settings: Settings,
     ) -> Result<(Found, Found), Refusal> {
         self.search(cone, 0, settings, [dz, ds, z, s], dual_point, primal_point)
     }
 
     fn search(
-        &mut self,
-        cone: &Cone,
-        flag: u32,
-        settings: Settings,
-        [dz, ds, z, s]: [&[f64]; 4],
-        dual_point: &mut [f64],
+        &mut self, cone: &Cone, flag: u32, settings: Settings, [dz, ds, z, s]: [&[f64]; 4], dual_point: &mut [f64],
         primal_point: &mut [f64],
     ) -> Result<(Found, Found), Refusal> {
         // The points are tried out aside, since the trace may have no room. No cone has 65 numbers: a longer slice is refused as one of 65
@@ -539,13 +602,26 @@ impl<'a> Recorder<'a> {
         Ok(steps.found())
     }
 
+    /// Begins a new trace in the same buffer, of the newest edition: once the bytes of the old one are in a file, after [`Refusal::NoRoom`].
+    /// A recorder whose buffer has [`FILE_BYTES`] bytes makes files that every program takes.
+    pub fn roll(self) -> Recorder<'a> {
+        let buffer =
+            TraceBuffer { at: 0, sealed: None, edition: NEWEST_EDITION, records: 0, defaults: defaults(NEWEST_EDITION), ..self.buffer };
+        Recorder { buffer }
+    }
+
+    /// The records' bytes, without list and trailer: see [`TraceBuffer::records`].
+    pub fn records(&self) -> &[u8] {
+        self.buffer.records()
+    }
+
     /// The bytes of the trace: see [`TraceBuffer::bytes`].
-    pub fn bytes(&self) -> &[u8] {
+    pub fn bytes(&mut self) -> &[u8] {
         self.buffer.bytes()
     }
 
     /// The trace as it stands now.
-    pub fn trace(&self) -> Trace<'_> {
+    pub fn trace(&mut self) -> Trace<'_> {
         self.buffer.trace()
     }
 }

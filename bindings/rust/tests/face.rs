@@ -1,5 +1,5 @@
 //! Every call once where it is done and once for each number that it can give, with untouched slices and records at a refusal.
-use spindle::{kernels, Answer, Cone, Refusal, Rule, Scaling, Serial, Settings, Strategy};
+use spindle::{kernels, Answer, Cone, Kind, Plan, Refusal, Rule, Scaling, Serial, Settings, Strategy, Trouble};
 
 const UNTOUCHED: [f64; 6] = [11.0, 12.0, 13.0, 14.0, 15.0, 16.0];
 
@@ -34,15 +34,70 @@ fn scaled(cone: Cone) -> (Scaling, Serial) {
 #[test]
 fn cones_are_judged_when_they_are_made() {
     for exponent in [0.0, -0.0, 1.0, 1.5, -0.5, f64::NAN, f64::INFINITY] {
-        assert_eq!(Cone::power(exponent), Err(Refusal::BadCone));
+        assert_eq!(Cone::power(exponent), Err(Refusal::BadCone(Trouble::PowerExponent { bits: exponent.to_bits() })));
     }
     assert!(Cone::power(f64::MIN_POSITIVE).is_ok());
     assert!(Cone::generalized(&[1.0], 1).is_ok());
     assert!(Cone::generalized(&[1.0 / 32.0; 32], 32).is_ok());
-    assert_eq!(Cone::generalized(&[], 1), Err(Refusal::BadCone));
-    assert_eq!(Cone::generalized(&[1.0 / 33.0; 33], 1), Err(Refusal::BadCone));
-    assert_eq!(Cone::generalized(&[1.0], 0), Err(Refusal::BadCone));
-    assert_eq!(Cone::generalized(&[1.0], 33), Err(Refusal::BadCone));
+    assert_eq!(Cone::generalized(&[], 1), Err(Refusal::BadCone(Trouble::Dim1(0))));
+    assert_eq!(Cone::generalized(&[1.0 / 33.0; 33], 1), Err(Refusal::BadCone(Trouble::Dim1(33))));
+    assert_eq!(Cone::generalized(&[1.0], 0), Err(Refusal::BadCone(Trouble::Dim2(0))));
+    assert_eq!(Cone::generalized(&[1.0], 33), Err(Refusal::BadCone(Trouble::Dim2(33))));
+    for (place, exponent) in [(0, 0.0), (1, -0.25), (1, f64::NAN), (0, 1.5)] {
+        let mut exponents = [0.5; 2];
+        exponents[place] = exponent;
+        assert_eq!(Cone::generalized(&exponents, 1), Err(Refusal::BadCone(Trouble::Exponent { place, bits: exponent.to_bits() })));
+    }
+}
+
+/// What a caller reads at night: the number that is wrong, and what it may be.
+#[test]
+fn a_refused_cone_is_told_in_words() {
+    let words = |cone: Result<Cone, Refusal>| cone.unwrap_err().to_string();
+    assert_eq!(words(Cone::power(1.0)), "refused with 1: the exponent is 1.0: a power cone's is above 0 and below 1");
+    assert_eq!(words(Cone::generalized(&[], 1)), "refused with 1: there are 0 exponents: a generalized cone has 1 to 32");
+    assert_eq!(words(Cone::generalized(&[1.0], 33)), "refused with 1: the tail has 33 numbers: a generalized cone's has 1 to 32");
+    assert_eq!(
+        words(Cone::generalized(&[0.5, f64::NAN], 1)),
+        "refused with 1: exponent 1, counted from 0, is NaN: it is above 0 and at most 1"
+    );
+    assert_eq!(words(Cone::generalized(&[0.3, 0.3], 1)), "refused with 1: the exponents sum to 0.6: rule 2 takes 1 within 2^-50");
+    assert_eq!(
+        words(Cone::generalized_under(Rule::One, &[0.5, 0.25], 1)),
+        "refused with 1: the exponents sum to 0.75: rule 1 takes 1 within 2^-40"
+    );
+    let Refusal::BadCone(trouble) = Plan::of(&[]).unwrap_err() else { panic!("another refusal") };
+    assert_eq!((trouble, trouble.to_string().as_str()), (Trouble::Cones(0), "the plan has 0 cones: it has 1 to 1024"));
+    let (record, serial) = scaled(generalized());
+    let why = record.higher_correction(serial, &mut [0.0; 3], &[0.0; 3], &[0.0; 3]).unwrap_err();
+    assert_eq!(why.to_string(), "refused with 1: a generalized cone has no correction and no combined shift");
+    assert_eq!((why.number(), why.sentence().starts_with("bad cone: ")), (1, true));
+}
+
+/// The parts of a cone, of each kind and at both ends of its dims.
+#[test]
+fn a_cone_hands_out_its_parts() {
+    let exponents = [1.0 / 32.0; 32];
+    let cases = [
+        (exponential(), Kind::Exponential, (3, 0), &exponents[..0], 3),
+        (Cone::power(0.3).unwrap(), Kind::Power, (3, 0), &[0.3], 3),
+        (Cone::generalized(&[1.0], 1).unwrap(), Kind::Generalized, (1, 1), &[1.0], 2),
+        (Cone::generalized(&[0.25, 0.75], 3).unwrap(), Kind::Generalized, (2, 3), &[0.25, 0.75], 3),
+        (Cone::generalized(&exponents, 32).unwrap(), Kind::Generalized, (32, 32), &exponents, 33),
+    ];
+    for (i, (cone, kind, dims, exponents, degree)) in cases.into_iter().enumerate() {
+        assert_eq!((cone.kind(), cone.dims(), cone.exponents(), cone.degree()), (kind, dims, exponents, degree), "cone {i}");
+        assert_eq!((cone.length(), cone.numel()), (dims.0 + dims.1, dims.0 + dims.1));
+        // at a point of the dual cone the dual barrier's gradient times the point is minus the degree
+        let (mut z, mut s) = (vec![0.0; cone.length()], vec![0.0; cone.length()]);
+        cone.unit_initialization(&mut z, &mut s).unwrap();
+        let dual = cone.dual_gradient(&z).unwrap();
+        let gradient = if kind == Kind::Generalized { &dual.wide.grad[..] } else { &dual.three.grad[..] };
+        let product: f64 = gradient.iter().zip(&z).map(|(g, z)| g * z).sum();
+        assert!((product + degree as f64).abs() < 1e-9, "cone {i}: {product}");
+        let parts = [Kind::Exponential, Kind::Power, Kind::Generalized].map(Kind::number);
+        assert_eq!(parts, [1, 2, 3]);
+    }
 }
 
 /// Sums at the limit of each rule and at the next double beyond it, on both sides of 1; and sums that depend on their order.
@@ -50,16 +105,16 @@ fn cones_are_judged_when_they_are_made() {
 fn each_rule_has_its_tolerance() {
     use Rule::{One, Two};
     let taken = |rule, exponents: &[f64]| Cone::generalized_under(rule, exponents, 1).map(|cone| cone.rule());
-    let refused = Err(Refusal::BadCone);
+    let refused = |rule, sum: f64| Err(Refusal::BadCone(Trouble::Sum { bits: sum.to_bits(), rule }));
     let (far, near) = (2f64.powi(-40), 2f64.powi(-50));
     let next = |sum: f64| f64::from_bits(if sum < 1.0 { sum.to_bits() - 1 } else { sum.to_bits() + 1 });
     for side in [-1.0, 1.0] {
         for (sum, one, two) in [
             (1.0, Ok(One), Ok(Two)),
             (1.0 + side * near, Ok(One), Ok(Two)),
-            (next(1.0 + side * near), Ok(One), refused),
-            (1.0 + side * far, Ok(One), refused),
-            (next(1.0 + side * far), refused, refused),
+            (next(1.0 + side * near), Ok(One), refused(Two, next(1.0 + side * near))),
+            (1.0 + side * far, Ok(One), refused(Two, 1.0 + side * far)),
+            (next(1.0 + side * far), refused(One, next(1.0 + side * far)), refused(Two, next(1.0 + side * far))),
         ] {
             assert_eq!((taken(One, &[0.5, sum - 0.5]), taken(Two, &[0.5, sum - 0.5])), (one, two), "sum {sum:e}");
             assert_eq!(Cone::generalized(&[0.5, sum - 0.5], 1).map(|cone| cone.rule()), two, "the newer rule by default");
@@ -70,9 +125,9 @@ fn each_rule_has_its_tolerance() {
     (exponents[0], exponents[1]) = (0.5, 0.5 + near);
     assert_eq!(taken(Two, &exponents), Ok(Two));
     exponents.reverse();
-    assert_eq!((taken(One, &exponents), taken(Two, &exponents)), (Ok(One), refused));
+    assert_eq!((taken(One, &exponents), taken(Two, &exponents)), (Ok(One), refused(Two, exponents.iter().sum())));
     (exponents[30], exponents[31]) = (0.5, 0.5 + far);
-    assert_eq!(taken(One, &exponents), refused);
+    assert_eq!(taken(One, &exponents), refused(One, exponents.iter().sum()));
     exponents.reverse();
     assert_eq!(taken(One, &exponents), Ok(One));
 }
@@ -99,7 +154,7 @@ fn a_cone_carries_its_rule() {
         assert_eq!(first.cone(), &old);
     }
     let wide = Cone::generalized_under(Rule::One, &[0.25, 0.75 + 2f64.powi(-41)], 2).unwrap();
-    assert_eq!(wide.under(Rule::Two), Err(Refusal::BadCone));
+    assert!(matches!(wide.under(Rule::Two), Err(Refusal::BadCone(Trouble::Sum { rule: Rule::Two, .. }))));
     assert_eq!(wide.under(Rule::One), Ok(wide));
 }
 
@@ -339,8 +394,8 @@ fn corrections_are_for_three_dimensions() {
     }
     eta = [0.5; 3];
     let (record, serial) = scaled(generalized());
-    assert_eq!(record.higher_correction(serial, &mut eta, &[0.0; 3], &[0.0; 3]), Err(Refusal::BadCone));
-    assert_eq!(record.combined_ds_shift(serial, &mut eta, &[0.0; 3], &[0.0; 3], 0.5), Err(Refusal::BadCone));
+    assert_eq!(record.higher_correction(serial, &mut eta, &[0.0; 3], &[0.0; 3]), Err(Refusal::BadCone(Trouble::NoCorrection)));
+    assert_eq!(record.combined_ds_shift(serial, &mut eta, &[0.0; 3], &[0.0; 3], 0.5), Err(Refusal::BadCone(Trouble::NoCorrection)));
     assert_eq!(eta, [0.5; 3]);
 }
 
@@ -390,12 +445,12 @@ fn both_roots_agree() {
     for x in [0.0, -0.0, f64::INFINITY, f64::NAN, -1.0, f64::NEG_INFINITY, -f64::MIN_POSITIVE, f64::from_bits(0x7ff0_0000_0000_0001)] {
         agree(x, &[0]);
     }
-    agree(1.0, &[4]);
-    agree(2.0, &[4]);
-    agree(1.5, &[3]);
+    agree(1.0, &[5]);
+    agree(2.0, &[5]);
+    agree(1.5, &[4]);
     for field in 0..2047u64 {
         for digits in [1, (1 << 51) + 1, (1 << 52) - 1] {
-            agree(f64::from_bits(field << 52 | digits), &[3, 4]);
+            agree(f64::from_bits(field << 52 | digits), &[4, 5]);
         }
     }
     assert_eq!(kernels::table_sqrt(-1.0).root.to_bits(), 0x7ff8_0000_0000_0000);

@@ -1,6 +1,9 @@
 //! Traces: what a recorder searched is what a trace reads, for every kind and both ways to give settings; every refusal, and bytes that
 //! stay.
-use spindle::{rescue, thin, thin_in_place, Cone, Found, Recorded, Recorder, Refusal, Rule, Settings, Trace, TraceBuffer, MOST_RECORDS, NEWEST_EDITION};
+use spindle::{
+    rescue, thin, thin_in_place, Cone, Found, Recorded, Recorder, Refusal, Rule, Settings, Trace, TraceBuffer, Trouble, FILE_BYTES,
+    MOST_RECORDS, NEWEST_EDITION,
+};
 
 /// A cone with directions and points for a search.
 struct Search {
@@ -113,6 +116,42 @@ fn what_was_searched_is_what_is_read() {
 }
 
 #[test]
+fn a_recorder_rolls_to_the_next_file() {
+    let mut bytes = vec![0xA5; FILE_BYTES];
+    let mut recorder = Recorder::create(&mut bytes).unwrap();
+    let (search, mut files) = (&searches()[2], Vec::new());
+    for i in 0..1000 {
+        let start = 0.5 + f64::from(i) / 4096.0;
+        let mut found = search.recorded(&mut recorder, Some(start));
+        if found.0 == Err(Refusal::NoRoom) {
+            // what was recorded and not sealed is what a rescue keeps
+            let unsealed = recorder.records().to_vec();
+            let file = recorder.bytes().to_vec();
+            let mut output = vec![0; FILE_BYTES];
+            let rescued = rescue(&unsealed, &mut output, NEWEST_EDITION).unwrap();
+            assert_eq!((rescued.trace.bytes(), rescued.dropped), (&file[..], 0));
+            files.push(file);
+            recorder = recorder.roll();
+            assert_eq!((recorder.bytes().len(), recorder.trace().len()), (20, 0));
+            found = search.recorded(&mut recorder, Some(start));
+        }
+        assert_eq!(found, search.plain(Settings::house(start)));
+    }
+    files.push(recorder.bytes().to_vec());
+    assert!(files.len() > 2 && files.iter().all(|file| file.len() <= FILE_BYTES));
+    // one record more would not have had room
+    assert!(files[..files.len() - 1].iter().all(|file| FILE_BYTES - file.len() < 204 + 8));
+    let starts: Vec<_> =
+        files.iter().flat_map(|file| Trace::open(file).unwrap().into_iter()).map(|record| record.settings().start).collect();
+    assert_eq!(starts, (0..1000).map(|i| 0.5 + f64::from(i) / 4096.0).collect::<Vec<_>>());
+    for file in &files {
+        let trace = Trace::open(file).unwrap();
+        let ends: Vec<_> = trace.iter().map(|record| record.next_offset()).collect();
+        assert_eq!(trace.iter().skip(1).map(|record| record.offset()).collect::<Vec<_>>(), ends[..ends.len() - 1]);
+    }
+}
+
+#[test]
 fn records_by_number_and_one_by_one() {
     let bytes = bytes_of_all();
     let trace = Trace::open(&bytes).unwrap();
@@ -221,7 +260,7 @@ fn a_record_may_hold_what_a_search_refuses() {
     bytes[328 + 24..328 + 32].copy_from_slice(&0xfff0_0000_0000_0001u64.to_le_bytes());
     bytes[328 + 32..328 + 40].copy_from_slice(&f64::NEG_INFINITY.to_le_bytes());
     let record = Trace::open(&bytes).unwrap().get(2).unwrap();
-    assert_eq!(record.cone(), Err(Refusal::BadCone));
+    assert_eq!(record.cone(), Err(Refusal::BadCone(Trouble::PowerExponent { bits: 0x7ff8_0000_0000_0000 })));
     assert_eq!((record.kind(), record.exponents()[0].to_bits()), (2, 0x7ff8_0000_0000_0000));
     assert_eq!((record.settings().start, record.settings().step), (f64::NEG_INFINITY, Settings::house(1.0).step));
     let shown = format!("{record:?}");
@@ -243,7 +282,7 @@ fn a_record_may_hold_any_rule() {
             let under = match rule {
                 1 => Ok(Rule::One),
                 2 => Ok(Rule::Two),
-                _ => Err(Refusal::BadCone),
+                _ => Err(Refusal::BadCone(Trouble::Rule(rule))),
             };
             assert_eq!(record.cone().map(|cone| cone.rule()), under);
             let mut differ = [7; 6];
@@ -463,8 +502,8 @@ fn again<'b>(bytes: &[u8], order: &[usize], buffer: &'b mut [u8]) -> TraceBuffer
 fn equal_records_are_dropped_and_the_first_stay_in_their_order() {
     let bytes = bytes_of_all();
     let (mut buffer, mut other) = (vec![0; 8000], vec![0; 8000]);
-    let many = again(&bytes, &[3, 0, 3, 5, 0, 0, 1, 5, 3], &mut buffer);
-    let few = again(&bytes, &[3, 0, 5, 1], &mut other);
+    let mut many = again(&bytes, &[3, 0, 3, 5, 0, 0, 1, 5, 3], &mut buffer);
+    let mut few = again(&bytes, &[3, 0, 5, 1], &mut other);
     let mut output = vec![7; few.bytes().len() + 2];
     let thinned = thin(many.trace(), &mut output).unwrap();
     assert_eq!((thinned.trace.bytes(), thinned.trace.len(), thinned.dropped), (few.bytes(), 4, 5));

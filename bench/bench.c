@@ -14,7 +14,7 @@
 enum { PORT, RUST, OWN, SIDES };
 enum { UPDATE, BLOCK, PRODUCTS, SHIFT, GRADIENT, STEPS, BARRIER, ENTRIES };
 
-static const char *const side_names[SIDES] = { "port", "Rust, port's kernels", "Rust, platform's" };
+static const char *const side_names[SIDES] = {"port", "Rust, port's kernels", "Rust, platform's"};
 static const char *const entry_names[ENTRIES] = {
     "update_scaling", "get_hs", "mul_hs, twice", "combined_ds_shift", "gradient_primal", "step_length", "compute_barrier",
 };
@@ -22,11 +22,11 @@ static const char *const entry_names[ENTRIES] = {
 /* as in src/work.rs */
 typedef struct {
     size_t cones;
-    const Cone *cone;
+    const SpindleCone *cone;
     const size_t *at, *block_at;
     const double *z, *s, *dz, *ds, *x[2];
     double mu, sigma_mu;
-    Settings settings;
+    SpindleSettings settings;
 } Inputs;
 
 typedef struct {
@@ -36,10 +36,12 @@ typedef struct {
 
 void *rust_made(uint32_t numbers, const Inputs *);
 void rust_entry(uint32_t numbers, void *cones, uint32_t entry, const Inputs *, Outputs *);
-void rust_record(void *cones, size_t i, Scaling *record);
+void rust_record(void *cones, size_t i, SpindleScaling *record);
 uint32_t rust_search(uint32_t numbers, void *cones, size_t i, const double *dq, const double *q, double *point, const double *settings);
 uint32_t rust_common(void *cones, size_t count, const Inputs *, const double *dq, const double *q, double *point);
-typedef struct { uint64_t searches, tests, turned[2], steps; } Changed;
+typedef struct {
+    uint64_t searches, tests, turned[2], steps;
+} Changed;
 void rust_changed(void *cones, const Inputs *, Changed *);
 uint64_t rust_calls(uint32_t kernel);
 const double *rust_arguments(uint32_t kernel);
@@ -59,7 +61,10 @@ __attribute__((noreturn)) static void refused(const char *entry, size_t cone, un
 static void *room(size_t bytes)
 {
     void *place = calloc(1, bytes ? bytes : 1);
-    if (!place) { fprintf(stderr, "bench: no memory\n"); exit(2); }
+    if (!place) {
+        fprintf(stderr, "bench: no memory\n");
+        exit(2);
+    }
     return place;
 }
 
@@ -89,9 +94,9 @@ static size_t whole(size_t low, size_t high) { return low + next() % (high - low
 
 /* Exponents are 1024ths that sum to exactly 1, so that every rule on the sum holds: document 02's two, and the text's own. All cones of the plan are under
    rule 1, as they were before there were two; the rule costs a comparison. */
-static Cone generalized(size_t dim1, size_t dim2)
+static SpindleCone generalized(size_t dim1, size_t dim2)
 {
-    Cone cone = { .kind = 3, .dim1 = (uint32_t)dim1, .dim2 = (uint32_t)dim2, .rule = SPINDLE_RULE_1 };
+    SpindleCone cone = {.kind = 3, .dim1 = (uint32_t)dim1, .dim2 = (uint32_t)dim2, .rule = SPINDLE_RULE_1};
     unsigned parts[32];
     for (size_t i = 0; i < dim1; i++) parts[i] = 1024 / dim1;
     parts[0] += 1024 % dim1;
@@ -105,31 +110,38 @@ static Cone generalized(size_t dim1, size_t dim2)
     return cone;
 }
 
-static const Cone exponential = { .kind = 1, .rule = SPINDLE_RULE_1 };
-static Cone power(double exponent) { return (Cone) { .kind = 2, .rule = SPINDLE_RULE_1, .exps = { exponent } }; }
+static const SpindleCone exponential = {.kind = 1, .rule = SPINDLE_RULE_1};
+static SpindleCone power(double exponent) { return (SpindleCone){.kind = 2, .rule = SPINDLE_RULE_1, .exps = {exponent}}; }
 
-static size_t numel(const Cone *cone) { return cone->kind == 3 ? cone->dim1 + cone->dim2 : 3; }
-static size_t head(const Cone *cone) { return cone->kind == 3 ? cone->dim1 : cone->kind == 2 ? 2 : 0; }
+static size_t numel(const SpindleCone *cone) { return cone->kind == 3 ? cone->dim1 + cone->dim2 : 3; }
+static size_t head(const SpindleCone *cone) { return cone->kind == 3 ? cone->dim1 : cone->kind == 2 ? 2 : 0; }
 
 /* All cones of a plan with room for a round's inputs. */
-typedef struct { Inputs in; Cone *cone; size_t *at, *block_at; double *unit, *z, *s, *dz, *ds, *x[2]; } Plan;
+typedef struct {
+    Inputs in;
+    SpindleCone *cone;
+    size_t *at, *block_at;
+    double *unit, *z, *s, *dz, *ds, *x[2];
+} Plan;
 
-static Plan planned(const Cone *cones, size_t count)
+static Plan planned(const SpindleCone *cones, size_t count)
 {
-    Plan p = { .cone = room(count * sizeof(Cone)), .at = room((count + 1) * sizeof(size_t)), .block_at = room((count + 1) * sizeof(size_t)) };
-    memcpy(p.cone, cones, count * sizeof(Cone));
+    Plan p = {.cone = room(count * sizeof(SpindleCone)),
+              .at = room((count + 1) * sizeof(size_t)),
+              .block_at = room((count + 1) * sizeof(size_t))};
+    memcpy(p.cone, cones, count * sizeof(SpindleCone));
     for (size_t i = 0; i < count; i++) {
         p.at[i + 1] = p.at[i] + numel(&cones[i]);
         p.block_at[i + 1] = p.block_at[i] + (cones[i].kind == 3 ? numel(&cones[i]) : 6);
     }
-    double **vectors[] = { &p.unit, &p.z, &p.s, &p.dz, &p.ds, &p.x[0], &p.x[1] };
+    double **vectors[] = {&p.unit, &p.z, &p.s, &p.dz, &p.ds, &p.x[0], &p.x[1]};
     for (size_t i = 0; i < sizeof vectors / sizeof *vectors; i++) *vectors[i] = room(p.at[count] * sizeof(double));
     for (size_t i = 0; i < count; i++) {
         size_t n = numel(&cones[i]);
         uint32_t code = spindle_unit_initialization(cones[i], p.z + p.at[i], n, p.unit + p.at[i], n);
         if (code) refused("unit_initialization", i, code);
     }
-    p.in = (Inputs) { count, p.cone, p.at, p.block_at, p.z, p.s, p.dz, p.ds, { p.x[0], p.x[1] }, 1.0, 0.1, { 1.0, 0.8, 0.0001 } };
+    p.in = (Inputs){count, p.cone, p.at, p.block_at, p.z, p.s, p.dz, p.ds, {p.x[0], p.x[1]}, 1.0, 0.1, {1.0, 0.8, 0.0001}};
     return p;
 }
 
@@ -137,17 +149,20 @@ static Plan planned(const Cone *cones, size_t count)
 static void moved(Plan *p)
 {
     for (size_t c = 0; c < p->in.cones; c++) {
-        const Cone *cone = &p->cone[c];
+        const SpindleCone *cone = &p->cone[c];
         size_t n = numel(cone), first = head(cone), at = p->at[c];
         /* how far this cone's directions reach */
         double reach = between(0.1, 5), tail = 1 / sqrt((double)n);
         for (size_t i = 0; i < n; i++) {
-            double *points[] = { p->z, p->s }, *directions[] = { p->dz, p->ds };
+            double *points[] = {p->z, p->s}, *directions[] = {p->dz, p->ds};
             for (int k = 0; k < 2; k++) {
                 double unit = p->unit[at + i];
-                if (cone->kind == 1) points[k][at + i] = unit + between(-0.1, 0.1);
-                else if (i < first) points[k][at + i] = unit * between(0.8, 1.25);
-                else points[k][at + i] = between(-0.3, 0.3) * tail;
+                if (cone->kind == 1)
+                    points[k][at + i] = unit + between(-0.1, 0.1);
+                else if (i < first)
+                    points[k][at + i] = unit * between(0.8, 1.25);
+                else
+                    points[k][at + i] = between(-0.3, 0.3) * tail;
                 directions[k][at + i] = reach * between(-1, 1) * (i < first || cone->kind == 1 ? 1 : 2 * tail);
                 p->x[k][at + i] = between(-1, 1);
             }
@@ -160,19 +175,27 @@ static void moved(Plan *p)
 static Outputs made_outputs(const Plan *p)
 {
     size_t n = p->at[p->in.cones] * sizeof(double), each = p->in.cones * sizeof(double);
-    return (Outputs) {
-        room(p->block_at[p->in.cones] * sizeof(double)), { room(n), room(n) }, room(n), room(n), room(n), room(each), room(each), room(each),
-        room(each), room(each),
+    return (Outputs){
+        room(p->block_at[p->in.cones] * sizeof(double)),
+        {room(n), room(n)},
+        room(n),
+        room(n),
+        room(n),
+        room(each),
+        room(each),
+        room(each),
+        room(each),
+        room(each),
     };
 }
 
 /* ---- the port */
 
-static Scaling *fresh_records(const Plan *p)
+static SpindleScaling *fresh_records(const Plan *p)
 {
-    Scaling *records = room(p->in.cones * sizeof(Scaling));
+    SpindleScaling *records = room(p->in.cones * sizeof(SpindleScaling));
     for (size_t i = 0; i < p->in.cones; i++) {
-        Updated fresh = spindle_fresh(p->cone[i]);
+        SpindleUpdated fresh = spindle_fresh(p->cone[i]);
         if (fresh.code) refused("fresh", i, fresh.code);
         records[i] = fresh.record;
     }
@@ -180,14 +203,15 @@ static Scaling *fresh_records(const Plan *p)
 }
 
 /* One call (of the products two), with a frame of its own, so that its stack can be measured. */
-typedef uint32_t Call(Scaling *record, const Inputs *in, Outputs *out, size_t i, size_t at, size_t n);
-#define CALL(name) __attribute__((noinline)) static uint32_t name(Scaling *record, const Inputs *in, Outputs *out, size_t i, size_t at, size_t n)
+typedef uint32_t Call(SpindleScaling *record, const Inputs *in, Outputs *out, size_t i, size_t at, size_t n);
+#define CALL(name) \
+    __attribute__((noinline)) static uint32_t name(SpindleScaling *record, const Inputs *in, Outputs *out, size_t i, size_t at, size_t n)
 #define UNUSED (void)record, (void)in, (void)out, (void)i, (void)at, (void)n
 
 CALL(port_update)
 {
     UNUSED;
-    Updated r = spindle_update_scaling(*record, in->s + at, n, in->z + at, n, in->mu, 2);
+    SpindleUpdated r = spindle_update_scaling(*record, in->s + at, n, in->z + at, n, in->mu, 2);
     *record = r.record;
     return r.code;
 }
@@ -221,8 +245,8 @@ CALL(port_gradient)
 CALL(port_steps)
 {
     UNUSED;
-    Steps r = spindle_step_length(in->cone[i], in->dz + at, n, in->ds + at, n, in->z + at, n, in->s + at, n, out->dual_point + at, n,
-                                  out->primal_point + at, n, in->settings);
+    SpindleSteps r = spindle_step_length(in->cone[i], in->dz + at, n, in->ds + at, n, in->z + at, n, in->s + at, n, out->dual_point + at, n,
+                                         out->primal_point + at, n, in->settings);
     out->dual_step[i] = r.dual_step;
     out->primal_step[i] = r.primal_step;
     out->dual_count[i] = r.dual_count;
@@ -234,14 +258,14 @@ CALL(port_barrier)
 {
     UNUSED;
     double d = out->dual_step[i], p = out->primal_step[i];
-    Number r = spindle_compute_barrier(*record, in->z + at, n, in->s + at, n, in->dz + at, n, in->ds + at, n, 0.5 * (d < p ? d : p));
+    SpindleNumber r = spindle_compute_barrier(*record, in->z + at, n, in->s + at, n, in->dz + at, n, in->ds + at, n, 0.5 * (d < p ? d : p));
     out->barrier[i] = r.value;
     return r.code;
 }
 
-static Call *const port_calls[ENTRIES] = { port_update, port_block, port_products, port_shift, port_gradient, port_steps, port_barrier };
+static Call *const port_calls[ENTRIES] = {port_update, port_block, port_products, port_shift, port_gradient, port_steps, port_barrier};
 
-static void port_entry(Scaling *records, int entry, const Inputs *in, Outputs *out)
+static void port_entry(SpindleScaling *records, int entry, const Inputs *in, Outputs *out)
 {
     for (size_t i = 0; i < in->cones; i++) {
         if (entry == (in->cone[i].kind == 3 ? SHIFT : GRADIENT)) continue;
@@ -252,8 +276,10 @@ static void port_entry(Scaling *records, int entry, const Inputs *in, Outputs *o
 
 static void run_entry(int side, void *cones, int entry, const Inputs *in, Outputs *out)
 {
-    if (side == PORT) port_entry(cones, entry, in, out);
-    else rust_entry(side == OWN, cones, entry, in, out);
+    if (side == PORT)
+        port_entry(cones, entry, in, out);
+    else
+        rust_entry(side == OWN, cones, entry, in, out);
 }
 
 static void *made(int side, const Plan *p) { return side == PORT ? (void *)fresh_records(p) : rust_made(side == OWN, &p->in); }
@@ -277,27 +303,42 @@ static uint64_t bits_of(int side, void *cones, const Plan *p, const Outputs *out
 {
     size_t n = p->at[p->in.cones] * sizeof(double), each = p->in.cones * sizeof(double);
     uint64_t sums[12] = {
-        sum_of(out->block, p->block_at[p->in.cones] * sizeof(double)), sum_of(out->y[0], n), sum_of(out->y[1], n), sum_of(out->shift, n),
-        sum_of(out->dual_point, n), sum_of(out->primal_point, n), sum_of(out->dual_step, each), sum_of(out->primal_step, each),
-        sum_of(out->barrier, each), sum_of(out->dual_count, each), sum_of(out->primal_count, each),
+        sum_of(out->block, p->block_at[p->in.cones] * sizeof(double)),
+        sum_of(out->y[0], n),
+        sum_of(out->y[1], n),
+        sum_of(out->shift, n),
+        sum_of(out->dual_point, n),
+        sum_of(out->primal_point, n),
+        sum_of(out->dual_step, each),
+        sum_of(out->primal_step, each),
+        sum_of(out->barrier, each),
+        sum_of(out->dual_count, each),
+        sum_of(out->primal_count, each),
     };
     for (size_t i = 0; i < p->in.cones; i++) {
-        static const Scaling zero;
-        Scaling record = zero;
-        if (side == PORT) record = ((Scaling *)cones)[i];
-        else rust_record(cones, i, &record);
-        sums[11] = sums[11] * 31 + (sum_of(&record.three, sizeof(Three)) ^ sum_of(&record.wide, sizeof(Wide)) * 3 ^ record.scaled);
+        static const SpindleScaling zero;
+        SpindleScaling record = zero;
+        if (side == PORT)
+            record = ((SpindleScaling *)cones)[i];
+        else
+            rust_record(cones, i, &record);
+        sums[11] =
+            sums[11] * 31 + (sum_of(&record.three, sizeof(SpindleThree)) ^ sum_of(&record.wide, sizeof(SpindleWide)) * 3 ^ record.scaled);
     }
     return sum_of(sums, sizeof sums);
 }
 
 /* ---- the plan */
 
-typedef struct { double time[SIDES][ENTRIES]; uint64_t bits, tests[SIDES]; size_t searches; } Result;
+typedef struct {
+    double time[SIDES][ENTRIES];
+    uint64_t bits, tests[SIDES];
+    size_t searches;
+} Result;
 
 static Result run_plan(Plan *p, int rounds)
 {
-    Result result = { 0 };
+    Result result = {0};
     void *cones[SIDES];
     Outputs out[SIDES];
     for (int side = 0; side < SIDES; side++) {
@@ -338,7 +379,7 @@ static double total(const Result *r, int side)
 /* The least disturbed of some runs, side by side and entry by entry. */
 static Result least(Plan *p, int rounds, int runs, int show)
 {
-    Result best = { 0 };
+    Result best = {0};
     uint64_t start = seed;
     for (int run = 0; run < runs; run++) {
         if (show) fprintf(stderr, "\rbench: run %d of %d, %d rounds of %zu cones ", run + 1, runs, rounds, p->in.cones);
@@ -354,7 +395,7 @@ static Result least(Plan *p, int rounds, int runs, int show)
 
 /* ---- kernels */
 
-static const char *const kernel_names[4] = { "sqrt", "log", "exp", "powf" };
+static const char *const kernel_names[4] = {"sqrt", "log", "exp", "powf"};
 
 static double port_kernel(int kernel, const double *x)
 {
@@ -369,11 +410,7 @@ static double port_kernel(int kernel, const double *x)
 static double own_kernel(int kernel, const double *x)
 {
     switch (kernel) {
-#ifdef NATIVE   /* see bench/native */
-    case 0: return __builtin_sqrt(x[0]);
-#else
-    case 0: { double r; __asm__("sqrtsd %1, %0" : "=x"(r) : "x"(x[0])); return r; }
-#endif
+    case 0: return sqrt(x[0]);
     case 1: return log(x[0]);
     case 2: return exp(x[0]);
     default: return pow(x[0], x[1]);
@@ -383,16 +420,18 @@ static double own_kernel(int kernel, const double *x)
 static volatile double sink;
 
 /* ns of one call, over arguments that the plan gave */
-#define TIMED(call, arguments, count) ({ \
-    double best_ = 1e9; \
-    for (int turn_ = 0; turn_ < 5; turn_++) { \
-        double sum_ = 0, before_ = now(); \
-        for (size_t i_ = 0; i_ < (count); i_++) sum_ += call((arguments) + 2 * i_); \
-        double took_ = now() - before_; \
-        sink = sum_; \
-        if (took_ < best_) best_ = took_; \
-    } \
-    best_ * 1e9 / (double)(count); })
+#define TIMED(call, arguments, count)                                                   \
+    ({                                                                                  \
+        double best_ = 1e9;                                                             \
+        for (int turn_ = 0; turn_ < 5; turn_++) {                                       \
+            double sum_ = 0, before_ = now();                                           \
+            for (size_t i_ = 0; i_ < (count); i_++) sum_ += call((arguments) + 2 * i_); \
+            double took_ = now() - before_;                                             \
+            sink = sum_;                                                                \
+            if (took_ < best_) best_ = took_;                                           \
+        }                                                                               \
+        best_ * 1e9 / (double)(count);                                                  \
+    })
 
 static double port_sqrt(const double *x) { return port_kernel(0, x); }
 static double port_log(const double *x) { return port_kernel(1, x); }
@@ -412,27 +451,32 @@ __attribute__((noinline)) static double no_root(const double *x) { return x[0]; 
 static volatile uint64_t no_bits;
 
 /* ns of one call whose argument waits for the answer before it: some of that answer's bits are put into the argument, and they are none */
-#define CHAINED(call, arguments, count) ({ \
-    double best_ = 1e9; \
-    for (int turn_ = 0; turn_ < 5; turn_++) { \
-        union { double d; uint64_t b; } x_, last_ = { 0 }; \
-        uint64_t some_ = no_bits; \
-        double before_ = now(); \
-        for (size_t i_ = 0; i_ < (count); i_++) { \
-            x_.d = (arguments)[2 * i_]; \
-            x_.b |= last_.b & some_; \
-            last_.d = call(&x_.d); \
-        } \
-        double took_ = now() - before_; \
-        sink = last_.d; \
-        if (took_ < best_) best_ = took_; \
-    } \
-    best_ * 1e9 / (double)(count); })
+#define CHAINED(call, arguments, count)               \
+    ({                                                \
+        double best_ = 1e9;                           \
+        for (int turn_ = 0; turn_ < 5; turn_++) {     \
+            union {                                   \
+                double d;                             \
+                uint64_t b;                           \
+            } x_, last_ = {0};                        \
+            uint64_t some_ = no_bits;                 \
+            double before_ = now();                   \
+            for (size_t i_ = 0; i_ < (count); i_++) { \
+                x_.d = (arguments)[2 * i_];           \
+                x_.b |= last_.b & some_;              \
+                last_.d = call(&x_.d);                \
+            }                                         \
+            double took_ = now() - before_;           \
+            sink = last_.d;                           \
+            if (took_ < best_) best_ = took_;         \
+        }                                             \
+        best_ * 1e9 / (double)(count);                \
+    })
 
 static void roots(const double *arguments, size_t count)
 {
     printf("\nSquare roots, ns     one after another   each by itself\n");
-    #define ROOT(name, call) printf("  %-18s %17.1f %16.1f\n", name, CHAINED(call, arguments, count), TIMED(call, arguments, count))
+#define ROOT(name, call) printf("  %-18s %17.1f %16.1f\n", name, CHAINED(call, arguments, count), TIMED(call, arguments, count))
     ROOT("plain", plain_root);
     ROOT("from the table", table_root);
     ROOT("the processor's", own_sqrt);
@@ -466,7 +510,8 @@ static void kernels(Plan *p, int rounds, double port_total)
     for (int k = 0; k < 4; k++) {
         double ms = (double)rust_calls(k) * ns[0][k] / 1e6;
         all += ms;
-        printf("  %-18s %15llu %9.1f %13.1f %9.1f %7.1f %%\n", kernel_names[k], (unsigned long long)rust_calls(k), ns[0][k], ns[1][k], ms, ms / (port_total * 10));
+        printf("  %-18s %15llu %9.1f %13.1f %9.1f %7.1f %%\n", kernel_names[k], (unsigned long long)rust_calls(k), ns[0][k], ns[1][k], ms,
+               ms / (port_total * 10));
     }
     printf("  %-18s %15s %9s %13s %9.1f %7.1f %%\n", "all four", "", "", "", all, all / (port_total * 10));
     roots(rust_arguments(0), kept[0]);
@@ -474,20 +519,20 @@ static void kernels(Plan *p, int rounds, double port_total)
 
 /* ---- what passing the records costs by itself: as many calls as a plan makes, of functions that do nothing */
 
-static uint32_t nothing(Scaling record) { return record.cone.kind; }
+static uint32_t nothing(SpindleScaling record) { return record.cone.kind; }
 
-static Updated nothing_new(Scaling record) { return (Updated) { 0, record }; }
+static SpindleUpdated nothing_new(SpindleScaling record) { return (SpindleUpdated){0, record}; }
 
 static double passing(const Plan *p, int rounds)
 {
-    uint32_t (*volatile taken)(Scaling) = nothing;
-    Updated (*volatile updated)(Scaling) = nothing_new;
-    Scaling *records = fresh_records(p);
+    uint32_t (*volatile taken)(SpindleScaling) = nothing;
+    SpindleUpdated (*volatile updated)(SpindleScaling) = nothing_new;
+    SpindleScaling *records = fresh_records(p);
     uint32_t kinds = 0;
     double before = now();
     for (int round = 0; round < rounds; round++) {
         for (size_t i = 0; i < p->in.cones; i++) {
-            Updated r = updated(records[i]);
+            SpindleUpdated r = updated(records[i]);
             records[i] = r.record;
         }
         /* the block, two products, shift or gradient, the barrier */
@@ -505,15 +550,18 @@ static double passing(const Plan *p, int rounds)
 static void sizes(int rounds, int runs)
 {
     printf("\nBy cone                     port us   Rust us   own us   port/Rust   port/own   (one cone, one round; 50 such cones)\n");
-    static const size_t numels[] = { 4, 8, 16, 24, 32, 48, 64 };
+    static const size_t numels[] = {4, 8, 16, 24, 32, 48, 64};
     for (int row = 0; row < 2 + (int)(sizeof numels / sizeof *numels); row++) {
-        Cone cones[50];
+        SpindleCone cones[50];
         char name[40];
         size_t n = row < 2 ? 3 : numels[row - 2];
         for (size_t i = 0; i < 50; i++) {
-            if (row == 0) cones[i] = exponential;
-            else if (row == 1) cones[i] = power(between(0.1, 0.9));
-            else cones[i] = generalized(n / 2, n / 2);
+            if (row == 0)
+                cones[i] = exponential;
+            else if (row == 1)
+                cones[i] = power(between(0.1, 0.9));
+            else
+                cones[i] = generalized(n / 2, n / 2);
         }
         snprintf(name, sizeof name, row == 0 ? "exponential" : row == 1 ? "power" : "generalized, %zu numbers", n);
         fprintf(stderr, "\rbench: %-60s", name);
@@ -526,13 +574,15 @@ static void sizes(int rounds, int runs)
 
 /* A direction along which exactly the trial number `tests` is the first to pass: only the last number moves (of the exponential cone the first), so that
    each test evaluates its residue. More tests than there are: none passes. */
-static void direction(const Cone *cone, const double *q, unsigned tests, double *dq)
+static void direction(const SpindleCone *cone, const double *q, unsigned tests, double *dq)
 {
     size_t n = numel(cone), place = cone->kind == 1 ? 0 : n - 1;
     memset(dq, 0, n * sizeof(double));
     double wall;
-    if (cone->kind == 1) wall = q[1] * log(q[2] / q[1]) - q[0];
-    else if (cone->kind == 2) wall = exp(cone->exps[0] * log(q[0]) + (1 - cone->exps[0]) * log(q[1]));
+    if (cone->kind == 1)
+        wall = q[1] * log(q[2] / q[1]) - q[0];
+    else if (cone->kind == 2)
+        wall = exp(cone->exps[0] * log(q[0]) + (1 - cone->exps[0]) * log(q[1]));
     else {
         double sum = 0;
         for (size_t i = 0; i < cone->dim1; i++) sum += cone->exps[i] * log(q[i]);
@@ -543,11 +593,11 @@ static void direction(const Cone *cone, const double *q, unsigned tests, double 
 
 static void searches(void)
 {
-    static const unsigned tests[] = { 1, 2, 5, 10, 20, 40, 42 };
-    Cone cones[4] = { exponential, power(0.5), generalized(8, 8), generalized(32, 32) };
-    static const char *const names[] = { "exponential", "power", "generalized, 16 numbers", "generalized, 64 numbers" };
+    static const unsigned tests[] = {1, 2, 5, 10, 20, 40, 42};
+    SpindleCone cones[4] = {exponential, power(0.5), generalized(8, 8), generalized(32, 32)};
+    static const char *const names[] = {"exponential", "power", "generalized, 16 numbers", "generalized, 64 numbers"};
     Plan p = planned(cones, 4);
-    void *rust[2] = { rust_made(0, &p.in), rust_made(1, &p.in) };
+    void *rust[2] = {rust_made(0, &p.in), rust_made(1, &p.in)};
     printf("\nBy tests of a search, ns (port; port/Rust in brackets)\n  %-24s", "");
     for (size_t t = 0; t < 7; t++) printf("       %5u", tests[t]);
     printf("\n");
@@ -556,27 +606,36 @@ static void searches(void)
         const double *q = p.unit + p.at[c];
         printf("  %-24s", names[c]);
         for (size_t t = 0; t < 7; t++) {
-            double dq[MOST], point[MOST], points[MOST], best[2] = { 1e9, 1e9 };
+            double dq[MOST], point[MOST], points[MOST], best[2] = {1e9, 1e9};
             /* 42 tests and none passes */
             direction(&cones[c], q, tests[t] == 42 ? 200 : tests[t], dq);
-            Settings how = p.in.settings;
+            SpindleSettings how = p.in.settings;
             size_t times = 40000 / (tests[t] * n) + 1;
             for (int turn = 0; turn < 7; turn++) {
                 double before = now();
                 for (size_t k = 0; k < times; k++) {
-                    Found found = spindle_backtrack_search(cones[c], true, dq, n, q, n, point, n, how);
+                    SpindleFound found = spindle_backtrack_search(cones[c], true, dq, n, q, n, point, n, how);
                     if (found.code) refused("backtrack_search", c, found.code);
-                    if (found.count != tests[t]) { fprintf(stderr, "\nbench: %u tests where %u were meant\n", (unsigned)found.count, tests[t]); exit(1); }
+                    if (found.count != tests[t]) {
+                        fprintf(stderr, "\nbench: %u tests where %u were meant\n", (unsigned)found.count, tests[t]);
+                        exit(1);
+                    }
                 }
                 double took = now() - before;
                 if (took < best[0]) best[0] = took;
                 before = now();
                 for (size_t k = 0; k < times; k++)
-                    if (rust_search(0, rust[0], c, dq, q, points, (const double *)&how) != tests[t]) { fprintf(stderr, "\nbench: the Rust made other tests\n"); exit(1); }
+                    if (rust_search(0, rust[0], c, dq, q, points, (const double *)&how) != tests[t]) {
+                        fprintf(stderr, "\nbench: the Rust made other tests\n");
+                        exit(1);
+                    }
                 took = now() - before;
                 if (took < best[1]) best[1] = took;
             }
-            if (memcmp(point, points, n * sizeof(double))) { fprintf(stderr, "\nbench: other points\n"); exit(1); }
+            if (memcmp(point, points, n * sizeof(double))) {
+                fprintf(stderr, "\nbench: other points\n");
+                exit(1);
+            }
             printf(" %6.0f (%.2f)", best[0] * 1e9 / times, best[0] / best[1]);
         }
         printf("\n");
@@ -587,44 +646,100 @@ static void searches(void)
    trial `trials`, the others stay inside: each trial tests every cone. */
 static void commons(const Plan *p)
 {
-    static const size_t counts[] = { 225, 450, 900 };
-    static const unsigned trials[] = { 1, 5, 20 };
+    static const size_t counts[] = {225, 450, 900};
+    static const unsigned trials[] = {1, 5, 20};
     size_t all = p->at[900];
     double *dq = room(all * sizeof(double)), *point = room(all * sizeof(double)), *points = room(all * sizeof(double));
     void *rust = rust_made(0, &p->in);
-    printf("\nCommon step of a plan, us    cones   trials    tests     port   ns for a test   port/Rust   as many single searches, their tests\n");
+    printf("\nCommon step of a plan, us    cones   trials    tests     port   ns for a test   port/Rust   as many single searches, their "
+           "tests\n");
     for (size_t c = 0; c < 3; c++)
         for (size_t t = 0; t < 3; t++) {
             size_t count = counts[c], last = count - 1, n = p->at[count];
             uint32_t tests = (uint32_t)(count * trials[t]), single = 0;
             memset(dq, 0, all * sizeof(double));
             direction(&p->cone[last], p->unit + p->at[last], trials[t], dq + p->at[last]);
-            double best[3] = { 1e9, 1e9, 1e9 };
+            double best[3] = {1e9, 1e9, 1e9};
             for (int turn = 0; turn < 9; turn++) {
                 double before = now();
-                Found found = spindle_common_step(p->cone, count, true, dq, n, p->unit, n, point, n, p->in.settings);
+                SpindleFound found = spindle_common_step(p->cone, count, true, dq, n, p->unit, n, point, n, p->in.settings);
                 double took = now() - before;
                 if (found.code) refused("common_step", last, found.code);
-                if (found.count != tests) { fprintf(stderr, "\nbench: %u tests where %u were meant\n", (unsigned)found.count, (unsigned)tests); exit(1); }
+                if (found.count != tests) {
+                    fprintf(stderr, "\nbench: %u tests where %u were meant\n", (unsigned)found.count, (unsigned)tests);
+                    exit(1);
+                }
                 if (took < best[0]) best[0] = took;
                 before = now();
-                if (rust_common(rust, count, &p->in, dq, p->unit, points) != tests) { fprintf(stderr, "\nbench: the Rust made other tests\n"); exit(1); }
+                if (rust_common(rust, count, &p->in, dq, p->unit, points) != tests) {
+                    fprintf(stderr, "\nbench: the Rust made other tests\n");
+                    exit(1);
+                }
                 took = now() - before;
                 if (took < best[1]) best[1] = took;
-                if (memcmp(point, points, n * sizeof(double))) { fprintf(stderr, "\nbench: other points\n"); exit(1); }
+                if (memcmp(point, points, n * sizeof(double))) {
+                    fprintf(stderr, "\nbench: other points\n");
+                    exit(1);
+                }
                 single = 0;
                 before = now();
                 for (size_t i = 0; i < count; i++) {
                     size_t at = p->at[i], m = p->at[i + 1] - at;
-                    Found one = spindle_backtrack_search(p->cone[i], true, dq + at, m, p->unit + at, m, points + at, m, p->in.settings);
+                    SpindleFound one =
+                        spindle_backtrack_search(p->cone[i], true, dq + at, m, p->unit + at, m, points + at, m, p->in.settings);
                     if (one.code) refused("backtrack_search", i, one.code);
                     single += one.count;
                 }
                 took = now() - before;
                 if (took < best[2]) best[2] = took;
             }
-            printf("  %24s %7zu %8u %8u %8.1f %15.1f %11.2f %24.1f %7u\n", "", count, trials[t], (unsigned)tests, best[0] * 1e6, best[0] * 1e9 / tests,
-                   best[0] / best[1], best[2] * 1e6, (unsigned)single);
+            printf("  %24s %7zu %8u %8u %8.1f %15.1f %11.2f %24.1f %7u\n", "", count, trials[t], (unsigned)tests, best[0] * 1e6,
+                   best[0] * 1e9 / tests, best[0] / best[1], best[2] * 1e6, (unsigned)single);
+        }
+}
+
+/* One step for both sides of the same plans, beside the two common steps that the sides take by themselves. The dual side stays inside: each trial tests every
+   cone on both sides. */
+static void plan_steps(const Plan *p)
+{
+    static const size_t counts[] = {225, 450, 900};
+    static const unsigned trials[] = {1, 5, 20};
+    size_t all = p->at[900];
+    double *dz = room(all * sizeof(double)), *ds = room(all * sizeof(double));
+    double *dual = room(all * sizeof(double)), *primal = room(all * sizeof(double)), *beside = room(all * sizeof(double));
+    printf("\nOne step for both sides, us    cones   trials    tests     port   ns for a test   two common steps, their tests\n");
+    for (size_t c = 0; c < 3; c++)
+        for (size_t t = 0; t < 3; t++) {
+            size_t count = counts[c], last = count - 1, n = p->at[count];
+            uint32_t tests = (uint32_t)(2 * count * trials[t]);
+            SpindleFound dual_own = {0}, primal_own = {0};
+            memset(ds, 0, all * sizeof(double));
+            direction(&p->cone[last], p->unit + p->at[last], trials[t], ds + p->at[last]);
+            double best[2] = {1e9, 1e9};
+            for (int turn = 0; turn < 9; turn++) {
+                double before = now();
+                SpindleFound found =
+                    spindle_plan_step(p->cone, count, dz, n, ds, n, p->unit, n, p->unit, n, dual, n, primal, n, p->in.settings);
+                double took = now() - before;
+                if (found.code) refused("plan_step", last, found.code);
+                if (found.count != tests) {
+                    fprintf(stderr, "\nbench: %u tests where %u were meant\n", (unsigned)found.count, (unsigned)tests);
+                    exit(1);
+                }
+                if (took < best[0]) best[0] = took;
+                before = now();
+                dual_own = spindle_common_step(p->cone, count, false, dz, n, p->unit, n, beside, n, p->in.settings);
+                primal_own = spindle_common_step(p->cone, count, true, ds, n, p->unit, n, beside, n, p->in.settings);
+                took = now() - before;
+                if (took < best[1]) best[1] = took;
+                if (dual_own.code || primal_own.code) refused("common_step", last, dual_own.code ? dual_own.code : primal_own.code);
+                if (memcmp(primal, beside, n * sizeof(double))) {
+                    fprintf(stderr, "\nbench: other points\n");
+                    exit(1);
+                }
+            }
+            printf("  %26s %7zu %8u %8u %8.1f %15.1f %18.1f %12u\n", "", count, trials[t], (unsigned)tests, best[0] * 1e6,
+                   best[0] * 1e9 / tests, best[1] * 1e6, (unsigned)(dual_own.count + primal_own.count));
         }
 }
 
@@ -635,16 +750,23 @@ static unsigned char painted[STACK] __attribute__((aligned(64)));
 static ucontext_t outside, inside;
 static int stack_entry;
 static Plan *stack_plan;
-static Scaling *stack_records;
+static SpindleScaling *stack_records;
 static Outputs stack_out;
 
-/* ENTRIES is the common step of the plan's one cone, which no round of the plan calls */
+/* the two steps of the plan's one cone, which no round of the plan calls */
+enum { COMMON_STEP = ENTRIES, PLAN_STEP, MEASURED };
+
 static void one_call(void)
 {
-    static double point[64];
+    static double point[64], second[64];
     size_t n = stack_plan->at[1];
-    if (stack_entry == ENTRIES) spindle_common_step(stack_plan->cone, 1, true, stack_plan->unit, n, stack_plan->unit, n, point, n, stack_plan->in.settings);
-    else if (stack_entry >= 0) port_entry(stack_records, stack_entry, &stack_plan->in, &stack_out);
+    const double *unit = stack_plan->unit;
+    if (stack_entry == PLAN_STEP)
+        spindle_plan_step(stack_plan->cone, 1, unit, n, unit, n, unit, n, unit, n, point, n, second, n, stack_plan->in.settings);
+    else if (stack_entry == COMMON_STEP)
+        spindle_common_step(stack_plan->cone, 1, true, unit, n, unit, n, point, n, stack_plan->in.settings);
+    else if (stack_entry >= 0)
+        port_entry(stack_records, stack_entry, &stack_plan->in, &stack_out);
 }
 
 static size_t stack_of(int entry)
@@ -664,11 +786,12 @@ static size_t stack_of(int entry)
 
 static void stacks(void)
 {
-    printf("\nBytes of structs by value: Cone %zu, Settings %zu, Scaling %zu, Updated %zu, DualGrad %zu, Steps %zu, Found %zu\n", sizeof(Cone), sizeof(Settings),
-           sizeof(Scaling), sizeof(Updated), sizeof(DualGrad), sizeof(Steps), sizeof(Found));
+    printf("\nBytes of structs by value: Cone %zu, Settings %zu, Scaling %zu, Updated %zu, DualGrad %zu, Steps %zu, Found %zu\n",
+           sizeof(SpindleCone), sizeof(SpindleSettings), sizeof(SpindleScaling), sizeof(SpindleUpdated), sizeof(SpindleDualGrad),
+           sizeof(SpindleSteps), sizeof(SpindleFound));
     printf("\nStack bytes of a call, with its arguments and its answer    3 numbers   64 numbers\n");
-    Cone cones[2] = { power(0.5), generalized(32, 32) };
-    size_t bytes[2][ENTRIES + 1];
+    SpindleCone cones[2] = {power(0.5), generalized(32, 32)};
+    size_t bytes[2][MEASURED];
     for (int c = 0; c < 2; c++) {
         Plan p = planned(&cones[c], 1);
         moved(&p);
@@ -676,14 +799,16 @@ static void stacks(void)
         stack_records = fresh_records(&p);
         stack_out = made_outputs(&p);
         size_t empty = stack_of(-1);
-        for (int entry = 0; entry <= ENTRIES; entry++) bytes[c][entry] = stack_of(entry) - empty;
+        for (int entry = 0; entry < MEASURED; entry++) bytes[c][entry] = stack_of(entry) - empty;
     }
-    for (int entry = 0; entry <= ENTRIES; entry++) {
-        printf("  %-46s", entry < ENTRIES ? entry_names[entry] : "common_step");
+    for (int entry = 0; entry < MEASURED; entry++) {
+        printf("  %-46s", entry < ENTRIES ? entry_names[entry] : entry == COMMON_STEP ? "common_step" : "plan_step");
         for (int c = 0; c < 2; c++) {
             int width = c ? 13 : 21;
-            if (entry == (c ? SHIFT : GRADIENT)) printf("%*s", width, "-");
-            else printf("%*zu", width, bytes[c][entry]);
+            if (entry == (c ? SHIFT : GRADIENT))
+                printf("%*s", width, "-");
+            else
+                printf("%*zu", width, bytes[c][entry]);
         }
         printf("\n");
     }
@@ -693,11 +818,13 @@ static void stacks(void)
 
 static void usage(FILE *to)
 {
-    fprintf(to, "bench [--rounds N] [--runs N] [--seed N] [--only port|rust|own] [--brief] [--margins]\n"
-                "  --rounds  rounds of the plan (60)\n  --runs    the plan is run so often, and the least time of each entry taken (5)\n"
-                "  --seed    of cones, points and directions (1)\n  --only    this side alone, no tables: for a profiler\n"
-                "  --brief   totals and entries alone\n"
-                "  --margins times nothing: how many trials of the plan are undecided where the Rust says yes or no, and how many steps change\n");
+    fprintf(
+        to,
+        "bench [--rounds N] [--runs N] [--seed N] [--only port|rust|own] [--brief] [--margins]\n"
+        "  --rounds  rounds of the plan (60)\n  --runs    the plan is run so often, and the least time of each entry taken (5)\n"
+        "  --seed    of cones, points and directions (1)\n  --only    this side alone, no tables: for a profiler\n"
+        "  --brief   totals and entries alone\n"
+        "  --margins times nothing: how many trials of the plan are undecided where the Rust says yes or no, and how many steps change\n");
 }
 
 int main(int count, char **words)
@@ -705,22 +832,35 @@ int main(int count, char **words)
     int rounds = 60, runs = 5, only = -1, brief = 0, margins = 0;
     for (int i = 1; i < count; i++) {
         const char *word = words[i], *value = i + 1 < count ? words[i + 1] : "";
-        if (!strcmp(word, "--rounds") && atoi(value) > 0) rounds = atoi(words[++i]);
-        else if (!strcmp(word, "--runs") && atoi(value) > 0) runs = atoi(words[++i]);
-        else if (!strcmp(word, "--seed") && *value) seed = strtoull(words[++i], 0, 10);
-        else if (!strcmp(word, "--only") && !strcmp(value, "port")) only = PORT, i++;
-        else if (!strcmp(word, "--only") && !strcmp(value, "rust")) only = RUST, i++;
-        else if (!strcmp(word, "--only") && !strcmp(value, "own")) only = OWN, i++;
-        else if (!strcmp(word, "--brief")) brief = 1;
-        else if (!strcmp(word, "--margins")) margins = 1;
-        else { usage(stderr); return 2; }
+        if (!strcmp(word, "--rounds") && atoi(value) > 0)
+            rounds = atoi(words[++i]);
+        else if (!strcmp(word, "--runs") && atoi(value) > 0)
+            runs = atoi(words[++i]);
+        else if (!strcmp(word, "--seed") && *value)
+            seed = strtoull(words[++i], 0, 10);
+        else if (!strcmp(word, "--only") && !strcmp(value, "port"))
+            only = PORT, i++;
+        else if (!strcmp(word, "--only") && !strcmp(value, "rust"))
+            only = RUST, i++;
+        else if (!strcmp(word, "--only") && !strcmp(value, "own"))
+            only = OWN, i++;
+        else if (!strcmp(word, "--brief"))
+            brief = 1;
+        else if (!strcmp(word, "--margins"))
+            margins = 1;
+        else {
+            usage(stderr);
+            return 2;
+        }
     }
 
-    Cone cones[900];
+    SpindleCone cones[900];
     size_t numbers = 0;
     for (size_t i = 0; i < 900; i++) {
-        if (i % 3 == 0) cones[i] = exponential;
-        else if (i % 3 == 1) cones[i] = power(between(0.1, 0.9));
+        if (i % 3 == 0)
+            cones[i] = exponential;
+        else if (i % 3 == 1)
+            cones[i] = power(between(0.1, 0.9));
         else {
             size_t dim1 = whole(2, 32), dim2 = whole(2, 32);
             cones[i] = generalized(dim1, dim2);
@@ -741,43 +881,48 @@ int main(int count, char **words)
 
     if (margins) {
         void *rust = rust_made(0, &p.in);
-        Changed c = { 0, 0, { 0, 0 }, 0 };
+        Changed c = {0, 0, {0, 0}, 0};
         for (int round = 0; round < rounds; round++) {
             moved(&p);
             rust_changed(rust, &p.in, &c);
         }
-        printf("%llu searches, %llu tests; undecided now: yes %llu, no %llu; other steps %llu\n", (unsigned long long)c.searches, (unsigned long long)c.tests,
-               (unsigned long long)c.turned[0], (unsigned long long)c.turned[1], (unsigned long long)c.steps);
+        printf("%llu searches, %llu tests; undecided now: yes %llu, no %llu; other steps %llu\n", (unsigned long long)c.searches,
+               (unsigned long long)c.tests, (unsigned long long)c.turned[0], (unsigned long long)c.turned[1], (unsigned long long)c.steps);
         return 0;
     }
 
-    printf("One plan: 900 cones (300 exponential, 300 power, 300 generalized of 4 to 64 numbers; %zu numbers), %d rounds; least of %d runs\n", numbers, rounds, runs);
+    printf(
+        "One plan: 900 cones (300 exponential, 300 power, 300 generalized of 4 to 64 numbers; %zu numbers), %d rounds; least of %d runs\n",
+        numbers, rounds, runs);
     Result r = least(&p, rounds, runs, 1);
     fprintf(stderr, "\r%70s\r", "");
     double sum[SIDES];
     for (int side = 0; side < SIDES; side++) sum[side] = total(&r, side);
     printf("The port and the Rust on its kernels leave the same bits: %016llX; every call done\n", (unsigned long long)r.bits);
-    printf("Tests in %zu searches: port %llu, Rust %llu, Rust on the platform's kernels %llu\n\n", r.searches, (unsigned long long)r.tests[PORT],
-           (unsigned long long)r.tests[RUST], (unsigned long long)r.tests[OWN]);
+    printf("Tests in %zu searches: port %llu, Rust %llu, Rust on the platform's kernels %llu\n\n", r.searches,
+           (unsigned long long)r.tests[PORT], (unsigned long long)r.tests[RUST], (unsigned long long)r.tests[OWN]);
     for (int side = 0; side < SIDES; side++)
         printf("  %d %-24s %9.1f ms   %5.2f us for a cone and round   port/this %.2f\n", side + 1, side_names[side], sum[side] * 1e3,
                sum[side] * 1e6 / 900 / rounds, sum[PORT] / sum[side]);
     printf("\nBy entry             port ms   share   Rust ms   own ms   port/Rust   port/own\n");
     for (int entry = 0; entry < ENTRIES; entry++) {
         double port = r.time[PORT][entry], rust = r.time[RUST][entry], own = r.time[OWN][entry];
-        printf("  %-18s %8.1f %5.1f %% %8.1f %8.1f %11.2f %10.2f\n", entry_names[entry], port * 1e3, 100 * port / sum[PORT], rust * 1e3, own * 1e3, port / rust, port / own);
+        printf("  %-18s %8.1f %5.1f %% %8.1f %8.1f %11.2f %10.2f\n", entry_names[entry], port * 1e3, 100 * port / sum[PORT], rust * 1e3,
+               own * 1e3, port / rust, port / own);
     }
     double passed = passing(&p, rounds);
     for (int run = 1; run < runs; run++) {
         double again = passing(&p, rounds);
         if (again < passed) passed = again;
     }
-    printf("  %-18s %8.1f %5.1f %%   (as many calls, of functions that do nothing)\n", "records by value", passed * 1e3, 100 * passed / sum[PORT]);
+    printf("  %-18s %8.1f %5.1f %%   (as many calls, of functions that do nothing)\n", "records by value", passed * 1e3,
+           100 * passed / sum[PORT]);
     if (!brief) {
         kernels(&p, rounds, sum[PORT]);
         sizes(rounds, runs);
         searches();
         commons(&p);
+        plan_steps(&p);
         stacks();
     }
     fprintf(stderr, "\r%70s\r", "");

@@ -28,7 +28,7 @@ for word in "$@"; do
 done
 [ $awaited = name ] || { echo "compare: the last word takes a value (try oracle/compare.sh --help)" >&2; exit 2; }
 mkdir -p target/oracle
-port=target/staticlib/libspindle.a
+port=target/native/libspindle.a
 program=target/oracle/compare
 if [ "${1:-}" = --standin ]; then
     shift
@@ -38,4 +38,4 @@ else
     sh build.sh --archive || exit 2
 fi
 oracle/repaired target/oracle/rust && oracle/build.sh target/oracle/rust "$port" "$program" || exit 2
-exec tools/x86 run "$program" "$@"
+exec tools/native run "$program" "$@"

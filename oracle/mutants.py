@@ -66,7 +66,7 @@ def wrong_ports(text, work, calls, only):
     build(text, "standin.c", program)
     whole = open(os.path.join(here, "standin.c"), encoding="utf-8").read()
     parts = [os.path.join(program + ".parts", name) for name in ("oracle.c", "oracle.o")]
-    x86, changed = os.path.join(root, "tools/x86"), os.path.join(work, "standin.c")
+    native, changed = os.path.join(root, "tools/native"), os.path.join(work, "standin.c")
     unseen = 0
     for name, old, new, _ in listed:
         if whole.count(old) != 1:
@@ -74,10 +74,10 @@ def wrong_ports(text, work, calls, only):
         with open(changed, "w", encoding="utf-8") as out:
             out.write(whole.replace(old, new))
         folders = ["-I" + os.path.join(root, "include"), "-I" + here]
-        made = subprocess.run([x86, "cc", program, *folders, "-w", os.path.join(here, "port.c"), *parts, changed, "-lm"])
+        made = subprocess.run([native, "cc", program, *folders, "-w", os.path.join(here, "port.c"), *parts, changed, "-lm"])
         if made.returncode:
             stop(f"the wrong port could not be built: {name}")
-        ran = subprocess.run([x86, "run", program, "--calls", str(calls)], capture_output=True, text=True)
+        ran = subprocess.run([native, "run", program, "--calls", str(calls)], capture_output=True, text=True)
         at = re.search(r"DIFFERENT at ((?:call|row|plan) \d+)", ran.stdout)
         unseen += not at
         print(f"refused at {at.group(1)}: {name}" if at else f"NOT REFUSED: {name}", flush=True)
@@ -123,7 +123,7 @@ def wrong_traces(work, only):
         for name, files, text in rows_of_files():
             if run(os.path.join(work, "sheet"), "text", *files).stdout != text:
                 return f"sheet {name}"
-        for what, job in (("rows", "play"), ("strings", "judge")):
+        for what, job in (("rows", "play"), ("puts", "puts"), ("strings", "judge")):
             wanted = expected(what)
             if run(os.path.join(work, "traces"), job, os.path.join(work, what)).stdout != wanted:
                 return what
@@ -226,7 +226,7 @@ def main():
         source, names, due = harness(text, work, words.only, words.part)
         program = os.path.join(work, "compare")
         build(text, "standin.c", program, SPINDLE_OPT="1", SPINDLE_HARNESS=source)
-        command = [os.path.join(root, "tools/x86"), "run", program, "--mutants", "0" if words.list else str(words.calls), "--seed", words.seed]
+        command = [os.path.join(root, "tools/native"), "run", program, "--mutants", "0" if words.list else str(words.calls), "--seed", words.seed]
         ran = subprocess.run(command + (["--entry", words.entry] if words.entry else []), capture_output=True, text=True)
         print(ran.stdout, end="")
         if ran.returncode:

@@ -1,20 +1,10 @@
 /* One call of the port through spindle.h, the guard around the Rust text, and what the harness takes from the C library. */
-#include "spindle.h"
+#include "port.h"
 #include <math.h>
 #include <stdio.h>
 #include <stdlib.h>
 #include <string.h>
 #include <time.h>
-
-#define SLICES 6
-#define BEFORE 4
-#define ROOM 76
-
-typedef struct { uint64_t len; double room[ROOM]; } Slice;
-typedef struct { uint32_t entry, option; Scaling record; Slice slices[SLICES]; double numbers[3]; } Call;
-typedef struct { uint32_t code, answer, counts[2]; double values[3]; Three three; Wide wide; Scaling record; } Reply;
-
-_Static_assert(sizeof(Call) == 4 + 4 + sizeof(Scaling) + SLICES * (8 + 8 * ROOM) + 24, "Call is laid out as in types.rs");
 
 #define IN(i) (call->slices[i].room + BEFORE), (size_t)call->slices[i].len
 
@@ -22,48 +12,102 @@ _Static_assert(sizeof(Call) == 4 + 4 + sizeof(Scaling) + SLICES * (8 + 8 * ROOM)
 static double root_by_each_name(double x)
 {
     double root = spindle_sqrt(x), plain = spindle_plain_sqrt(x);
-    Root table = spindle_table_sqrt(x);
+    SpindleRoot table = spindle_table_sqrt(x);
     bool stepped = x > 0 && x < __builtin_inf();
-    bool counted = stepped ? table.steps == 3 || table.steps == 4 : table.steps == 0;
+    bool counted = stepped ? table.steps == 4 || table.steps == 5 : table.steps == 0;
     return counted && !memcmp(&root, &plain, sizeof root) && !memcmp(&root, &table.root, sizeof root) ? root : -1;
 }
 
 void oracle_port(Call *call, Reply *reply)
 {
-    Cone cone = call->record.cone;
-    Settings settings = { call->numbers[0], call->numbers[1], call->numbers[2] };
+    SpindleCone cone = call->record.cone;
+    SpindleSettings settings = {call->numbers[0], call->numbers[1], call->numbers[2]};
     switch (call->entry) {
-    case 0: { Updated r = spindle_fresh(cone); reply->code = r.code; reply->record = r.record; break; }
-    case 1: { Verdict r = spindle_is_primal_feasible(cone, IN(0)); reply->code = r.code; reply->answer = r.answer; break; }
-    case 2: { Verdict r = spindle_is_dual_feasible(cone, IN(0)); reply->code = r.code; reply->answer = r.answer; break; }
-    case 3: { Number r = spindle_barrier_dual(cone, IN(0)); reply->code = r.code; reply->values[0] = r.value; break; }
-    case 4: { DualGrad r = spindle_dual_grad_h(cone, IN(0)); reply->code = r.code; reply->three = r.three; reply->wide = r.wide; break; }
-    case 5: { Settings r = spindle_house_settings(call->numbers[0]); reply->values[0] = r.start; reply->values[1] = r.step; reply->values[2] = r.smallest; break; }
+    case 0: {
+        SpindleUpdated r = spindle_fresh(cone);
+        reply->code = r.code;
+        reply->record = r.record;
+        break;
+    }
+    case 1: {
+        SpindleVerdict r = spindle_is_primal_feasible(cone, IN(0));
+        reply->code = r.code;
+        reply->answer = r.answer;
+        break;
+    }
+    case 2: {
+        SpindleVerdict r = spindle_is_dual_feasible(cone, IN(0));
+        reply->code = r.code;
+        reply->answer = r.answer;
+        break;
+    }
+    case 3: {
+        SpindleNumber r = spindle_barrier_dual(cone, IN(0));
+        reply->code = r.code;
+        reply->values[0] = r.value;
+        break;
+    }
+    case 4: {
+        SpindleDualGrad r = spindle_dual_grad_h(cone, IN(0));
+        reply->code = r.code;
+        reply->three = r.three;
+        reply->wide = r.wide;
+        break;
+    }
+    case 5: {
+        SpindleSettings r = spindle_house_settings(call->numbers[0]);
+        reply->values[0] = r.start;
+        reply->values[1] = r.step;
+        reply->values[2] = r.smallest;
+        break;
+    }
     case 6: {
-        Found r = spindle_backtrack_search(cone, call->option == 1, IN(0), IN(1), IN(2), settings);
-        reply->code = r.code; reply->counts[0] = r.count; reply->values[0] = r.step;
+        SpindleFound r = spindle_backtrack_search(cone, call->option == 1, IN(0), IN(1), IN(2), settings);
+        reply->code = r.code;
+        reply->counts[0] = r.count;
+        reply->values[0] = r.step;
         break;
     }
     case 7: {
-        Steps r = spindle_step_length(cone, IN(0), IN(1), IN(2), IN(3), IN(4), IN(5), settings);
-        reply->code = r.code; reply->counts[0] = r.dual_count; reply->counts[1] = r.primal_count;
-        reply->values[0] = r.dual_step; reply->values[1] = r.primal_step;
+        SpindleSteps r = spindle_step_length(cone, IN(0), IN(1), IN(2), IN(3), IN(4), IN(5), settings);
+        reply->code = r.code;
+        reply->counts[0] = r.dual_count;
+        reply->counts[1] = r.primal_count;
+        reply->values[0] = r.dual_step;
+        reply->values[1] = r.primal_step;
         break;
     }
     case 8: reply->code = spindle_unit_initialization(cone, IN(0), IN(1)); break;
-    case 9: { YesNo r = spindle_rectify_equilibration(cone, IN(0), IN(1)); reply->code = r.code; reply->answer = r.yes; break; }
+    case 9: {
+        SpindleYesNo r = spindle_rectify_equilibration(cone, IN(0), IN(1));
+        reply->code = r.code;
+        reply->answer = r.yes;
+        break;
+    }
     case 10: reply->code = spindle_affine_ds(cone, IN(0), IN(1)); break;
     case 11: reply->code = spindle_ds_from_dz_offset(cone, IN(0), IN(1), IN(2)); break;
     case 12: {
-        Updated r = spindle_update_scaling(call->record, IN(0), IN(1), call->numbers[0], call->option);
-        reply->code = r.code; reply->record = r.record;
+        SpindleUpdated r = spindle_update_scaling(call->record, IN(0), IN(1), call->numbers[0], call->option);
+        reply->code = r.code;
+        reply->record = r.record;
         break;
     }
-    case 13: { Rounds r = spindle_gradient_primal(call->record, IN(0), IN(1)); reply->code = r.code; reply->counts[0] = r.rounds; break; }
-    case 14: { Number r = spindle_barrier_primal(call->record, IN(0)); reply->code = r.code; reply->values[0] = r.value; break; }
+    case 13: {
+        SpindleRounds r = spindle_gradient_primal(call->record, IN(0), IN(1));
+        reply->code = r.code;
+        reply->counts[0] = r.rounds;
+        break;
+    }
+    case 14: {
+        SpindleNumber r = spindle_barrier_primal(call->record, IN(0));
+        reply->code = r.code;
+        reply->values[0] = r.value;
+        break;
+    }
     case 15: {
-        Number r = spindle_compute_barrier(call->record, IN(0), IN(1), IN(2), IN(3), call->numbers[0]);
-        reply->code = r.code; reply->values[0] = r.value;
+        SpindleNumber r = spindle_compute_barrier(call->record, IN(0), IN(1), IN(2), IN(3), call->numbers[0]);
+        reply->code = r.code;
+        reply->values[0] = r.value;
         break;
     }
     case 16: reply->code = spindle_get_hs(call->record, call->option, IN(0)); break;
@@ -77,12 +121,33 @@ void oracle_port(Call *call, Reply *reply)
     }
 }
 
-/* Order 10 of document 02: a plan's call, whose list and slices have no room in a Call */
-typedef struct { const Cone *cones; uint64_t ncones; const double *dq; uint64_t ndq; const double *q; uint64_t nq; double *point; uint64_t np; Settings settings; uint32_t primal; } PlanCall;
+/* A plan's call, whose list and slices have no room in a Call: of one side as Order 10 of document 02 has it, or of both, the dual one first. */
+typedef struct {
+    const double *dq;
+    uint64_t ndq;
+    const double *q;
+    uint64_t nq;
+    double *point;
+    uint64_t np;
+} SideCall;
 
-void oracle_common(const PlanCall *call, Found *found)
+typedef struct {
+    const SpindleCone *cones;
+    uint64_t ncones;
+    SideCall sides[2];
+    SpindleSettings settings;
+    uint32_t nsides, primal;
+} PlanCall;
+
+void oracle_plan(const PlanCall *call, SpindleFound *found)
 {
-    *found = spindle_common_step(call->cones, call->ncones, call->primal == 1, call->dq, call->ndq, call->q, call->nq, call->point, call->np, call->settings);
+    const SideCall *first = &call->sides[0], *second = &call->sides[1];
+    if (call->nsides == 1)
+        *found = spindle_common_step(call->cones, call->ncones, call->primal == 1, first->dq, first->ndq, first->q, first->nq, first->point,
+                                     first->np, call->settings);
+    else
+        *found = spindle_plan_step(call->cones, call->ncones, first->dq, first->ndq, second->dq, second->ndq, first->q, first->nq,
+                                   second->q, second->nq, first->point, first->np, second->point, second->np, call->settings);
 }
 
 /* A panic of the Rust text comes back to the guard around it; any other panic is a fault of the harness. */
@@ -92,7 +157,10 @@ static int guarded;
 uint32_t oracle_guard(void (*f)(uint8_t *), uint8_t *arg)
 {
     guarded = 1;
-    if (__builtin_setjmp(place)) { guarded = 0; return 1; }
+    if (__builtin_setjmp(place)) {
+        guarded = 0;
+        return 1;
+    }
     f(arg);
     guarded = 0;
     return 0;
@@ -101,7 +169,8 @@ uint32_t oracle_guard(void (*f)(uint8_t *), uint8_t *arg)
 __attribute__((noreturn)) void oracle_panicked(const char *core_function)
 {
     /* `panic!` and `assert!` of the text come by these two; an index out of range is none of the text's panics */
-    if (guarded && (strstr(core_function, "9panicking9panic_fmt") || strstr(core_function, "9panicking5panic"))) __builtin_longjmp(place, 1);
+    if (guarded && (strstr(core_function, "9panicking9panic_fmt") || strstr(core_function, "9panicking5panic")))
+        __builtin_longjmp(place, 1);
     printf("the harness panicked in %s\n", core_function);
     fflush(0);
     exit(3);
@@ -115,15 +184,19 @@ void say_bits(uint64_t bits) { printf("%016llX", (unsigned long long)bits); }
 void say_flush(void) { fflush(0); }
 
 static FILE *written;
-uint32_t file_open(const char *name) { written = fopen(name, "wb"); return written != 0; }
+uint32_t file_open(const char *name)
+{
+    written = fopen(name, "wb");
+    return written != 0;
+}
 void file_words(const uint64_t *words, size_t count) { fwrite(words, 8, count, written); }
 void file_text(const char *text, size_t length) { fwrite(text, 1, length, written); }
 uint32_t file_close(void) { return fclose(written) == 0; }
 
 uint64_t seconds(void) { return (uint64_t)time(0); }
 
-/* what a kernel is held to: the processor's root and the C library's functions, which err by less than a unit in the last place */
-double near_sqrt(double x) { double r; __asm__("sqrtsd %1, %0" : "=x"(r) : "x"(x)); return r; }
+/* what a kernel is held to: the C library's functions; its root is the nearest double, the others err by less than a unit in the last place */
+double near_sqrt(double x) { return sqrt(x); }
 double near_log(double x) { return log(x); }
 double near_exp(double x) { return exp(x); }
 

@@ -6,10 +6,10 @@
 #include <stdio.h>
 #include <string.h>
 
-#define MOST 4096     /* "At most 4,096 records" */
-#define TRAILER 20    /* "a 20-byte trailer" */
-#define NEWEST 3      /* Order 9: "New traces are edition 3" */
-#define LONGEST 2380  /* a record of kind 3 with both dims 32 and flag 0, of edition 3 */
+#define MOST 4096    /* "At most 4,096 records" */
+#define TRAILER 20   /* "a 20-byte trailer" */
+#define NEWEST 3     /* Order 9: "New traces are edition 3" */
+#define LONGEST 2380 /* a record of kind 3 with both dims 32 and flag 0, of edition 3 */
 
 /* The logic has one NaN (docs/DECISIONS.md): every NaN is read and written as this one. */
 static uint64_t bits_of(double x)
@@ -29,7 +29,11 @@ static double double_of(uint64_t bits)
 
 /* ---- reading, number by number, up to an end */
 
-typedef struct { const uint8_t *bytes; size_t at, end; bool cut; } In;
+typedef struct {
+    const uint8_t *bytes;
+    size_t at, end;
+    bool cut;
+} In;
 
 static uint64_t whole(In *in, size_t n)
 {
@@ -55,13 +59,13 @@ static void row(In *in, double *to, size_t n)
 }
 
 /* "kind, dim1, dim2 (u32 each; 3 and 0 for kinds 1 and 2)"; document 01: dims of kind 3 are 1 to 32 */
-static bool shaped(const Cone *c)
+static bool shaped(const SpindleCone *c)
 {
     if (c->kind == 3) return c->dim1 - 1 < 32 && c->dim2 - 1 < 32;
     return (c->kind == 1 || c->kind == 2) && c->dim1 == 3 && c->dim2 == 0;
 }
 /* "exponents (none, one or dim1)" */
-static size_t exponents(const Cone *c) { return c->kind == 3 ? c->dim1 : c->kind - 1; }
+static size_t exponents(const SpindleCone *c) { return c->kind == 3 ? c->dim1 : c->kind - 1; }
 /* "a step is +0 or positive and finite" */
 static bool stepped(double x) { return !__builtin_signbit(x) && x - x == 0; }
 
@@ -70,9 +74,9 @@ static bool known(uint32_t edition) { return edition - 1 < NEWEST; }
 /* Order 9: "edition 3, with the rule (u32) after dim2"; "cones from editions 1 and 2 are under rule 1" */
 static bool has_rule(uint32_t edition) { return edition >= 3; }
 
-static bool record(In *in, uint32_t edition, Recorded *r)
+static bool record(In *in, uint32_t edition, SpindleRecorded *r)
 {
-    static const Recorded none;
+    static const SpindleRecorded none;
     *r = none;
     r->at = in->at;
     if (!mark(in, "STEP")) return false;
@@ -103,23 +107,24 @@ static bool record(In *in, uint32_t edition, Recorded *r)
     r->steps.dual_count = (uint32_t)whole(in, 4);
     row(in, &r->steps.primal_step, 1);
     r->steps.primal_count = (uint32_t)whole(in, 4);
+    r->next = in->at;
     return !in->cut && in->at - r->at == length && stepped(r->steps.dual_step) && stepped(r->steps.primal_step);
 }
 
 /* Whether the bytes are a trace; if so its edition and count, where its list stands, and record i where there is one. */
-static bool judge(const uint8_t *bytes, size_t n, uint32_t i, uint32_t *edition, uint32_t *count, size_t *list, Recorded *kept)
+static bool judge(const uint8_t *bytes, size_t n, uint32_t i, uint32_t *edition, uint32_t *count, size_t *list, SpindleRecorded *kept)
 {
     if (n < TRAILER) return false;
-    In trailer = { bytes, n - TRAILER, n, false };
+    In trailer = {bytes, n - TRAILER, n, false};
     uint64_t at = whole(&trailer, 8);
     *count = (uint32_t)whole(&trailer, 4);
     *edition = (uint32_t)whole(&trailer, 4);
     if (!mark(&trailer, "BACK") || !known(*edition) || *count > MOST) return false;
     if (8 * (size_t)*count > n - TRAILER || at != n - TRAILER - 8 * (size_t)*count) return false;
     *list = (size_t)at;
-    In records = { bytes, 0, *list, false }, entries = { bytes, *list, n - TRAILER, false };
+    In records = {bytes, 0, *list, false}, entries = {bytes, *list, n - TRAILER, false};
     for (uint32_t k = 0; k < *count; k++) {
-        Recorded r;
+        SpindleRecorded r;
         if (whole(&entries, 8) != records.at || !record(&records, *edition, &r)) return false;
         if (k == i) *kept = r;
     }
@@ -128,7 +133,10 @@ static bool judge(const uint8_t *bytes, size_t n, uint32_t i, uint32_t *edition,
 
 /* ---- writing, number by number */
 
-typedef struct { uint8_t *bytes; size_t at; } Out;
+typedef struct {
+    uint8_t *bytes;
+    size_t at;
+} Out;
 
 static void put(Out *out, size_t n, uint64_t x)
 {
@@ -154,35 +162,30 @@ static void put_trailer(Out *out, uint64_t list, uint32_t count, uint32_t editio
 
 /* ---- the calls */
 
-Written spindle_trace_create(uint8_t *trace, size_t room)
+SpindleWritten spindle_trace_create(uint8_t *trace, size_t room)
 {
-    Out out = { trace, 0 };
-    Written w = { room < TRAILER ? 8 : 0, 0 };
+    Out out = {trace, 0};
+    SpindleWritten w = {room < TRAILER ? 8 : 0, 0};
     if (w.code) return w;
     put_trailer(&out, 0, 0, NEWEST);
     w.length = out.at;
     return w;
 }
 
-Written spindle_trace_append(uint8_t *trace, size_t room, size_t used, Cone cone, uint32_t flag, Settings settings, const double *dz, size_t ndz,
-                             const double *ds, size_t nds, const double *z, size_t nz, const double *s, size_t ns, Steps steps)
+/* The record's bytes in an edition that is known, one number behind the other, and their length; 0 where it cannot be laid out. */
+static size_t lay(uint8_t *laid, uint32_t edition, SpindleCone cone, uint32_t flag, SpindleSettings settings, const double *dz, size_t ndz,
+                  const double *ds, size_t nds, const double *z, size_t nz, const double *s, size_t ns, SpindleSteps steps)
 {
-    static const Written refused_8 = { 8, 0 }, refused_9 = { 9, 0 };
-    uint32_t edition, count;
-    size_t list;
-    Recorded none;
-    if (used > room || !judge(trace, used, MOST, &edition, &count, &list, &none)) return refused_9;
     if (cone.kind == 1 || cone.kind == 2) {
         cone.dim1 = 3;
         cone.dim2 = 0;
     }
-    if (!has_rule(edition) && cone.rule != 1) return refused_9; /* it would be read back under rule 1 */
-    if (!shaped(&cone) || flag > 1 || !stepped(steps.dual_step) || !stepped(steps.primal_step)) return refused_9;
+    if (!has_rule(edition) && cone.rule != 1) return 0; /* it would be read back under rule 1 */
+    if (!shaped(&cone) || flag > 1 || !stepped(steps.dual_step) || !stepped(steps.primal_step)) return 0;
     size_t n = cone.dim1 + cone.dim2;
-    if (ndz != n || nds != n || nz != n || ns != n) return refused_9;
+    if (ndz != n || nds != n || nz != n || ns != n) return 0;
 
-    uint8_t laid[LONGEST];
-    Out out = { laid, 0 };
+    Out out = {laid, 0};
     put_mark(&out, "STEP");
     put(&out, 4, 0); /* the length, once it is known */
     put(&out, 4, cone.kind);
@@ -207,52 +210,109 @@ Written spindle_trace_append(uint8_t *trace, size_t room, size_t used, Cone cone
     size_t length = out.at;
     out.at = 4;
     put(&out, 4, length);
+    return length;
+}
 
+SpindleWritten spindle_trace_append(uint8_t *trace, size_t room, size_t used, SpindleCone cone, uint32_t flag, SpindleSettings settings,
+                                    const double *dz, size_t ndz, const double *ds, size_t nds, const double *z, size_t nz, const double *s,
+                                    size_t ns, SpindleSteps steps)
+{
+    static const SpindleWritten refused_8 = {8, 0}, refused_9 = {9, 0};
+    uint32_t edition, count;
+    size_t list;
+    SpindleRecorded none;
+    uint8_t laid[LONGEST];
+    if (used > room || !judge(trace, used, MOST, &edition, &count, &list, &none)) return refused_9;
+    size_t length = lay(laid, edition, cone, flag, settings, dz, ndz, ds, nds, z, nz, s, ns, steps);
+    if (!length) return refused_9;
     if (count == MOST || room - used < length + 8) return refused_8;
     memmove(trace + list + length, trace + list, 8 * (size_t)count);
     memcpy(trace + list, laid, length);
-    Out end = { trace, list + length + 8 * (size_t)count };
+    Out end = {trace, list + length + 8 * (size_t)count};
     put(&end, 8, list);
     put_trailer(&end, list + length, count + 1, edition);
-    Written w = { 0, end.at };
+    SpindleWritten w = {0, end.at};
     return w;
 }
 
-Opened spindle_trace_open(const uint8_t *trace, size_t n)
+/* ---- recording as searches are made: from the words of spindle.h */
+
+SpindleWritten spindle_record_put(uint8_t *bytes, size_t room, size_t at, uint32_t edition, SpindleCone cone, uint32_t flag,
+                                  SpindleSettings settings, const double *dz, size_t ndz, const double *ds, size_t nds, const double *z,
+                                  size_t nz, const double *s, size_t ns, SpindleSteps steps)
+{
+    static const SpindleWritten refused_8 = {8, 0}, refused_9 = {9, 0};
+    uint8_t laid[LONGEST];
+    size_t length = known(edition) ? lay(laid, edition, cone, flag, settings, dz, ndz, ds, nds, z, nz, s, ns, steps) : 0;
+    if (!length || at > room) return refused_9;
+    if (room - at < length) return refused_8;
+    memcpy(bytes + at, laid, length);
+    SpindleWritten w = {0, at + length};
+    return w;
+}
+
+SpindleRecorded spindle_record_at(const uint8_t *bytes, size_t n, uint32_t edition, size_t at)
+{
+    SpindleRecorded r, refused = {.code = 9};
+    In in = {bytes, at, n, false};
+    return known(edition) && at <= n && record(&in, edition, &r) ? r : refused;
+}
+
+SpindleWritten spindle_trace_seal(uint8_t *bytes, size_t room, size_t used, uint32_t edition)
+{
+    static const SpindleWritten refused_8 = {8, 0}, refused_9 = {9, 0};
+    if (!known(edition) || used > room) return refused_9;
+    uint64_t offsets[MOST];
+    uint32_t count = 0;
+    In in = {bytes, 0, used, false};
+    for (SpindleRecorded r; in.at < used; count++) {
+        if (count == MOST || !record(&in, edition, &r)) return refused_9;
+        offsets[count] = r.at;
+    }
+    if (room - used < 8 * (size_t)count + TRAILER) return refused_8;
+    Out out = {bytes, used};
+    for (uint32_t i = 0; i < count; i++) put(&out, 8, offsets[i]);
+    put_trailer(&out, used, count, edition);
+    SpindleWritten w = {0, out.at};
+    return w;
+}
+
+SpindleOpened spindle_trace_open(const uint8_t *trace, size_t n)
 {
     uint32_t edition, count;
     size_t list;
-    Recorded none;
-    Opened refused = { 9, 0, 0 };
+    SpindleRecorded none;
+    SpindleOpened refused = {9, 0, 0};
     if (!judge(trace, n, MOST, &edition, &count, &list, &none)) return refused;
-    Opened o = { 0, edition, count };
+    SpindleOpened o = {0, edition, count};
     return o;
 }
 
-Recorded spindle_trace_record(const uint8_t *trace, size_t n, uint32_t i)
+SpindleRecorded spindle_trace_record(const uint8_t *trace, size_t n, uint32_t i)
 {
     uint32_t edition, count;
     size_t list;
-    Recorded r, refused = { .code = 9 };
+    SpindleRecorded r, refused = {.code = 9};
     return judge(trace, n, i, &edition, &count, &list, &r) && i < count ? r : refused;
 }
 
 /* "run every search again, compare steps and counts bit for bit"; the search is whoever's is linked */
-Replayed spindle_replay(const uint8_t *trace, size_t n, uint64_t *at, size_t nat)
+SpindleReplayed spindle_replay(const uint8_t *trace, size_t n, uint64_t *at, size_t nat)
 {
-    static const Replayed refused_8 = { 8, 0, 0, 0 }, refused_9 = { 9, 0, 0, 0 };
-    Opened o = spindle_trace_open(trace, n);
+    static const SpindleReplayed refused_8 = {8, 0, 0, 0}, refused_9 = {9, 0, 0, 0};
+    SpindleOpened o = spindle_trace_open(trace, n);
     if (o.code) return refused_9;
-    Replayed r = { 0, o.records, 0, 0 };
+    SpindleReplayed r = {0, o.records, 0, 0};
     for (int writing = 0; writing < 2; writing++) {
         r.differ = 0;
         for (uint32_t i = 0; i < o.records; i++) {
-            Recorded k = spindle_trace_record(trace, n, i);
+            SpindleRecorded k = spindle_trace_record(trace, n, i);
             size_t m = k.cone.dim1 + k.cone.dim2;
             double dual[64], primal[64];
-            Steps s = spindle_step_length(k.cone, k.dz, m, k.ds, m, k.z, m, k.s, m, dual, m, primal, m, k.settings);
+            SpindleSteps s = spindle_step_length(k.cone, k.dz, m, k.ds, m, k.z, m, k.s, m, dual, m, primal, m, k.settings);
             if (s.code == 0 && bits_of(s.dual_step) == bits_of(k.steps.dual_step) && s.dual_count == k.steps.dual_count
-                && bits_of(s.primal_step) == bits_of(k.steps.primal_step) && s.primal_count == k.steps.primal_count) continue;
+                && bits_of(s.primal_step) == bits_of(k.steps.primal_step) && s.primal_count == k.steps.primal_count)
+                continue;
             if (writing) at[r.differ] = k.at;
             r.differ++;
         }
@@ -265,23 +325,23 @@ Replayed spindle_replay(const uint8_t *trace, size_t n, uint64_t *at, size_t nat
 /* "keep every whole record until the first that is cut or malformed, write a good list and trailer"; the records are read number by number and their bytes
    copied. "A good trace comes out byte for byte with 0 dropped." Order 8: "Rescue keeps the edition if the input ends in a known edition and `BACK`, and
    otherwise takes it from its caller" */
-Rescued spindle_rescue(const uint8_t *input, size_t n, uint8_t *output, size_t room, uint32_t edition)
+SpindleRescued spindle_rescue(const uint8_t *input, size_t n, uint8_t *output, size_t room, uint32_t edition)
 {
-    static const Rescued refused = { 8, 0, 0, 0, false }, refused_9 = { 9, 0, 0, 0, false };
-    Opened o = spindle_trace_open(input, n);
+    static const SpindleRescued refused = {8, 0, 0, 0, false}, refused_9 = {9, 0, 0, 0, false};
+    SpindleOpened o = spindle_trace_open(input, n);
     if (o.code == 0) {
         if (room < n) return refused;
         memcpy(output, input, n);
-        Rescued r = { 0, o.records, 0, n, true };
+        SpindleRescued r = {0, o.records, 0, n, true};
         return r;
     }
-    In last = { input, n < 8 ? n : n - 8, n, false };
+    In last = {input, n < 8 ? n : n - 8, n, false};
     uint32_t own = (uint32_t)whole(&last, 4);
     if (mark(&last, "BACK") && known(own)) edition = own;
     if (!known(edition)) return refused_9;
-    static uint64_t begins[MOST];
-    In in = { input, 0, n, false };
-    Recorded one;
+    uint64_t begins[MOST];
+    In in = {input, 0, n, false};
+    SpindleRecorded one;
     uint32_t kept = 0;
     size_t end = 0;
     while (kept < MOST && record(&in, edition, &one)) { /* "a 4,097th record counts as bad" */
@@ -289,26 +349,31 @@ Rescued spindle_rescue(const uint8_t *input, size_t n, uint8_t *output, size_t r
         end = in.at;
     }
     if (room < end + 8 * (size_t)kept + TRAILER) return refused;
-    Out out = { output, end };
+    Out out = {output, end};
     memcpy(output, input, end);
     for (uint32_t i = 0; i < kept; i++) put(&out, 8, begins[i]);
     put_trailer(&out, end, kept, edition);
-    Rescued r = { 0, kept, n - end, out.at, false };
+    SpindleRescued r = {0, kept, n - end, out.at, false};
     return r;
 }
 
 /* ---- thin: "write one in which a record byte-equal to an earlier kept record is dropped, the others in their old order, offsets and trailer new, edition
    kept". Each record is compared with every kept one before it, and nothing else is kept of them than where they begin and end. */
-typedef struct { Opened opened; uint32_t kept; size_t length; uint64_t begins[MOST], ends[MOST]; } Thin;
+typedef struct {
+    SpindleOpened opened;
+    uint32_t kept;
+    size_t length;
+    uint64_t begins[MOST], ends[MOST];
+} Thin;
 
 static void first_of_each(const uint8_t *trace, size_t n, Thin *t)
 {
     t->opened = spindle_trace_open(trace, n);
     t->kept = 0;
     t->length = TRAILER;
-    In in = { trace, 0, n, false };
+    In in = {trace, 0, n, false};
     for (uint32_t i = 0; t->opened.code == 0 && i < t->opened.records; i++) {
-        Recorded one;
+        SpindleRecorded one;
         size_t at = in.at;
         record(&in, t->opened.edition, &one);
         uint32_t k = 0;
@@ -321,9 +386,9 @@ static void first_of_each(const uint8_t *trace, size_t n, Thin *t)
     }
 }
 /* `to` may be where the records stand: each goes down, or stays */
-static Thinned written_down(const uint8_t *trace, uint8_t *to, Thin *t)
+static SpindleThinned written_down(const uint8_t *trace, uint8_t *to, Thin *t)
 {
-    Out out = { to, 0 };
+    Out out = {to, 0};
     for (uint32_t k = 0; k < t->kept; k++) {
         size_t length = t->ends[k] - t->begins[k], at = out.at;
         memmove(to + at, trace + t->begins[k], length);
@@ -333,23 +398,23 @@ static Thinned written_down(const uint8_t *trace, uint8_t *to, Thin *t)
     size_t end = out.at;
     for (uint32_t k = 0; k < t->kept; k++) put(&out, 8, t->begins[k]);
     put_trailer(&out, end, t->kept, t->opened.edition);
-    Thinned r = { 0, t->kept, t->opened.records - t->kept, out.at };
+    SpindleThinned r = {0, t->kept, t->opened.records - t->kept, out.at};
     return r;
 }
-Thinned spindle_thin(const uint8_t *trace, size_t n, uint8_t *output, size_t room)
+SpindleThinned spindle_thin(const uint8_t *trace, size_t n, uint8_t *output, size_t room)
 {
-    static Thin t;
+    Thin t;
     first_of_each(trace, n, &t);
-    Thinned refused = { t.opened.code ? 9 : 8, 0, 0, 0 };
+    SpindleThinned refused = {t.opened.code ? 9 : 8, 0, 0, 0};
     return t.opened.code || room < t.length ? refused : written_down(trace, output, &t);
 }
 /* "inside one buffer, where the freed tail bytes are set to zero" */
-Thinned spindle_thin_in_place(uint8_t *trace, size_t n)
+SpindleThinned spindle_thin_in_place(uint8_t *trace, size_t n)
 {
-    static Thin t;
+    Thin t;
     first_of_each(trace, n, &t);
-    if (t.opened.code) return (Thinned){ 9, 0, 0, 0 };
-    Thinned r = written_down(trace, trace, &t);
+    if (t.opened.code) return (SpindleThinned){9, 0, 0, 0};
+    SpindleThinned r = written_down(trace, trace, &t);
     memset(trace + r.length, 0, n - r.length);
     return r;
 }
@@ -365,24 +430,22 @@ static int place_of(double step)
     for (; step < 1; e--) step *= 2;
     return e + 1024;
 }
-static void larger(Largest *kept, uint64_t tests, uint64_t file, uint64_t at)
+static void larger(SpindleLargest *kept, uint64_t tests, uint64_t file, uint64_t at)
 {
-    if (tests + 1 > kept->size) *kept = (Largest){ tests + 1, file, at }; /* "the first record that has it" */
+    if (tests + 1 > kept->size) *kept = (SpindleLargest){tests + 1, file, at}; /* "the first record that has it" */
 }
-static bool rows_fit(const Totals *t, size_t nd, size_t np, size_t ns)
+static bool rows_fit(const SpindleTotals *t, size_t nd, size_t np, size_t ns)
 {
     return nd == SPINDLE_SHEET_PLACES && np == SPINDLE_SHEET_PLACES && t->files <= ns;
 }
 /* in one of so many files; one of size 0 is none */
-static bool stands(Largest t, uint32_t files)
-{
-    return t.size == 0 || (t.file != 0 && t.file <= files);
-}
+static bool stands(SpindleLargest t, uint32_t files) { return t.size == 0 || (t.file != 0 && t.file <= files); }
 
-Totals spindle_sheet_join(Totals sheet, uint64_t *dual, size_t nd, uint64_t *primal, size_t np, uint8_t *skipped, size_t ns,
-                          Totals second, const uint64_t *dual2, size_t nd2, const uint64_t *primal2, size_t np2, const uint8_t *skipped2, size_t ns2)
+SpindleTotals spindle_sheet_join(SpindleTotals sheet, uint64_t *dual, size_t nd, uint64_t *primal, size_t np, uint8_t *skipped, size_t ns,
+                                 SpindleTotals second, const uint64_t *dual2, size_t nd2, const uint64_t *primal2, size_t np2,
+                                 const uint8_t *skipped2, size_t ns2)
 {
-    static const Totals refused_2 = { .code = 2 }, refused_8 = { .code = 8 }, refused_9 = { .code = 9 };
+    static const SpindleTotals refused_2 = {.code = 2}, refused_8 = {.code = 8}, refused_9 = {.code = 9};
     if (!rows_fit(&sheet, nd, np, ns) || !rows_fit(&second, nd2, np2, ns2)) return refused_2;
     if (!stands(second.dual, second.files) || !stands(second.primal, second.files)) return refused_9;
     uint64_t files = (uint64_t)sheet.files + second.files;
@@ -394,31 +457,33 @@ Totals spindle_sheet_join(Totals sheet, uint64_t *dual, size_t nd, uint64_t *pri
         primal[k] += primal2[k];
     }
     memcpy(skipped + sheet.files, skipped2, second.files);
-    Totals t = { 0, (uint32_t)files, sheet.records + second.records, sheet.dual, sheet.primal };
+    SpindleTotals t = {0, (uint32_t)files, sheet.records + second.records, sheet.dual, sheet.primal};
     if (second.dual.size) larger(&t.dual, second.dual.size - 1, second.dual.file + sheet.files, second.dual.at);
     if (second.primal.size) larger(&t.primal, second.primal.size - 1, second.primal.file + sheet.files, second.primal.at);
     return t;
 }
 
-Totals spindle_sheet_add(Totals sheet, uint64_t *dual, size_t nd, uint64_t *primal, size_t np, uint8_t *skipped, size_t ns, const uint8_t *file, size_t n)
+SpindleTotals spindle_sheet_add(SpindleTotals sheet, uint64_t *dual, size_t nd, uint64_t *primal, size_t np, uint8_t *skipped, size_t ns,
+                                const uint8_t *file, size_t n)
 {
-    static uint64_t duals[SPINDLE_SHEET_PLACES], primals[SPINDLE_SHEET_PLACES];
+    uint64_t duals[SPINDLE_SHEET_PLACES], primals[SPINDLE_SHEET_PLACES];
     memset(duals, 0, sizeof duals);
     memset(primals, 0, sizeof primals);
-    Opened o = spindle_trace_open(file, n);
+    SpindleOpened o = spindle_trace_open(file, n);
     uint8_t flag = o.code != 0 || n > 65536;
-    Totals one = { .files = 1, .records = flag ? 0 : o.records };
+    SpindleTotals one = {.files = 1, .records = flag ? 0 : o.records};
     for (uint32_t i = 0; i < one.records; i++) {
-        Recorded r = spindle_trace_record(file, n, i);
+        SpindleRecorded r = spindle_trace_record(file, n, i);
         duals[place_of(r.steps.dual_step)]++;
         primals[place_of(r.steps.primal_step)]++;
         larger(&one.dual, r.steps.dual_count, 1, r.at);
         larger(&one.primal, r.steps.primal_count, 1, r.at);
     }
-    return spindle_sheet_join(sheet, dual, nd, primal, np, skipped, ns, one, duals, SPINDLE_SHEET_PLACES, primals, SPINDLE_SHEET_PLACES, &flag, 1);
+    return spindle_sheet_join(sheet, dual, nd, primal, np, skipped, ns, one, duals, SPINDLE_SHEET_PLACES, primals, SPINDLE_SHEET_PLACES,
+                              &flag, 1);
 }
 
-static size_t side_lines(char *to, const char *name, uint64_t records, const uint64_t *row, Largest most)
+static size_t side_lines(char *to, const char *name, uint64_t records, const uint64_t *row, SpindleLargest most)
 {
     char *at = to;
     at += sprintf(at, "%s records %" PRIu64 "\n%s zero %" PRIu64 "\n", name, records, name, row[0]);
@@ -429,11 +494,11 @@ static size_t side_lines(char *to, const char *name, uint64_t records, const uin
     return (size_t)(at - to);
 }
 
-Printed spindle_sheet_text(uint8_t *text, size_t room, Totals sheet, const uint64_t *dual, size_t nd, const uint64_t *primal, size_t np,
-                           const uint8_t *skipped, size_t ns)
+SpindlePrinted spindle_sheet_text(uint8_t *text, size_t room, SpindleTotals sheet, const uint64_t *dual, size_t nd, const uint64_t *primal,
+                                  size_t np, const uint8_t *skipped, size_t ns)
 {
-    static const Printed refused_2 = { 2, 0 }, refused_8 = { 8, 0 }, refused_9 = { 9, 0 };
-    static char lines[SPINDLE_SHEET_TEXT];
+    static const SpindlePrinted refused_2 = {2, 0}, refused_8 = {8, 0}, refused_9 = {9, 0};
+    char lines[SPINDLE_SHEET_TEXT];
     if (!rows_fit(&sheet, nd, np, ns)) return refused_2;
     if (sheet.files > SPINDLE_SHEET_FILES) return refused_9;
     if (room < SPINDLE_SHEET_TEXT) return refused_8;
@@ -443,6 +508,6 @@ Printed spindle_sheet_text(uint8_t *text, size_t room, Totals sheet, const uint6
     n += side_lines(lines + n, "dual", sheet.records, dual, sheet.dual);
     n += side_lines(lines + n, "primal", sheet.records, primal, sheet.primal);
     memcpy(text, lines, n);
-    Printed p = { 0, n };
+    SpindlePrinted p = {0, n};
     return p;
 }

@@ -3,8 +3,8 @@
 use crate::algebra::FloatT;
 use crate::cones::nonsymmetric_common::{backtrack_search, SEEN, TESTED};
 use crate::cones::{
-    expcone::ExponentialCone, genpowcone::GenPowerCone, long_search, powcone::PowerCone, Cone, CoreSettings, NonsymmetricCone, NonsymmetricNDCone,
-    ScalingStrategy,
+    expcone::ExponentialCone, genpowcone::GenPowerCone, long_search, powcone::PowerCone, Cone, CoreSettings, NonsymmetricCone,
+    NonsymmetricNDCone, ScalingStrategy,
 };
 use crate::numbers::{Counted, Own};
 use crate::types::{Cone as ConeData, Scaling, MOST};
@@ -244,13 +244,7 @@ unsafe fn searched<T: FloatT>(cones: *mut u8, i: usize, dq: *const f64, q: *cons
 // A search on the primal side; its tests.
 #[no_mangle]
 pub unsafe extern "C" fn rust_search(
-    numbers: u32,
-    cones: *mut u8,
-    i: usize,
-    dq: *const f64,
-    q: *const f64,
-    point: *mut f64,
-    settings: *const f64,
+    numbers: u32, cones: *mut u8, i: usize, dq: *const f64, q: *const f64, point: *mut f64, settings: *const f64,
 ) -> u32 {
     match numbers {
         0 => searched::<f64>(cones, i, dq, q, point, settings),
@@ -261,7 +255,9 @@ pub unsafe extern "C" fn rust_search(
 // One step for the first `count` cones of a plan, on the primal side, by 003's search over their own tests: a trial ends at the first that fails. How many
 // cones were tested. The text has no such loop.
 #[no_mangle]
-pub unsafe extern "C" fn rust_common(cones: *mut u8, count: usize, inputs: *const Inputs, dq: *const f64, q: *const f64, point: *mut f64) -> u32 {
+pub unsafe extern "C" fn rust_common(
+    cones: *mut u8, count: usize, inputs: *const Inputs, dq: *const f64, q: *const f64, point: *mut f64,
+) -> u32 {
     let cones = &(&*(cones as *const Vec<Any<f64>>))[..count];
     let at = from_raw_parts((*inputs).at, count + 1);
     let n = at[count];

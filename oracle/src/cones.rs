@@ -103,13 +103,7 @@ pub(crate) mod nonsymmetric_common {
     }
 
     pub(crate) fn backtrack_search<T: FloatT>(
-        dq: &[T],
-        q: &[T],
-        α_init: T,
-        α_min: T,
-        step: T,
-        is_in_cone_fcn: impl Fn(&[T]) -> bool,
-        work: &mut [T],
+        dq: &[T], q: &[T], α_init: T, α_min: T, step: T, is_in_cone_fcn: impl Fn(&[T]) -> bool, work: &mut [T],
     ) -> T {
         let place = unsafe { SEEN.searches };
         unsafe { SEEN.tests[place] = 0 };
@@ -138,12 +132,7 @@ pub(crate) mod expcone {
 
     impl ExponentialCone<f64> {
         pub fn of_three(three: &Three) -> Self {
-            Self {
-                H_dual: DenseMatrixSym3 { data: three.h_dual },
-                Hs: DenseMatrixSym3 { data: three.hs },
-                grad: three.grad,
-                z: three.z,
-            }
+            Self { H_dual: DenseMatrixSym3 { data: three.h_dual }, Hs: DenseMatrixSym3 { data: three.hs }, grad: three.grad, z: three.z }
         }
 
         pub fn three(&self) -> Three {
@@ -165,11 +154,7 @@ pub(crate) mod powcone {
     impl PowerCone<f64> {
         pub fn of_three(α: f64, three: &Three) -> Self {
             Self {
-                α,
-                H_dual: DenseMatrixSym3 { data: three.h_dual },
-                Hs: DenseMatrixSym3 { data: three.hs },
-                grad: three.grad,
-                z: three.z,
+                α, H_dual: DenseMatrixSym3 { data: three.h_dual }, Hs: DenseMatrixSym3 { data: three.hs }, grad: three.grad, z: three.z
             }
         }
 

@@ -1,5 +1,5 @@
-// The Rust oracle and the comparison of the port with it. No crate beside core and alloc, no core formatting: build.sh compiles this for x86-64 on
-// machines that have no x86-64 Rust.
+// The Rust oracle and the comparison of the port with it. No crate beside core and alloc, no core formatting: tools/rust-obj compiles
+// this from LLVM's text form.
 
 #![no_std]
 #![allow(static_mut_refs, confusable_idents, uncommon_codepoints, mixed_script_confusables)]

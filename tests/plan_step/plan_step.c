@@ -5,44 +5,27 @@
        plan_step CALLS [SEED]
 
    Prints what it met; exit status 1 at the first difference. */
-#include <spindle.h>
+#include "../check.h"
 #include <math.h>
-#include <stdio.h>
 #include <stdlib.h>
-#include <string.h>
 
 enum { MOST = 12, LONG = MOST * 64, ROOM = LONG + 16, TOO_MANY = 1025 };
 
-static uint64_t state;
-
-static uint64_t bits(void)
-{
-    uint64_t x = state += 0x9E3779B97F4A7C15u;
-    x = (x ^ (x >> 30)) * 0xBF58476D1CE4E5B9u;
-    x = (x ^ (x >> 27)) * 0x94D049BB133111EBu;
-    return x ^ (x >> 31);
-}
-
-static unsigned below(unsigned n) { return (unsigned)(bits() % n); }
-static double between(double a, double b) { return a + (b - a) * (double)(bits() >> 11) * 0x1p-53; }
-
 typedef struct {
-    Cone cones[TOO_MANY];
+    SpindleCone cones[TOO_MANY];
     size_t ncones, n, length[6]; /* dz ds z s dual primal */
     double dz[ROOM], ds[ROOM], z[ROOM], s[ROOM];
-    Settings settings;
+    SpindleSettings settings;
 } Plan;
 
 typedef struct {
-    Found found;
+    SpindleFound found;
     double dual[ROOM], primal[ROOM];
 } Answer;
 
-static size_t length_of(const Cone *cone) { return cone->kind == SPINDLE_GENERALIZED ? (size_t)cone->dim1 + cone->dim2 : 3; }
-
-static Cone random_cone(void)
+static SpindleCone random_cone(void)
 {
-    Cone cone = {.kind = 1 + below(3), .rule = 1 + below(2)};
+    SpindleCone cone = {.kind = 1 + below(3), .rule = 1 + below(2)};
     if (cone.kind == SPINDLE_POWER) cone.exps[0] = between(0.05, 0.95);
     if (cone.kind == SPINDLE_GENERALIZED) {
         cone.dim1 = 1u << (1 + below(3)); /* exponents 1/2, 1/4 or 1/8 sum to 1 exactly */
@@ -60,8 +43,8 @@ static void random_plan(Plan *plan)
     double dual_far = ldexp(1.0, (int)below(8) - 5), primal_far = ldexp(1.0, (int)below(8) - 5);
     double dual_back = below(4) ? 0 : between(0, 1), primal_back = below(4) ? 0 : between(0, 1);
     for (size_t i = 0; i < plan->ncones; i++) {
-        Cone cone = plan->cones[i] = random_cone();
-        size_t n = length_of(&cone), at = plan->n;
+        SpindleCone cone = plan->cones[i] = random_cone();
+        size_t n = spindle_length(cone), at = plan->n;
         spindle_unit_initialization(cone, plan->z + at, n, plan->s + at, n);
         for (size_t k = at; k < at + n; k++) {
             plan->z[k] *= between(0.8, 1.2);
@@ -75,7 +58,8 @@ static void random_plan(Plan *plan)
     }
     for (int i = 0; i < 6; i++) plan->length[i] = plan->n;
     double steps[] = {0.5, 0.8, 0.99};
-    plan->settings = (Settings){below(8) == 0 ? between(1e-5, 2e-4) : between(0.1, 2), steps[below(3)], below(4) == 0 ? 0.01 : 0.0001};
+    plan->settings =
+        (SpindleSettings){below(8) == 0 ? between(1e-5, 2e-4) : between(0.1, 2), steps[below(3)], below(4) == 0 ? 0.01 : 0.0001};
 }
 
 /* something wrong, or two things */
@@ -84,8 +68,10 @@ static void spoil(Plan *plan)
     double wrong[] = {NAN, INFINITY, -INFINITY}, *slices[] = {plan->dz, plan->ds, plan->z, plan->s};
     for (unsigned times = 1 + below(2); times; times--) switch (below(5)) {
         case 0:
-            if (below(2)) plan->cones[below(plan->ncones ? (unsigned)plan->ncones : 1)].rule = 3;
-            else if (below(2)) plan->ncones = 0;
+            if (below(2))
+                plan->cones[below(plan->ncones ? (unsigned)plan->ncones : 1)].rule = 3;
+            else if (below(2))
+                plan->ncones = 0;
             else {
                 for (size_t i = plan->ncones; i < TOO_MANY; i++) plan->cones[i] = plan->cones[0];
                 plan->ncones = TOO_MANY;
@@ -94,7 +80,12 @@ static void spoil(Plan *plan)
         case 1: plan->length[below(6)] += below(2) ? 1 : -1; break;
         case 2: slices[below(4)][below((unsigned)plan->n)] = wrong[below(3)]; break;
         case 3: plan->settings.start = below(2) ? wrong[below(3)] : -1; break;
-        default: if (below(2)) plan->settings.step = 0.995; else plan->settings.smallest = 0; break;
+        default:
+            if (below(2))
+                plan->settings.step = 0.995;
+            else
+                plan->settings.smallest = 0;
+            break;
         }
 }
 
@@ -102,7 +93,8 @@ static void spoil(Plan *plan)
 
 static int all_finite(const double *x, size_t n)
 {
-    for (size_t i = 0; i < n; i++) if (!isfinite(x[i])) return 0;
+    for (size_t i = 0; i < n; i++)
+        if (!isfinite(x[i])) return 0;
     return 1;
 }
 
@@ -112,10 +104,11 @@ static uint32_t judged(const Plan *p)
     size_t n = 0;
     for (size_t i = 0; i < p->ncones; i++) {
         if (spindle_fresh(p->cones[i]).code != 0) return 1;
-        n += length_of(&p->cones[i]);
+        n += spindle_length(p->cones[i]);
     }
-    for (int i = 0; i < 6; i++) if (p->length[i] != n) return 2;
-    Settings how = p->settings;
+    for (int i = 0; i < 6; i++)
+        if (p->length[i] != n) return 2;
+    SpindleSettings how = p->settings;
     if (!all_finite(p->dz, n) || !all_finite(p->ds, n) || !all_finite(p->z, n) || !all_finite(p->s, n)) return 3;
     if (!isfinite(how.start) || !isfinite(how.step) || !isfinite(how.smallest)) return 3;
     if (!(how.start > 0) || !(how.step > 0) || how.step > 0.99 || !(how.smallest >= 0x1p-1022)) return 4;
@@ -124,10 +117,11 @@ static uint32_t judged(const Plan *p)
 
 static int side_passes(const Plan *p, int primal, const double *point, uint32_t *count)
 {
-    for (size_t i = 0, at = 0; i < p->ncones; at += length_of(&p->cones[i++])) {
-        size_t n = length_of(&p->cones[i]);
+    for (size_t i = 0, at = 0; i < p->ncones; at += spindle_length(p->cones[i++])) {
+        size_t n = spindle_length(p->cones[i]);
         ++*count;
-        if ((primal ? spindle_is_primal_feasible(p->cones[i], point + at, n) : spindle_is_dual_feasible(p->cones[i], point + at, n)).answer != SPINDLE_YES)
+        if ((primal ? spindle_is_primal_feasible(p->cones[i], point + at, n) : spindle_is_dual_feasible(p->cones[i], point + at, n)).answer
+            != SPINDLE_YES)
             return 0;
     }
     return 1;
@@ -135,7 +129,7 @@ static int side_passes(const Plan *p, int primal, const double *point, uint32_t 
 
 static void naive(const Plan *p, Answer *a)
 {
-    a->found = (Found){.code = judged(p)};
+    a->found = (SpindleFound){.code = judged(p)};
     if (a->found.code) return;
     for (double step = p->settings.start;;) {
         for (size_t k = 0; k < p->n; k++) a->dual[8 + k] = p->z[k] + step * p->dz[k];
@@ -164,8 +158,8 @@ static void canaries(Answer *a)
 
 static int same(const Answer *a, const Answer *b)
 {
-    return a->found.code == b->found.code && a->found.count == b->found.count && memcmp(&a->found.step, &b->found.step, 8) == 0 &&
-           memcmp(a->dual, b->dual, sizeof a->dual) == 0 && memcmp(a->primal, b->primal, sizeof a->primal) == 0;
+    return a->found.code == b->found.code && a->found.count == b->found.count && memcmp(&a->found.step, &b->found.step, 8) == 0
+           && memcmp(a->dual, b->dual, sizeof a->dual) == 0 && memcmp(a->primal, b->primal, sizeof a->primal) == 0;
 }
 
 int main(int argc, char **argv)
@@ -173,7 +167,7 @@ int main(int argc, char **argv)
     static Plan plan;
     static Answer got, want, side;
     unsigned long calls = argc > 1 ? strtoul(argv[1], NULL, 10) : 1000;
-    state = argc > 2 ? strtoull(argv[2], NULL, 10) : 1;
+    seed = argc > 2 ? strtoull(argv[2], NULL, 10) : 1;
     unsigned long codes[5] = {0}, zero = 0, tests = 0, below_both = 0, dual_ends = 0;
     for (unsigned long call = 0; call < calls; call++) {
         random_plan(&plan);
@@ -181,14 +175,16 @@ int main(int argc, char **argv)
         canaries(&got);
         canaries(&want);
         canaries(&side);
-        got.found = spindle_plan_step(plan.cones, plan.ncones, plan.dz, plan.length[0], plan.ds, plan.length[1], plan.z, plan.length[2], plan.s,
-                                      plan.length[3], got.dual + 8, plan.length[4], got.primal + 8, plan.length[5], plan.settings);
+        got.found = spindle_plan_step(plan.cones, plan.ncones, plan.dz, plan.length[0], plan.ds, plan.length[1], plan.z, plan.length[2],
+                                      plan.s, plan.length[3], got.dual + 8, plan.length[4], got.primal + 8, plan.length[5], plan.settings);
         naive(&plan, &want);
         int ok = same(&got, &want);
         codes[want.found.code]++;
         if (want.found.code == 0) {
-            Found d = spindle_common_step(plan.cones, plan.ncones, false, plan.dz, plan.n, plan.z, plan.n, side.dual + 8, plan.n, plan.settings);
-            Found p = spindle_common_step(plan.cones, plan.ncones, true, plan.ds, plan.n, plan.s, plan.n, side.primal + 8, plan.n, plan.settings);
+            SpindleFound d =
+                spindle_common_step(plan.cones, plan.ncones, false, plan.dz, plan.n, plan.z, plan.n, side.dual + 8, plan.n, plan.settings);
+            SpindleFound p =
+                spindle_common_step(plan.cones, plan.ncones, true, plan.ds, plan.n, plan.s, plan.n, side.primal + 8, plan.n, plan.settings);
             double least = d.step < p.step ? d.step : p.step;
             ok = ok && d.code == 0 && p.code == 0 && got.found.step <= least && (d.step != p.step || got.found.step == d.step);
             zero += got.found.step == 0;
@@ -197,12 +193,13 @@ int main(int argc, char **argv)
             tests += got.found.count;
         }
         if (!ok) {
-            printf("call %lu differs: code %u step %a count %u, expected code %u step %a count %u\n", call, got.found.code, got.found.step, got.found.count,
-                   want.found.code, want.found.step, want.found.count);
+            printf("call %lu differs: code %u step %a count %u, expected code %u step %a count %u\n", call, got.found.code, got.found.step,
+                   got.found.count, want.found.code, want.found.step, want.found.count);
             return 1;
         }
     }
-    printf("%lu calls the same: %lu done (%lu of them with step 0, %lu with a step below the least of the two sides', %lu where the dual side is the less), "
+    printf("%lu calls the same: %lu done (%lu of them with step 0, %lu with a step below the least of the two sides', %lu where the dual "
+           "side is the less), "
            "refused %lu with 1, %lu with 2, %lu with 3, %lu with 4; %lu single tests\n",
            calls, codes[0], zero, below_both, dual_ends, codes[1], codes[2], codes[3], codes[4], tests);
     return 0;

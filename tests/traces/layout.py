@@ -4,6 +4,8 @@
 usage: layout.py rows FILE      writes FILE, some hundred rows of calls for `traces play`, and prints what it must print
        layout.py strings FILE   writes FILE, byte strings for `traces judge`, and prints what it must print of each of them, and of small traces also
                                 for every truncation and every single-byte change
+       layout.py puts FILE      writes FILE, some hundred rows of puts for `traces puts`, and prints what it must print: each answer, the whole buffer,
+                                what a seal of every number of bytes does, and which record begins at every place
        layout.py --help         this text
 
 A row of words is told as the number that it spells, modulo 2^61 - 1. Exit status 2: bad usage.
@@ -209,6 +211,14 @@ def some_call(rng):
     return made_call(rng, kind, dim1, dim2, rule, flag, lengths, [step(rng), rng.getrandbits(32), step(rng), rng.getrandbits(32)])
 
 
+def call_words(call):
+    """A call as the words of a file."""
+    words = [call["kind"], call["dim1"], call["dim2"], call["rule"], *call["exps"], call["flag"], *call["settings"]]
+    for numbers in call["rows"]:
+        words += [len(numbers), *numbers]
+    return words + call["steps"]
+
+
 def played(room, edition, row):
     """The line that `traces play` must print of a row of calls on a trace that was created, and then made one of the edition."""
     buffer = bytearray(b"\xa5" * room)
@@ -239,13 +249,70 @@ def rows(path):
             row = [(rng.choice([0, 19, 21, 2**63, 2**64 - 2]) if rng.random() < 0.05 else None, some_call(rng)) for _ in range(rng.randrange(6))]
             words = [room, edition, len(row)]
             for used, call in row:
-                words += [2**64 - 1 if used is None else used, call["kind"], call["dim1"], call["dim2"], call["rule"], *call["exps"], call["flag"]]
-                words += call["settings"]
-                for numbers in call["rows"]:
-                    words += [len(numbers), *numbers]
-                words += call["steps"]
+                words += [2**64 - 1 if used is None else used, *call_words(call)]
             out.write(struct.pack("<%dQ" % len(words), *words))
             print(played(room, edition, row))
+
+
+# ---- rows of puts, and what is then there
+
+
+def put_row(room, edition, row):
+    """The line that `traces puts` must print of a row of puts in an edition, which may be none."""
+    buffer, place, line = bytearray(b"\xa5" * room), 0, []
+    for at, call in row:
+        at = place if at is None else at
+        record = record_bytes(call, edition) if edition in DEFAULTS else None
+        if record is None or at > room:
+            line.append("9 0")
+        elif at + len(record) > room:
+            line.append("8 0")
+        else:
+            place = at + len(record)
+            buffer[at:place] = record
+            line.append("0 %d" % place)
+    line.append(told(buffer))
+    # the ends of whole records from byte 0 on, each with the offsets of the records before it
+    ends, offsets, place = {0: []}, [], 0
+    try:
+        while edition in DEFAULTS:
+            behind = read_record(buffer, place, room, edition)[1]
+            offsets, place = [*offsets, place], behind
+            ends[place] = offsets
+    except Broken:
+        pass
+    words = []
+    for used in (*range(room + 2), 2**64 - 1):
+        if edition not in DEFAULTS or used not in ends:
+            words += [9, 0]
+            continue
+        new = closed(bytes(buffer[:used]), ends[used], edition)
+        words += [8, 0] if len(new) > room else [0, len(new), int(told(new + bytes(buffer[len(new) :])), 16)]
+    line.append(told(words))
+    words = []
+    for at in (*range(room + 2), 2**64 - 1):
+        try:
+            if edition not in DEFAULTS or at > room:
+                raise Broken
+            numbers, behind = read_record(buffer, at, room, edition)
+            words += [at, behind, int(told(numbers), 16)]
+        except Broken:
+            words.append(9)
+    return " ".join(line) + " " + told(words)
+
+
+def puts(path):
+    rng = random.Random(3)
+    with open(path, "wb") as out:
+        for _ in range(400):
+            room = rng.choice([0, 19, 20, 155, 156, 400, 1000, 3000])
+            edition = rng.choice([0, 4, 2**32 - 1]) if rng.random() < 0.05 else rng.choice(sorted(DEFAULTS))
+            row = [(rng.choice([0, 4, room, room + 1, 2**64 - 2]) if rng.random() < 0.1 else None, some_call(rng)) for _ in range(rng.randrange(8))]
+            words = [room, edition, len(row)]
+            for at, call in row:
+                words += [2**64 - 1 if at is None else at, *call_words(call)]
+            out.write(struct.pack("<%dQ" % len(words), *words))
+            print(put_row(room, edition, row))
 
 
 # ---- byte strings
@@ -345,8 +412,8 @@ def strings(path):
 def main(words):
     if words in (["-h"], ["--help"]):
         print(__doc__.strip())
-    elif len(words) == 2 and words[0] in ("rows", "strings"):
-        (rows if words[0] == "rows" else strings)(words[1])
+    elif len(words) == 2 and words[0] in ("rows", "puts", "strings"):
+        {"rows": rows, "puts": puts, "strings": strings}[words[0]](words[1])
     else:
         print("layout: no such words: %s (try --help)" % " ".join(words), file=sys.stderr)
         return 2

@@ -16,12 +16,13 @@ static uint64_t at[PLACES];
    that answered, which took the start; then what is answered now: none of 14 trials passes. The dual side passes at the start by both. */
 static void record_old_and_new(void)
 {
-    static const Steps answers[2] = {{0, 1, 1, 1, 1}, {0, 1, 14, 1, 0}};
-    Cone cone = cones[0];
+    static const SpindleSteps answers[2] = {{0, 1, 1, 1, 1}, {0, 1, 14, 1, 0}};
+    SpindleCone cone = cones[0];
     double z[3] = {-1, 0, 1}, dz[3] = {0, 0, 0}, s[3] = {0, 1, 1}, ds[3] = {-0x1p-42, 0, 0};
     used = spindle_trace_create(changed, sizeof changed).length;
     for (int i = 0; i < 2; i++) {
-        Written w = spindle_trace_append(changed, sizeof changed, used, cone, 1, spindle_house_settings(1.0), dz, 3, ds, 3, z, 3, s, 3, answers[i]);
+        SpindleWritten w =
+            spindle_trace_append(changed, sizeof changed, used, cone, 1, spindle_house_settings(1.0), dz, 3, ds, 3, z, 3, s, 3, answers[i]);
         expect(w.code == 0, "an append");
         used = w.length;
     }
@@ -29,35 +30,39 @@ static void record_old_and_new(void)
 
 /* ---- the calls */
 
-static void fill(void) { for (size_t i = 0; i < PLACES; i++) at[i] = CANARY; }
+static void fill(void)
+{
+    for (size_t i = 0; i < PLACES; i++) at[i] = CANARY;
+}
 static int untouched(size_t from)
 {
-    for (size_t i = from; i < PLACES; i++) if (at[i] != CANARY) return 0;
+    for (size_t i = from; i < PLACES; i++)
+        if (at[i] != CANARY) return 0;
     return 1;
 }
 /* the replay of `changed` finds these offsets and no other */
 static int finds(const uint64_t *offsets, uint32_t differ)
 {
     fill();
-    Replayed r = spindle_replay(changed, used, at, PLACES);
+    SpindleReplayed r = spindle_replay(changed, used, at, PLACES);
     return r.code == 0 && r.records == RECORDS && r.same == RECORDS - differ && r.differ == differ && untouched(differ)
            && (!differ || !memcmp(at, offsets, 8 * differ));
 }
 static int refused(size_t n, size_t places, uint32_t code)
 {
     fill();
-    Replayed r = spindle_replay(changed, n, at, places);
+    SpindleReplayed r = spindle_replay(changed, n, at, places);
     return r.code == code && r.records == 0 && r.same == 0 && r.differ == 0 && untouched(0);
 }
 
 /* whether the search of record i gives what it holds, if this step is the default one */
 static int same_with(uint32_t i, double step)
 {
-    Recorded k = spindle_trace_record(bytes, used, i);
+    SpindleRecorded k = spindle_trace_record(bytes, used, i);
     size_t m = k.cone.dim1 + k.cone.dim2;
     double dual[64], primal[64];
     if (k.flag) k.settings.step = step;
-    Steps s = spindle_step_length(k.cone, k.dz, m, k.ds, m, k.z, m, k.s, m, dual, m, primal, m, k.settings);
+    SpindleSteps s = spindle_step_length(k.cone, k.dz, m, k.ds, m, k.z, m, k.s, m, dual, m, primal, m, k.settings);
     return s.code == 0 && s.dual_step == k.steps.dual_step && s.dual_count == k.steps.dual_count && s.primal_step == k.steps.primal_step
            && s.primal_count == k.steps.primal_count;
 }
@@ -73,9 +78,12 @@ static void other_edition(uint32_t edition)
     }
     for (uint32_t other = 0; other < 256; other++) {
         changed[used - 8] = (uint8_t)other;
-        if (other == edition) expect(finds(0, 0), "its own edition");
-        else if (other >= 1 && other < 3 && edition < 3) expect(differ > 0 && finds(those, differ), "another edition has another default step");
-        else expect(refused(used, PLACES, 9), "another edition, or one of another layout");
+        if (other == edition)
+            expect(finds(0, 0), "its own edition");
+        else if (other >= 1 && other < 3 && edition < 3)
+            expect(differ > 0 && finds(those, differ), "another edition has another default step");
+        else
+            expect(refused(used, PLACES, 9), "another edition, or one of another layout");
     }
 }
 /* the rule of a record of edition 3, 20 bytes behind its begin: 1 and 2 replay the same, every other differs, whatever answers it holds */
@@ -87,7 +95,8 @@ static void other_rule(void)
             memcpy(changed, bytes, used);
             memcpy(changed + begins[i] + 20, &rules[k], 4); /* little-endian as the machine */
             uint64_t here = begins[i];
-            if (rules[k] == 1 || rules[k] == 2) expect(finds(0, 0), "either rule: the same");
+            if (rules[k] == 1 || rules[k] == 2)
+                expect(finds(0, 0), "either rule: the same");
             else {
                 expect(finds(&here, 1), "no rule: the record differs");
                 memset(changed + begins[i + 1] - 24, 0, 24);
@@ -98,17 +107,18 @@ static void other_rule(void)
 /* a search of a generalized cone of this sum, recorded under rule 1 and then under rule 2: whether it was done, and replays the same */
 static void sum_at(double sum, bool first, bool second)
 {
-    Cone cone = {3, 2, 1, SPINDLE_RULE_1, {0.5, sum - 0.5}};
+    SpindleCone cone = {3, 2, 1, SPINDLE_RULE_1, {0.5, sum - 0.5}};
     double z[3] = {1, 1, 0.25}, s[3] = {1, 1, 0.25}, dz[3] = {-1, 0, 1}, ds[3] = {0, -1, 2}, dual[3], primal[3];
-    Steps steps = {0, 1, 1, 1, 1};
+    SpindleSteps steps = {0, 1, 1, 1, 1};
     size_t begin = 0;
     used = spindle_trace_create(changed, sizeof changed).length;
     for (uint32_t rule = 1; rule <= 2; rule++) {
         cone.rule = rule;
-        Steps now = spindle_step_length(cone, dz, 3, ds, 3, z, 3, s, 3, dual, 3, primal, 3, spindle_house_settings(1.0));
+        SpindleSteps now = spindle_step_length(cone, dz, 3, ds, 3, z, 3, s, 3, dual, 3, primal, 3, spindle_house_settings(1.0));
         expect(now.code == ((rule == 1 ? first : second) ? 0 : 1), "a sum at a limit");
         if (now.code == 0) steps = now;
-        Written w = spindle_trace_append(changed, sizeof changed, used, cone, 1, spindle_house_settings(1.0), dz, 3, ds, 3, z, 3, s, 3, steps);
+        SpindleWritten w =
+            spindle_trace_append(changed, sizeof changed, used, cone, 1, spindle_house_settings(1.0), dz, 3, ds, 3, z, 3, s, 3, steps);
         expect(w.code == 0, "an append of it");
         if (rule == 1) begin = w.length - 28;
         used = w.length;
@@ -118,8 +128,9 @@ static void sum_at(double sum, bool first, bool second)
     if (!first) those[differ++] = 0;
     if (!second) those[differ++] = begin;
     fill();
-    Replayed r = spindle_replay(changed, used, at, PLACES);
-    expect(r.code == 0 && r.records == 2 && r.differ == differ && r.same == 2 - differ && !memcmp(at, those, 8 * differ) && untouched(differ),
+    SpindleReplayed r = spindle_replay(changed, used, at, PLACES);
+    expect(r.code == 0 && r.records == 2 && r.differ == differ && r.same == 2 - differ && !memcmp(at, those, 8 * differ)
+               && untouched(differ),
            "a sum at a limit, replayed under both rules");
 }
 static void sums(void)
@@ -165,15 +176,17 @@ static void calls(uint32_t edition)
     expect(finds(those, 4), "what a search refuses differs");
     for (size_t places = 0; places < 4; places++) expect(refused(used, places, 8), "no room for the offsets");
     fill();
-    expect(spindle_replay(changed, used, at, 4).differ == 4 && !memcmp(at, those, sizeof those) && untouched(4), "just room for the offsets");
+    expect(spindle_replay(changed, used, at, 4).differ == 4 && !memcmp(at, those, sizeof those) && untouched(4),
+           "just room for the offsets");
 
     if (edition >= 3) other_rule();
     size_t all = used;
     sums();
     record_old_and_new();
     fill();
-    Replayed old = spindle_replay(changed, used, at, PLACES);
-    expect(old.code == 0 && old.records == 2 && old.same == 1 && old.differ == 1 && at[0] == 0 && untouched(1), "the old record differs, the new one does not");
+    SpindleReplayed old = spindle_replay(changed, used, at, PLACES);
+    expect(old.code == 0 && old.records == 2 && old.same == 1 && old.differ == 1 && at[0] == 0 && untouched(1),
+           "the old record differs, the new one does not");
     used = all;
 
     memcpy(changed, bytes, used);
@@ -182,7 +195,7 @@ static void calls(uint32_t edition)
     expect(refused(used, 0, 9), "a broken trace");
     used = spindle_trace_create(changed, sizeof changed).length;
     fill();
-    Replayed none = spindle_replay(changed, used, at, 0);
+    SpindleReplayed none = spindle_replay(changed, used, at, 0);
     expect(none.code == 0 && none.records == 0 && none.same == 0 && none.differ == 0, "the empty trace");
 }
 
@@ -228,9 +241,10 @@ static void files(const char *folder)
     /* as many records as 65,536 bytes have room for, the largest trace that the program takes */
     uint32_t count = 0;
     for (begins[0] = 0, used = spindle_trace_create(bytes, 65536).length;; count++) {
-        Cone cone = {3, 1, 1, SPINDLE_RULE_2, {1.0}};
+        SpindleCone cone = {3, 1, 1, SPINDLE_RULE_2, {1.0}};
         double x[2] = {0, 0};
-        Written w = spindle_trace_append(bytes, 65536, used, cone, 1, spindle_house_settings(1.0), x, 2, x, 2, x, 2, x, 2, (Steps){0, 0, 0, 0, 0});
+        SpindleWritten w = spindle_trace_append(bytes, 65536, used, cone, 1, spindle_house_settings(1.0), x, 2, x, 2, x, 2, x, 2,
+                                                (SpindleSteps){0, 0, 0, 0, 0});
         if (w.code) break;
         used = w.length;
     }
@@ -239,7 +253,7 @@ static void files(const char *folder)
     if (!all) exit(2);
     uint64_t *offsets = malloc(8 * (size_t)count + 8);
     if (!offsets) exit(2);
-    Replayed r = spindle_replay(bytes, used, offsets, count);
+    SpindleReplayed r = spindle_replay(bytes, used, offsets, count);
     size_t end = (size_t)snprintf(all, room, "records %" PRIu32 "\nsame %" PRIu32 "\ndiffer %" PRIu32 "\n", r.records, r.same, r.differ);
     for (uint32_t i = 0; i < r.differ; i++) end += (size_t)snprintf(all + end, room - end, "at %" PRIu64 "\n", offsets[i]);
     pair(folder, "many", bytes, used, all);

@@ -10,7 +10,8 @@ static uint8_t output[MOST * (SMALL + 8) + 40], again[sizeof output], many[(MOST
 
 static int untouched(const uint8_t *from, size_t n)
 {
-    while (n--) if (*from++ != CANARY) return 0;
+    while (n--)
+        if (*from++ != CANARY) return 0;
     return 1;
 }
 
@@ -19,8 +20,8 @@ static int rescues(const uint8_t *input, size_t n, uint32_t given, uint32_t kept
 {
     size_t length = end + 8 * (size_t)kept + 20;
     memset(output, CANARY, length + 20);
-    Rescued r = spindle_rescue(input, n, output, length + 20, given);
-    Opened o = spindle_trace_open(output, length);
+    SpindleRescued r = spindle_rescue(input, n, output, length + 20, given);
+    SpindleOpened o = spindle_trace_open(output, length);
     return r.code == 0 && r.kept == kept && r.dropped == (right ? 0 : n - end) && r.length == length && r.right == right
            && !memcmp(output, input, end) && o.code == 0 && o.records == kept && untouched(output + length, 20);
 }
@@ -28,14 +29,14 @@ static int rescues(const uint8_t *input, size_t n, uint32_t given, uint32_t kept
 static int settled(size_t length, uint32_t kept)
 {
     memset(again, CANARY, length + 20);
-    Rescued r = spindle_rescue(output, length, again, length, 0);
+    SpindleRescued r = spindle_rescue(output, length, again, length, 0);
     return r.code == 0 && r.kept == kept && r.dropped == 0 && r.length == length && r.right && !memcmp(again, output, length)
            && untouched(again + length, 20);
 }
 static int refused(const uint8_t *input, size_t n, size_t room, uint32_t given, uint32_t code)
 {
     memset(output, CANARY, room + 20);
-    Rescued r = spindle_rescue(input, n, output, room, given);
+    SpindleRescued r = spindle_rescue(input, n, output, room, given);
     return r.code == code && r.kept == 0 && r.dropped == 0 && r.length == 0 && !r.right && untouched(output, room + 20);
 }
 static uint32_t whole(size_t n)
@@ -56,17 +57,23 @@ static void calls(uint32_t edition)
         uint32_t kept = whole(n);
         size_t length = begins[kept] + 8 * (size_t)kept + 20;
         expect(rescues(bytes, n, edition, kept, begins[kept], n == used) && edition_of(output, length) == edition, "a trace cut at a byte");
-        Replayed p = spindle_replay(output, length, at, RECORDS);
+        SpindleReplayed p = spindle_replay(output, length, at, RECORDS);
         expect(p.code == 0 && p.records == kept && p.same == kept, "what was rescued replays the same");
         expect(settled(length, kept), "rescued again");
         expect(refused(bytes, n, length - 1, edition, 8) && refused(bytes, n, 19, edition, 8), "no room");
         /* the caller's edition is needed where the input has none, and then another edition is 9, before 8 */
         for (uint32_t given = 0; given <= NEWEST + 1; given++) {
             bool unknown = given < 1 || given > NEWEST;
-            if (n == used) expect(rescues(bytes, n, given, kept, begins[kept], true) && !memcmp(output, bytes, used), "a good trace keeps its edition");
-            else if (unknown) expect(refused(bytes, n, length, given, 9) && refused(bytes, n, 0, given, 9), "another edition");
-            else if (alike(given, edition)) expect(rescues(bytes, n, given, kept, begins[kept], false) && edition_of(output, length) == given, "the caller's edition");
-            else expect(rescues(bytes, n, given, 0, 0, false) && edition_of(output, 20) == given, "the caller's edition has another layout: nothing is kept");
+            if (n == used)
+                expect(rescues(bytes, n, given, kept, begins[kept], true) && !memcmp(output, bytes, used),
+                       "a good trace keeps its edition");
+            else if (unknown)
+                expect(refused(bytes, n, length, given, 9) && refused(bytes, n, 0, given, 9), "another edition");
+            else if (alike(given, edition))
+                expect(rescues(bytes, n, given, kept, begins[kept], false) && edition_of(output, length) == given, "the caller's edition");
+            else
+                expect(rescues(bytes, n, given, 0, 0, false) && edition_of(output, 20) == given,
+                       "the caller's edition has another layout: nothing is kept");
         }
         expect(n == used || refused(bytes, n, length, UINT32_MAX, 9), "the largest number for an edition");
     }
@@ -78,8 +85,11 @@ static void calls(uint32_t edition)
             changed[i] ^= (uint8_t)by;
             if (i == used - 8 && changed[i] >= 1 && changed[i] <= NEWEST) {
                 if (alike(changed[i], edition))
-                    expect(rescues(changed, used, edition, RECORDS, begins[RECORDS], true) && !memcmp(output, changed, used), "the other edition");
-                else expect(rescues(changed, used, edition, 0, 0, false) && edition_of(output, 20) == changed[i], "an edition of another layout");
+                    expect(rescues(changed, used, edition, RECORDS, begins[RECORDS], true) && !memcmp(output, changed, used),
+                           "the other edition");
+                else
+                    expect(rescues(changed, used, edition, 0, 0, false) && edition_of(output, 20) == changed[i],
+                           "an edition of another layout");
             } else
                 expect(rescues(changed, used, i < used - 8 ? 0 : edition, RECORDS, begins[RECORDS], false) && !memcmp(output, bytes, used),
                        "a changed byte of list or trailer");
@@ -91,7 +101,8 @@ static void calls(uint32_t edition)
     for (size_t from = 0; from <= 30; from++) {
         memcpy(changed + used, again + from, 38 - from);
         for (uint32_t given = 0; given <= NEWEST; given++)
-            expect(rescues(changed + used, 38 - from, given, 0, 0, false) && edition_of(output, 20) == edition, "an edition and BACK alone");
+            expect(rescues(changed + used, 38 - from, given, 0, 0, false) && edition_of(output, 20) == edition,
+                   "an edition and BACK alone");
     }
     expect(refused(again + 31, 7, 20, 0, 9), "seven bytes");
     /* the last records were lost, and power came back: what follows the first bad record is not searched, whole records neither */
@@ -106,21 +117,27 @@ static void calls(uint32_t edition)
     if (edition >= 3) {
         uint32_t rule = 0x42415053;
         memcpy(changed + begins[4] + 20, &rule, 4);
-        expect(rescues(changed, used, 0, RECORDS, begins[RECORDS], true) && !memcmp(output, changed, used), "a rule that is none, in a good trace");
-        expect(rescues(changed, used - 1, edition, RECORDS, begins[RECORDS], false) && !memcmp(output, changed, used), "a rule that is none, in a cut one");
+        expect(rescues(changed, used, 0, RECORDS, begins[RECORDS], true) && !memcmp(output, changed, used),
+               "a rule that is none, in a good trace");
+        expect(rescues(changed, used - 1, edition, RECORDS, begins[RECORDS], false) && !memcmp(output, changed, used),
+               "a rule that is none, in a cut one");
     }
     /* bits of a NaN are bytes as others are */
     for (size_t i = 0; i < 8; i++) changed[begins[2] - 100 + i] = (uint8_t)(0xF0 + i);
-    expect(rescues(changed, used, 0, RECORDS, begins[RECORDS], true) && !memcmp(output, changed, used), "a NaN of any bits, in a good trace");
-    expect(rescues(changed, used - 1, edition, RECORDS, begins[RECORDS], false) && !memcmp(output, changed, used), "a NaN of any bits, in a cut one");
+    expect(rescues(changed, used, 0, RECORDS, begins[RECORDS], true) && !memcmp(output, changed, used),
+           "a NaN of any bits, in a good trace");
+    expect(rescues(changed, used - 1, edition, RECORDS, begins[RECORDS], false) && !memcmp(output, changed, used),
+           "a NaN of any bits, in a cut one");
 
     /* the limit */
-    Cone cone = {3, 1, 1, SPINDLE_RULE_1, {1.0}};
+    SpindleCone cone = {3, 1, 1, SPINDLE_RULE_1, {1.0}};
     double x[2] = {0, 0};
     size_t small = SMALL - 4 + rule_bytes(edition);
     used = spindle_trace_create(bytes, sizeof bytes).length;
     bytes[used - 8] = (uint8_t)edition;
-    used = spindle_trace_append(bytes, sizeof bytes, used, cone, 1, spindle_house_settings(1.0), x, 2, x, 2, x, 2, x, 2, (Steps){0, 0, 0, 0, 0}).length;
+    used = spindle_trace_append(bytes, sizeof bytes, used, cone, 1, spindle_house_settings(1.0), x, 2, x, 2, x, 2, x, 2,
+                                (SpindleSteps){0, 0, 0, 0, 0})
+               .length;
     expect(used == small + 28, "the length of a small record");
     for (size_t i = 0; i <= MOST; i++) memcpy(many + i * small, bytes, small);
     for (size_t n = MOST - 1; n <= MOST + 1; n++) {
@@ -132,34 +149,41 @@ static void calls(uint32_t edition)
 
 /* ---- files for the program */
 
-/* as the program does that is told no edition */
+static const char NOTHING[] = "rescue: no record would be kept: OUT is left as it was\n";
+
+/* as the program does that is told the newest edition: where bytes are there and no record of them is kept, it says so and writes nothing */
 static void all_of(const char *folder, const char *name, const uint8_t *input, size_t n, const char *text)
 {
-    Rescued r = spindle_rescue(input, n, output, sizeof output, NEWEST);
+    SpindleRescued r = spindle_rescue(input, n, output, sizeof output, NEWEST);
     keep(folder, name, "in", input, n);
+    if (r.kept == 0 && r.dropped > 0) {
+        keep(folder, name, "text", NOTHING, sizeof NOTHING - 1);
+        return;
+    }
     keep(folder, name, "text", text, strlen(text));
     keep(folder, name, "out", output, r.length);
 }
 static void files(const char *folder)
 {
     char name[40], text[80];
-    /* traces of the older editions, cut: the program has to be told theirs, and keeps nothing by the newest one's layout */
+    /* traces of the older editions, cut: the program has to be told theirs, and would keep nothing by the newest one's layout */
     for (uint32_t edition = 1; edition < NEWEST; edition++) {
         record_all(edition);
         snprintf(name, sizeof name, "edition-%u", (unsigned)edition);
         all_of(folder, name, bytes, 400, "kept 0\ndropped 400\nrebuilt\n");
-        Rescued r = spindle_rescue(bytes, 400, output, sizeof output, edition);
+        SpindleRescued r = spindle_rescue(bytes, 400, output, sizeof output, edition);
         keep(folder, name, "kept", output, r.length);
     }
     record_all(NEWEST);
     /* one record of each kind */
     memset(changed, 0, sizeof changed);
-    Rescued three = spindle_rescue(bytes, begins[3], changed, sizeof changed, NEWEST);
+    SpindleRescued three = spindle_rescue(bytes, begins[3], changed, sizeof changed, NEWEST);
     for (size_t n = 0; n <= three.length; n++) {
         uint32_t kept = whole(n < begins[3] ? n : begins[3]);
         bool right = n == three.length;
         snprintf(name, sizeof name, "cut-%zu", n);
-        snprintf(text, sizeof text, "kept %u\ndropped %zu\n%s\n", (unsigned)kept, right ? 0 : n - begins[kept], right ? "right" : "rebuilt");
+        snprintf(text, sizeof text, "kept %u\ndropped %zu\n%s\n", (unsigned)kept, right ? 0 : n - begins[kept],
+                 right ? "right" : "rebuilt");
         all_of(folder, name, changed, n, text);
     }
     all_of(folder, "whole", bytes, used, "kept 12\ndropped 0\nright\n");

@@ -8,7 +8,7 @@
 #include <string.h>
 
 typedef struct {
-    Totals totals;
+    SpindleTotals totals;
     uint64_t dual[SPINDLE_SHEET_PLACES], primal[SPINDLE_SHEET_PLACES];
     uint8_t skipped[SPINDLE_SHEET_FILES];
 } Sheet;
@@ -24,23 +24,25 @@ static void check(int holds, const char *what)
     }
 }
 
-static Totals add(Sheet *s, const uint8_t *file, size_t n)
+static SpindleTotals add(Sheet *s, const uint8_t *file, size_t n)
 {
-    return spindle_sheet_add(s->totals, s->dual, SPINDLE_SHEET_PLACES, s->primal, SPINDLE_SHEET_PLACES, s->skipped, SPINDLE_SHEET_FILES, file, n);
+    return spindle_sheet_add(s->totals, s->dual, SPINDLE_SHEET_PLACES, s->primal, SPINDLE_SHEET_PLACES, s->skipped, SPINDLE_SHEET_FILES,
+                             file, n);
 }
-static Totals join(Sheet *s, const Sheet *t)
+static SpindleTotals join(Sheet *s, const Sheet *t)
 {
     return spindle_sheet_join(s->totals, s->dual, SPINDLE_SHEET_PLACES, s->primal, SPINDLE_SHEET_PLACES, s->skipped, SPINDLE_SHEET_FILES,
                               t->totals, t->dual, SPINDLE_SHEET_PLACES, t->primal, SPINDLE_SHEET_PLACES, t->skipped, SPINDLE_SHEET_FILES);
 }
 static int same(const Sheet *a, const Sheet *b)
 {
-    return !memcmp(a->dual, b->dual, sizeof a->dual) && !memcmp(a->primal, b->primal, sizeof a->primal) && !memcmp(a->skipped, b->skipped, sizeof a->skipped);
+    return !memcmp(a->dual, b->dual, sizeof a->dual) && !memcmp(a->primal, b->primal, sizeof a->primal)
+           && !memcmp(a->skipped, b->skipped, sizeof a->skipped);
 }
 /* a refusal: its number, zeros, and no row changed */
-static void refused(Totals t, uint32_t code, const Sheet *now, const Sheet *before, const char *what)
+static void refused(SpindleTotals t, uint32_t code, const Sheet *now, const Sheet *before, const char *what)
 {
-    Totals zeros;
+    SpindleTotals zeros;
     memset(&zeros, 0, sizeof zeros);
     zeros.code = code;
     check(!memcmp(&t, &zeros, sizeof t), what);
@@ -50,10 +52,10 @@ static void refused(Totals t, uint32_t code, const Sheet *now, const Sheet *befo
 /* a trace of one search of the exponential cone that stopped at the start */
 static size_t one_trace(uint8_t *bytes, size_t room, double dual, uint32_t tests)
 {
-    double v[3] = { 0, 1, 1 };
-    Cone cone = { .kind = SPINDLE_EXPONENTIAL };
-    Settings settings = { 1, 0.5, 0.0001 };
-    Steps steps = { .dual_step = dual, .dual_count = tests, .primal_step = 0.75, .primal_count = 2 };
+    double v[3] = {0, 1, 1};
+    SpindleCone cone = {.kind = SPINDLE_EXPONENTIAL};
+    SpindleSettings settings = {1, 0.5, 0.0001};
+    SpindleSteps steps = {.dual_step = dual, .dual_count = tests, .primal_step = 0.75, .primal_count = 2};
     size_t used = spindle_trace_create(bytes, room).length;
     return spindle_trace_append(bytes, room, used, cone, 0, settings, v, 3, v, 3, v, 3, v, 3, steps).length;
 }
@@ -71,7 +73,8 @@ static int calls(void)
     check(s.dual[1024 - 3] == 1 && s.primal[1024 - 1] == 1, "exponents -3 and -1");
     check(s.totals.dual.size == 43 && s.totals.dual.file == 1 && s.totals.dual.at == 0, "the largest");
     s.totals = add(&s, bytes, n - 1);
-    check(s.totals.code == 0 && s.totals.files == 2 && s.totals.records == 1 && s.skipped[1] == 1 && s.skipped[0] == 0, "a skipped file has its number");
+    check(s.totals.code == 0 && s.totals.files == 2 && s.totals.records == 1 && s.skipped[1] == 1 && s.skipped[0] == 0,
+          "a skipped file has its number");
 
     /* two groups; on a tie the earlier stays, and a later larger one moves up */
     t.totals = add(&t, bytes, n);
@@ -95,14 +98,16 @@ static int calls(void)
         if (k == 3) d = 0;
         if (k == 4) p = 0, f = 0;
         refused(spindle_sheet_add(s.totals, s.dual, d, s.primal, p, s.skipped, f, bytes, n), 2, &s, &before, "2 of add");
-        refused(spindle_sheet_join(s.totals, s.dual, d, s.primal, p, s.skipped, f, t.totals, t.dual, SPINDLE_SHEET_PLACES, t.primal, SPINDLE_SHEET_PLACES,
-                                   t.skipped, SPINDLE_SHEET_FILES), 2, &s, &before, "2 of join, the first");
+        refused(spindle_sheet_join(s.totals, s.dual, d, s.primal, p, s.skipped, f, t.totals, t.dual, SPINDLE_SHEET_PLACES, t.primal,
+                                   SPINDLE_SHEET_PLACES, t.skipped, SPINDLE_SHEET_FILES),
+                2, &s, &before, "2 of join, the first");
         if (k != 2)
-            refused(spindle_sheet_join(s.totals, s.dual, SPINDLE_SHEET_PLACES, s.primal, SPINDLE_SHEET_PLACES, s.skipped, SPINDLE_SHEET_FILES, t.totals, t.dual,
-                                       d, t.primal, p, t.skipped, f), 2, &s, &before, "2 of join, the second");
+            refused(spindle_sheet_join(s.totals, s.dual, SPINDLE_SHEET_PLACES, s.primal, SPINDLE_SHEET_PLACES, s.skipped,
+                                       SPINDLE_SHEET_FILES, t.totals, t.dual, d, t.primal, p, t.skipped, f),
+                    2, &s, &before, "2 of join, the second");
     }
-    refused(spindle_sheet_add(s.totals, s.dual, SPINDLE_SHEET_PLACES, s.primal, SPINDLE_SHEET_PLACES, s.skipped, s.totals.files, bytes, n), 8, &s, &before,
-            "8 without a flag");
+    refused(spindle_sheet_add(s.totals, s.dual, SPINDLE_SHEET_PLACES, s.primal, SPINDLE_SHEET_PLACES, s.skipped, s.totals.files, bytes, n),
+            8, &s, &before, "8 without a flag");
     Sheet u = t;
     u.totals.dual.file = u.totals.files + 1;
     refused(join(&s, &u), 9, &s, &before, "9: a largest behind the files");
@@ -119,13 +124,16 @@ static int calls(void)
 
     /* one of size 0 is none, in whatever file, and is not moved up */
     u = t;
-    u.totals.dual = u.totals.primal = (Largest){ 0, UINT64_MAX, 7 };
-    Totals joined = join(&s, &u);
+    u.totals.dual = u.totals.primal = (SpindleLargest){0, UINT64_MAX, 7};
+    SpindleTotals joined = join(&s, &u);
     check(joined.code == 0 && joined.files == before.totals.files + 2, "a largest of size 0");
-    check(!memcmp(&joined.dual, &before.totals.dual, sizeof(Largest)) && !memcmp(&joined.primal, &before.totals.primal, sizeof(Largest)), "the first's largest");
+    check(!memcmp(&joined.dual, &before.totals.dual, sizeof(SpindleLargest))
+              && !memcmp(&joined.primal, &before.totals.primal, sizeof(SpindleLargest)),
+          "the first's largest");
     static Sheet none;
     joined = join(&none, &u);
-    check(joined.code == 0 && joined.dual.size == 0 && joined.dual.file == 0 && joined.dual.at == 0 && joined.primal.file == 0, "none of either");
+    check(joined.code == 0 && joined.dual.size == 0 && joined.dual.file == 0 && joined.dual.at == 0 && joined.primal.file == 0,
+          "none of either");
     s = before;
     u = t;
     u.totals.files = SPINDLE_SHEET_FILES;
@@ -146,15 +154,20 @@ static int calls(void)
     memcpy(old, text, sizeof text);
     s = before;
     s.primal[2047] = 0;
-    Printed short_one = spindle_sheet_text(text, SPINDLE_SHEET_TEXT - 1, s.totals, s.dual, SPINDLE_SHEET_PLACES, s.primal, SPINDLE_SHEET_PLACES, s.skipped,
-                                           SPINDLE_SHEET_FILES);
+    SpindlePrinted short_one = spindle_sheet_text(text, SPINDLE_SHEET_TEXT - 1, s.totals, s.dual, SPINDLE_SHEET_PLACES, s.primal,
+                                                  SPINDLE_SHEET_PLACES, s.skipped, SPINDLE_SHEET_FILES);
     check(short_one.code == 8 && short_one.length == 0 && !memcmp(text, old, sizeof text), "8: no room for every text");
-    Totals many = s.totals;
+    SpindleTotals many = s.totals;
     many.files = SPINDLE_SHEET_FILES + 1;
     static uint8_t flags[SPINDLE_SHEET_FILES + 1];
-    check(spindle_sheet_text(text, 0, many, s.dual, SPINDLE_SHEET_PLACES, s.primal, SPINDLE_SHEET_PLACES, flags, sizeof flags).code == 9, "9: 1,001 files");
-    check(spindle_sheet_text(text, 0, many, s.dual, SPINDLE_SHEET_PLACES, s.primal, SPINDLE_SHEET_PLACES, s.skipped, SPINDLE_SHEET_FILES).code == 2, "2 before 9");
-    Printed printed = spindle_sheet_text(text, sizeof text, s.totals, s.dual, SPINDLE_SHEET_PLACES, s.primal, SPINDLE_SHEET_PLACES, s.skipped, SPINDLE_SHEET_FILES);
+    check(spindle_sheet_text(text, 0, many, s.dual, SPINDLE_SHEET_PLACES, s.primal, SPINDLE_SHEET_PLACES, flags, sizeof flags).code == 9,
+          "9: 1,001 files");
+    check(
+        spindle_sheet_text(text, 0, many, s.dual, SPINDLE_SHEET_PLACES, s.primal, SPINDLE_SHEET_PLACES, s.skipped, SPINDLE_SHEET_FILES).code
+            == 2,
+        "2 before 9");
+    SpindlePrinted printed = spindle_sheet_text(text, sizeof text, s.totals, s.dual, SPINDLE_SHEET_PLACES, s.primal, SPINDLE_SHEET_PLACES,
+                                                s.skipped, SPINDLE_SHEET_FILES);
     const char *lines = "skipped file 2\ndual records 3\ndual zero 0\ndual exp -3 2\ndual subnormal 1\ndual most 50 file 4 at 0\n"
                         "primal records 3\nprimal zero 0\nprimal exp -1 3\nprimal subnormal 0\nprimal most 2 file 1 at 0\n";
     check(printed.code == 0 && printed.length == strlen(lines) && !memcmp(text, lines, strlen(lines)), "the text");
@@ -185,7 +198,8 @@ static int text_of(char **files, int count)
     }
     groups[0].totals = join(&groups[0], &groups[1]);
     Sheet *s = &groups[0];
-    Printed p = spindle_sheet_text(text, sizeof text, s->totals, s->dual, SPINDLE_SHEET_PLACES, s->primal, SPINDLE_SHEET_PLACES, s->skipped, SPINDLE_SHEET_FILES);
+    SpindlePrinted p = spindle_sheet_text(text, sizeof text, s->totals, s->dual, SPINDLE_SHEET_PLACES, s->primal, SPINDLE_SHEET_PLACES,
+                                          s->skipped, SPINDLE_SHEET_FILES);
     return s->totals.code || p.code || fwrite(text, 1, p.length, stdout) != p.length;
 }
 

@@ -12,7 +12,8 @@ static uint8_t many[LARGE], place[LARGE + 20], output[LARGE + 20];
 
 static int filled(const uint8_t *from, size_t n, uint8_t byte)
 {
-    while (n--) if (*from++ != byte) return 0;
+    while (n--)
+        if (*from++ != byte) return 0;
     return 1;
 }
 static void put(uint8_t *to, size_t n, uint64_t x)
@@ -43,24 +44,26 @@ static int thins(const uint8_t *trace, size_t n, const uint8_t *want, size_t len
     memset(output, CANARY, n + 20);
     memcpy(place, trace, n);
     memset(place + n, CANARY, 20);
-    Thinned apart = spindle_thin(trace, n, output, n + 10), within = spindle_thin_in_place(place, n);
-    return apart.code == 0 && apart.kept == kept && apart.dropped == dropped && apart.length == length && within.code == 0 && within.kept == kept
-           && within.dropped == dropped && within.length == length && !memcmp(output, want, length) && !memcmp(place, want, length)
-           && filled(output + length, n + 20 - length, CANARY) && filled(place + length, n - length, 0) && filled(place + n, 20, CANARY);
+    SpindleThinned apart = spindle_thin(trace, n, output, n + 10), within = spindle_thin_in_place(place, n);
+    return apart.code == 0 && apart.kept == kept && apart.dropped == dropped && apart.length == length && within.code == 0
+           && within.kept == kept && within.dropped == dropped && within.length == length && !memcmp(output, want, length)
+           && !memcmp(place, want, length) && filled(output + length, n + 20 - length, CANARY) && filled(place + length, n - length, 0)
+           && filled(place + n, 20, CANARY);
 }
 /* neither form takes the bytes, whatever room there is, and nothing moves */
 static int broken(const uint8_t *trace, size_t n)
 {
     memset(output, CANARY, n + 20);
     memcpy(place, trace, n);
-    Thinned apart = spindle_thin(trace, n, output, n), none = spindle_thin(trace, n, output, 0), within = spindle_thin_in_place(place, n);
-    return apart.code == 9 && none.code == 9 && within.code == 9 && !apart.kept && !apart.dropped && !apart.length && !within.kept && !within.dropped
-           && !within.length && filled(output, n + 20, CANARY) && !memcmp(place, trace, n);
+    SpindleThinned apart = spindle_thin(trace, n, output, n), none = spindle_thin(trace, n, output, 0),
+                   within = spindle_thin_in_place(place, n);
+    return apart.code == 9 && none.code == 9 && within.code == 9 && !apart.kept && !apart.dropped && !apart.length && !within.kept
+           && !within.dropped && !within.length && filled(output, n + 20, CANARY) && !memcmp(place, trace, n);
 }
 static int no_room(const uint8_t *trace, size_t n, size_t room)
 {
     memset(output, CANARY, n + 20);
-    Thinned r = spindle_thin(trace, n, output, room);
+    SpindleThinned r = spindle_thin(trace, n, output, room);
     return r.code == 8 && !r.kept && !r.dropped && !r.length && filled(output, n + 20, CANARY);
 }
 
@@ -87,8 +90,8 @@ static uint32_t firsts(size_t *kept, const size_t *order, uint32_t count)
     return n;
 }
 
-static uint32_t seed = 12345;
-static size_t drawn(size_t below) { return (size_t)((seed = seed * 1664525u + 1013904223u) >> 8) % below; }
+static uint32_t drawn_last = 12345;
+static size_t drawn(size_t limit) { return (size_t)((drawn_last = drawn_last * 1664525u + 1013904223u) >> 8) % limit; }
 
 static void calls(uint32_t edition)
 {
@@ -111,7 +114,7 @@ static void calls(uint32_t edition)
         expect(thins(want, length, want, length, left, 0), "thinned again");
         expect(spindle_thin(changed, n, output, length).code == 0 && !memcmp(output, want, length), "just its room");
         expect(no_room(changed, n, length - 1) && no_room(changed, n, 0), "no room");
-        Replayed p = spindle_replay(want, length, at, RECORDS);
+        SpindleReplayed p = spindle_replay(want, length, at, RECORDS);
         expect(p.code == 0 && p.records == left && p.same == left && p.differ == 0, "what was thinned replays the same");
     }
     /* two records that differ in one bit of one byte, at every place: either both are kept, or the bytes are no trace */
@@ -123,8 +126,10 @@ static void calls(uint32_t edition)
                 memcpy(changed + length, bytes + begins[i], length);
                 size_t n = closed(changed, 2 * length, 2, edition);
                 changed[(first ? 0 : length) + by / 8] ^= (uint8_t)(1 << by % 8);
-                if (spindle_trace_open(changed, n).code) expect(broken(changed, n), "a bit that breaks the layout");
-                else expect(thins(changed, n, changed, n, 2, 0), "two records that differ in one bit");
+                if (spindle_trace_open(changed, n).code)
+                    expect(broken(changed, n), "a bit that breaks the layout");
+                else
+                    expect(thins(changed, n, changed, n, 2, 0), "two records that differ in one bit");
             }
     }
     /* every truncation of a trace with equal records */
@@ -135,13 +140,16 @@ static void calls(uint32_t edition)
     expect(broken(changed, 2 * n), "a trace and bytes behind it");
 
     /* the limit: all equal, all different, and pairs */
-    Cone cone = cones[2];
+    SpindleCone cone = cones[2];
     cone.dim1 = cone.dim2 = 1;
     cone.exps[0] = 1.0;
     double x[2] = {0, 0};
     size_t small = spindle_trace_create(want, sizeof want).length;
     want[small - 8] = (uint8_t)edition;
-    small = spindle_trace_append(want, sizeof want, small, cone, 1, spindle_house_settings(1.0), x, 2, x, 2, x, 2, x, 2, (Steps){0, 0, 0, 0, 0}).length - 28;
+    small = spindle_trace_append(want, sizeof want, small, cone, 1, spindle_house_settings(1.0), x, 2, x, 2, x, 2, x, 2,
+                                 (SpindleSteps){0, 0, 0, 0, 0})
+                .length
+            - 28;
     for (uint32_t alike = 1; alike <= MOST; alike *= 64) {
         for (uint32_t i = 0; i < MOST; i++) {
             memcpy(many + i * small, want, small);
@@ -159,9 +167,11 @@ static void calls(uint32_t edition)
 static void all_of(const char *folder, const char *name, const uint8_t *input, size_t n)
 {
     char text[100];
-    Thinned r = spindle_thin(input, n, output, sizeof output);
-    if (r.code) snprintf(text, sizeof text, "refused %u\n", (unsigned)r.code);
-    else snprintf(text, sizeof text, "length %u\nkept %u\ndropped %u\n", (unsigned)r.length, (unsigned)r.kept, (unsigned)r.dropped);
+    SpindleThinned r = spindle_thin(input, n, output, sizeof output);
+    if (r.code)
+        snprintf(text, sizeof text, "refused %u\n", (unsigned)r.code);
+    else
+        snprintf(text, sizeof text, "length %u\nkept %u\ndropped %u\n", (unsigned)r.length, (unsigned)r.kept, (unsigned)r.dropped);
     keep(folder, name, "in", input, n);
     keep(folder, name, "text", text, strlen(text));
     if (!r.code) keep(folder, name, "out", output, r.length);
@@ -199,12 +209,14 @@ static void files(const char *folder)
 
 static void measure(void)
 {
-    Cone c = cones[2];
+    SpindleCone c = cones[2];
     double x[64] = {0};
     c.dim1 = c.dim2 = 32;
     for (int i = 0; i < 32; i++) c.exps[i] = 1.0 / 32;
     size_t n = spindle_trace_create(many, sizeof many).length, length = 0;
-    n = spindle_trace_append(many, sizeof many, n, c, 0, (Settings){1.0, 0.8, 0.0001}, x, 64, x, 64, x, 64, x, 64, (Steps){0, 0, 0, 0, 0}).length;
+    n = spindle_trace_append(many, sizeof many, n, c, 0, (SpindleSettings){1.0, 0.8, 0.0001}, x, 64, x, 64, x, 64, x, 64,
+                             (SpindleSteps){0, 0, 0, 0, 0})
+            .length;
     length = n - 28;
     for (uint32_t alike = 1; alike <= MOST; alike *= 64) {
         for (uint32_t i = MOST; i--;) {
@@ -213,14 +225,16 @@ static void measure(void)
         }
         n = closed(many, MOST * length, MOST, NEWEST);
         clock_t from = clock();
-        Thinned r = spindle_thin(many, n, output, sizeof output);
+        SpindleThinned r = spindle_thin(many, n, output, sizeof output);
         double apart = (double)(clock() - from) / CLOCKS_PER_SEC;
         memcpy(place, many, n);
         from = clock();
-        Thinned q = spindle_thin_in_place(place, n);
+        SpindleThinned q = spindle_thin_in_place(place, n);
         double within = (double)(clock() - from) / CLOCKS_PER_SEC;
-        expect(r.code == 0 && q.code == 0 && r.kept == MOST / alike && q.kept == r.kept && !memcmp(place, output, r.length), "a full trace thinned");
-        printf("thin: %u records of 64 numbers, %zu bytes, %u kept: %.3f s, in place %.3f s\n", (unsigned)MOST, n, (unsigned)r.kept, apart, within);
+        expect(r.code == 0 && q.code == 0 && r.kept == MOST / alike && q.kept == r.kept && !memcmp(place, output, r.length),
+               "a full trace thinned");
+        printf("thin: %u records of 64 numbers, %zu bytes, %u kept: %.3f s, in place %.3f s\n", (unsigned)MOST, n, (unsigned)r.kept, apart,
+               within);
     }
 }
 

@@ -1,5 +1,5 @@
 -- The test of the exponential cone on three numbers, and the exact number beside it. Definitions only.
--- The test is Order 5's. It stands here, below the crate that has it of a point (expcone's specs/feasible/Feasible), so that the test and
+-- The test is Order 5's. It stands here, below the crate that has it of a point (expcone/specs/feasible/Feasible), so that the test and
 -- what is proved of it are in one small crate.
 use mathlib.Core.Bool.{Bool, _&&_}
 use lib.Ieee.{Float}

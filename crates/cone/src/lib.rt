@@ -1,4 +1,5 @@
-// The types that the library's calls take and answer with, as include/spindle.h lays them out.
+// The types that the library's calls take and answer with, as include/spindle.h lays them out. Module `table` has the numbers of refusals
+// in their order, `verdict` yes, no and undecided, `words` a cone as it lies in memory.
 ghost use mathlib.Core.Path.{_≡_};
 ghost use Prim.Native.Nat.{_≤_};
 ghost use lib.ListN.{length};

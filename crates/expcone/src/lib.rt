@@ -1,4 +1,4 @@
-// The exponential cone of 000, as functions on values; the test of a point is in `feasible`.
+// The exponential cone of 000, as functions on values. The test of a point is in `feasible`, the Wright omega function in `wright`.
 //
 // Primal exponential cone: s3 ≥ s2*e^(s1/s2), s3,s2 > 0
 // Dual exponential cone: z3 ≥ -z1*e^(z2/z1 - 1), z3 > 0, z1 < 0

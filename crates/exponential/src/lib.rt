@@ -1,5 +1,6 @@
 // The exponential: 2^j times a sum, with x = j·S(1/3) + r. The rest r is kept to 2^-64 and the sum to 2^-62, in whole numbers; the answer
-// is rounded once, at the end.
+// is rounded once, at the end. Module `place` finds j and r, `sum` has the sum and its estimate from a table, and `inverse`, laws only, says
+// how the sum and the logarithm's L undo one another.
 ghost use mathlib.Core.Path.{_≡_};
 ghost use Prim.Native.Nat.{_+_, _*_, _≤_, _<_};
 ghost use Rattle.exponential.specs.Steps.{thirdIn64, horner, composed, expAt, expOf, InRange};

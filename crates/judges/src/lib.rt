@@ -1,5 +1,5 @@
-// The judges: each asks one thing of a call's arguments. The rows of the table, in `table`, put them in order. Those of a cone are
-// `cone_judge`'s, passed on.
+// The judges: each asks one thing of a call's arguments. `cone::table` puts their answers in the order of document 01. Module `cone_judge`
+// judges a cone, and its functions are passed on here; `refusal` has what a refused call leaves.
 ghost use mathlib.Core.Path.{_≡_};
 ghost use lib.ListN.{take};
 ghost use lib.Ieee.Scale.{finite};

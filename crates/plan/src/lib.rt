@@ -1,6 +1,6 @@
 // 02, Order 10: one common step for a list of cones over one long pair of vectors. The search is 003's, with "every cone passes" as its
-// test; its laws, for any test and any count of single tests, are in the crate trials. A cone of the list is its 34 words (crate
-// `cone::words`).
+// test; its laws, for any test and any count of single tests, are in `search::trials`. A cone of the list is its 34 words, as
+// `cone::words` reads them.
 ghost use mathlib.Core.Path.{_≡_};
 ghost use mathlib.Core.Bool.{true};
 ghost use Prim.Native.Nat.{_≤_};

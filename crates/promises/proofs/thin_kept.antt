@@ -1,2 +1,2 @@
--- The theorems of specs/Replays (Replays).
+-- The theorems of specs/thin_kept/Replays (Replays).
 pub mod Replays

@@ -1,1 +1,1 @@
-// Laws only: what serials promise to a caller. The theorems stand in specs/Serials.
+// Laws only: what serials promise to a caller. The theorems stand in specs/serials/Serials.

@@ -1,1 +1,1 @@
-// Laws only: a thinned trace replayed. The theorems stand in specs/Replays.
+// Laws only: a thinned trace replayed. The theorems stand in specs/thin_kept/Replays.

@@ -1,5 +1,6 @@
 // The square root. 01: "IEEE 754, nearest, ties to even, stated by comparing whole-number squares. -0 gives -0, +infinity itself,
-// NaN or a negative number NaN."
+// NaN or a negative number NaN." At the root of this room is the plain way, digit by digit; `table_root` has the same bits from an estimate
+// of `reciprocal_table`, and is what the cones call.
 ghost use mathlib.Core.Path.{_≡_};
 ghost use Prim.Native.Nat.{_*_, _^_, _<_, _≤_};
 ghost use Rattle.root.specs.Steps.{nearRoot, rootOf, sqrtOf};

@@ -1,4 +1,4 @@
-// search_run, cones_run, one after the other.
+// Runs searches and the cones' formulas at chosen arguments, one module after the other. What it prints is compared with the file stdout.
 mod cones_run;
 mod search_run;
 

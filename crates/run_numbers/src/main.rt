@@ -1,4 +1,5 @@
-// double_run, wide_run, logarithm_run, one after the other.
+// Runs doubles taken apart and put together, the wide product and the logarithm at chosen arguments, one module after the other. What it
+// prints is compared with the file stdout.
 mod double_run;
 mod logarithm_run;
 mod wide_run;

@@ -1,4 +1,4 @@
-// 003: the step search along a direction. Its laws, for any test of a point, are in the crate trials.
+// 003: the step search along a direction of one cone. Module `trials` has the laws of its trials, for any test of a point.
 ghost use mathlib.Core.Path.{_≡_};
 ghost use lib.ListN.{length};
 ghost use Rattle.search.specs.trials.Search.{outcome, searchOf};

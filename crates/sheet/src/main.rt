@@ -1,5 +1,6 @@
-// sheet FILE ..: the monthly sheet of traces, files numbered from 1 as given. 02, Order 14. It reads, calls and writes; what it prints is
-// `sheetText` of `trace_sheet::text` of `sheetOf` of `trace_sheet::counts`, by the contract of `put_files`. A file that cannot be read is
+// sheet FILE ..: the monthly sheet of traces, files numbered from 1 as given. 02, Order 14. It reads, calls and writes. By the
+// contract of `put_files` what it prints is the text of the sheet of as many files as it was given; that they are the files named, and in
+// their order, tests/traces checks. A file that cannot be read is
 // said in one line, and then no sheet is printed. One file at a time, the rows and the text lie on the stack.
 ghost use mathlib.Core.Path.{_≡_};
 ghost use mathlib.Core.List.{[]};

@@ -1,4 +1,5 @@
 // Numbers of two 64-bit halves, which the language has no type for: the whole product of two numbers, and what one has over another.
+// The product is made of three partial products; module `four` has it of four, where that is faster.
 ghost use mathlib.Core.Path.{_≡_};
 ghost use Prim.Native.Nat.{_+_, _-_, _*_, _^_, _/_, _%_, _<_};
 ghost use Rattle.wide.specs.Products.{wholeOf, productOf, leftOf};

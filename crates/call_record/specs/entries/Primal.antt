@@ -1,6 +1,6 @@
 -- 02, Order 4: "Both primal answers then use only the record's cone; 3 still judges the rest. Refusals: 5 is no longer given for these two
--- or the combined barrier." Statements only, of the entries' definitions; proofs/Primal shows them, and the first three of the functions'
--- contracts too.
+-- or the combined barrier." Statements only, of the entries' definitions; proofs/entries/Primal shows them, and the first three of the
+-- functions' contracts too.
 use mathlib.Core.Path.{_≡_}
 use mathlib.Core.Bool.{true}
 use mathlib.Core.List.{List}

@@ -1,4 +1,4 @@
--- What a completed update is made of. Statements only; proofs/Updates proves them.
+-- What a completed update is made of. Statements only; proofs/update/Updates proves them.
 use Prim.Native.Nat.{ℕ, _+_, _≤_, _<_}
 use mathlib.Core.Path.{_≡_}
 use mathlib.Core.List.{List}

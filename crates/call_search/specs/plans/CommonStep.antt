@@ -1,5 +1,5 @@
 -- Order 10 of the entry itself: what a call that is not refused hands back, and what it is for a plan of one cone. The statements only;
--- proofs/CommonStep and proofs/OneCone show them.
+-- proofs/plans/CommonStep and proofs/plans/OneCone show them.
 use Prim.Native.Nat.{_*_, _≤_}
 use mathlib.Core.Path.{_≡_}
 use mathlib.Core.Bool.{Bool, true, not}

@@ -1,4 +1,5 @@
--- One step for both sides, of the entry itself: what a call that is not refused hands back. The statements only; proofs/PlanStep shows them.
+-- One step for both sides, of the entry itself: what a call that is not refused hands back. The statements only; proofs/plans/PlanStep
+-- shows them.
 use Prim.Native.Nat.{ℕ, _*_, _≤_, _<_}
 use mathlib.Core.Path.{_≡_}
 use mathlib.Core.Logic.{_⊎_}

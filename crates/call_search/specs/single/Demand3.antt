@@ -1,5 +1,5 @@
--- Demand 3 of the entries themselves: what a call that is not refused hands back. Definitions and the statements only; proofs/Demand3 shows
--- them, and of the functions' contracts too.
+-- Demand 3 of the entries themselves: what a call that is not refused hands back. Definitions and the statements only;
+-- proofs/single/Demand3 shows them, and of the functions' contracts too.
 use mathlib.Core.Path.{_≡_}
 use mathlib.Core.Bool.{Bool, true, false, not}
 use mathlib.Core.List.{List}

@@ -39,6 +39,6 @@ coneOfWords w = record {
 abbrev pub conesOf : List (List ℕ) → List Cone
 conesOf ws = map coneOfWords ws
 
--- the words of a cone; proofs/Words: `coneOfWords` reads it back
+-- the words of a cone; proofs/words/Words: `coneOfWords` reads it back
 unfoldable pub wordsOf : Cone → List ℕ
 wordsOf c = (c .kind + 2 ^ 32 * c .dim1) ∷ (c .dim2 + 2 ^ 32 * c .rule) ∷ map (toBits binary64) (c .exps)

@@ -1,5 +1,5 @@
--- 01: "For each, show that any two outcomes allowed by it agree": of every export. The functions behind them have theirs in proofs/Agree of
--- their crate. Assumes nothing.
+-- 01: "For each, show that any two outcomes allowed by it agree": of every export. The functions behind them have theirs in the files
+-- Agree of their rooms. Assumes nothing.
 use mathlib.Core.Path.{_∙_, sym}
 use mathlib.Core.List.{List}
 use Prim.Native.Nat.{ℕ}

@@ -1,4 +1,4 @@
--- The theorems of specs/Replays: a replay's counts are functions of the edition and the records. Assumes nothing.
+-- The theorems of specs/thin_kept/Replays: a replay's counts are functions of the edition and the records. Assumes nothing.
 use mathlib.Core.Path.{_≡_, refl, sym, ap, _∙_}
 use mathlib.Core.List.{List}
 use Prim.Native.Nat.{ℕ, zero, suc}

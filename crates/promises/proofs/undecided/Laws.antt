@@ -1,5 +1,5 @@
--- The laws of specs/Laws, of every cone that row 1 lets through: each kind says how its answer is made, that its margin has no sign and
--- when it is boundless; the rest follows for all alike. Assumes nothing.
+-- The laws of specs/undecided/Laws, of every cone that row 1 lets through: each kind says how its answer is made, that its margin has no
+-- sign and when it is boundless; the rest follows for all alike. Assumes nothing.
 use mathlib.Core.Path.{_≡_, refl, sym, subst, ap, _∙_}
 use mathlib.Core.Bool.{Bool, true, false, not, _&&_}
 use mathlib.Core.List.{List, [], _∷_}

@@ -1,5 +1,5 @@
 -- 02, Order 9: "New traces are edition 3, with the rule (u32) after dim2". So no record of edition 3 is one of edition 1 or 2, whatever
--- bytes it holds, nor the other way round. Statements; proofs/Editions has the proofs.
+-- bytes it holds, nor the other way round. Statements; proofs/cut_traces/Editions has the proofs.
 use Prim.Native.Nat.{ℕ}
 use mathlib.Core.Path.{_≡_}
 use mathlib.Core.Bool.{true, false}

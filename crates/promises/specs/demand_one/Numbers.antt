@@ -1,5 +1,5 @@
 -- Which numbers each call can give at all, a row for each call, 0 aside. 01, "Numbers handed back". Definitions, and the statement;
--- proofs/Numbers proves it.
+-- proofs/demand_one/Numbers proves it.
 use Prim.Native.Nat.{ℕ}
 use mathlib.Core.Path.{_≡_}
 use mathlib.Core.Bool.{Bool, true, false, _||_}

@@ -1,6 +1,6 @@
 -- Demand 1: "Public entries refuse by the numbers in document 01, hand back zeros, and keep every lent buffer and scaling record unchanged."
 -- 01: "A refusal returns zeros for all numbers and no for a yes or no, changes no lent buffer, and returns the scaling record bit for bit."
--- What that is of each call, and the one statement; proofs/Refusals proves it.
+-- What that is of each call, and the one statement; proofs/demand_one/Refusals proves it.
 use Prim.Native.Nat.{ℕ}
 use mathlib.Core.Path.{_≡_}
 use mathlib.Core.Bool.{false}

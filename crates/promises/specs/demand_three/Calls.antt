@@ -1,6 +1,6 @@
 -- Demand 3 of the four calls of include/spindle.h, whatever their callers pass: no premise is left but demand 3's own. `Post` is the claim
--- of a call's `ensures`, and `GoodsP` what holds of the arguments of every call: each f64 is a double. Statements; proofs/Calls has the
--- proofs.
+-- of a call's `ensures`, and `GoodsP` what holds of the arguments of every call: each f64 is a double. Statements;
+-- proofs/demand_three/Calls has the proofs.
 use denote.Ref.{now}
 use denote.Triple.Clauses.{AtExit}
 use contract.Lifetimes.{Lfts}

@@ -1,6 +1,7 @@
--- Demand 3 as one theorem of the four searches: its premises, which refuse nothing, and what it asks for then. `AsDemanded` is the record of
--- demand 3's conclusion, sentence by sentence; `AsOrdered` and `BothAsOrdered` are that of a plan, with Order 10's words. Statements only:
--- proofs/Searches has the proofs of the definitions that the contracts name, proofs/Calls of the calls themselves.
+-- Demand 3 as one theorem of the four searches: its premises, which refuse nothing, and what it asks for then. `AsDemanded` is the record
+-- of demand 3's conclusion, sentence by sentence; `AsOrdered` and `BothAsOrdered` are that of a plan, with Order 10's words. Statements
+-- only: proofs/demand_three/Searches has the proofs of the definitions that the contracts name, proofs/demand_three/Calls of the calls
+-- themselves.
 use mathlib.Core.Path.{_≡_}
 use mathlib.Core.Bool.{Bool}
 use mathlib.Core.List.{List}

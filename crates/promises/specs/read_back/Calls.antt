@@ -1,6 +1,6 @@
 -- 02, Order 1: "what one writes the other reads back the same", of the calls `spindle_trace_append` and `spindle_trace_record` themselves.
 -- `Post` is the claim of a call's `ensures`. No hypothesis is left to a caller but that the two calls were made, one on what the other left.
--- Statements; proofs/Calls has the proofs.
+-- Statements; proofs/read_back/Calls has the proofs.
 use Prim.Native.Nat.{ℕ, _<_}
 use mathlib.Core.Path.{_≡_}
 use mathlib.Core.List.{List}

@@ -1,5 +1,6 @@
 -- 02, Order 8: "Two callers tuned on 0.8 must now pass it outright: the nightly drain and the replay of old files". Replay with a default
--- step that is told outright: definitions, and the statement that a replay is one, by its trace's edition; proofs/Outright has the proofs.
+-- step that is told outright: definitions, and the statement that a replay is one, by its trace's edition; proofs/replay_kept/Outright has
+-- the proofs.
 use Prim.Native.Nat.{ℕ, suc, _+_}
 use mathlib.Core.Path.{_≡_}
 use mathlib.Core.Bool.{Bool, cond, not}

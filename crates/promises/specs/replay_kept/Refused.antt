@@ -1,5 +1,5 @@
 -- 02, Order 2: "Records whose cone, numbers or settings are refused count as differing", whatever answers they hold. The statement;
--- proofs/Refused has the proof.
+-- proofs/replay_kept/Refused has the proof.
 use Prim.Native.Nat.{ℕ}
 use mathlib.Core.Path.{_≡_}
 use mathlib.Core.Bool.{false, _&&_}

@@ -1,4 +1,4 @@
--- A search that was recorded as it was made replays the same. Statements; proofs/Replays has the proofs.
+-- A search that was recorded as it was made replays the same. Statements; proofs/replay_kept/Replays has the proofs.
 use Prim.Native.Nat.{ℕ}
 use mathlib.Core.Path.{_≡_}
 use mathlib.Core.Bool.{true, false, cond}

@@ -1,5 +1,5 @@
 -- 02, Orders 1 and 2 together: a trace that `create` and calls of `append` make of searches as they were made replays with `differ 0`. The
--- statement; proofs/Traces has the proof.
+-- statement; proofs/replay_kept/Traces has the proof.
 use Prim.Native.Nat.{ℕ, _≤_}
 use mathlib.Core.Path.{_≡_}
 use mathlib.Core.List.{List, [], _∷_}

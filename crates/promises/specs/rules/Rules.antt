@@ -1,6 +1,6 @@
 -- 02, Order 9: "Every cone that rule 2 takes, rule 1 takes as well, with equal answers but for the rule number carried; prove that once
--- over both tolerances." Statements, of the definitions that the calls' contracts name; proofs/Tolerances, proofs/Answers,
--- proofs/PlanAnswers and proofs/AtTolerance have the proofs.
+-- over both tolerances." Statements, of the definitions that the calls' contracts name; proofs/rules/Tolerances, proofs/rules/Answers,
+-- proofs/rules/PlanAnswers and proofs/rules/AtTolerance have the proofs.
 use Prim.Native.Nat.{ℕ, _<_}
 use mathlib.Core.Path.{_≡_}
 use mathlib.Core.Bool.{Bool, true, false}

@@ -1,5 +1,5 @@
 -- 02, Order 9: "New traces are edition 3, with the rule (u32) after dim2 ..; cones from editions 1 and 2 are under rule 1"; "in a trace it
--- is no layout fault". What that says of a record that is read and of an append. Statements; proofs/Traces has the proofs.
+-- is no layout fault". What that says of a record that is read and of an append. Statements; proofs/rules/Traces has the proofs.
 use Prim.Native.Nat.{ℕ, _<_}
 use mathlib.Core.Path.{_≡_}
 use mathlib.Core.Bool.{true}

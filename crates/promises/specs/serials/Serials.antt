@@ -1,5 +1,5 @@
 -- 02, Order 6: "Put a serial into the scaling record: 0 when fresh, one more after each completed update, unchanged by a refused one."
--- Statements, of the definitions that the calls' contracts name; proofs/Serials has the proofs.
+-- Statements, of the definitions that the calls' contracts name; proofs/serials/Serials has the proofs.
 use Prim.Native.Nat.{ℕ, _+_, _<_}
 use mathlib.Core.Path.{_≡_}
 use mathlib.Core.Bool.{cond}

@@ -1,6 +1,6 @@
 -- 02, Order 14: "Lines read, for the side `dual` and then `primal`: `dual records 3`, `dual zero 1`, `dual exp 0 1`, `dual exp -3 1`, `dual
--- subnormal 0`, `dual most 42 file 1 at 0`". The document's six lines, byte for byte. The definitions, and the statement; proofs/Lines has
--- the proof.
+-- subnormal 0`, `dual most 42 file 1 at 0`". The document's six lines, byte for byte. The definitions, and the statement;
+-- proofs/sheet_lines/Lines has the proof.
 use Prim.Native.Nat.{ℕ}
 use Prim.Native.Char.{code}
 use Prim.Native.String.{String, [], _∷_}

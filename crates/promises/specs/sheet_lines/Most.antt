@@ -1,5 +1,5 @@
--- 02, Order 14: "Also the largest test count, with the file number and offset of the first record that has it". The statement; proofs/Most
--- has the proof.
+-- 02, Order 14: "Also the largest test count, with the file number and offset of the first record that has it". The statement;
+-- proofs/sheet_lines/Most has the proof.
 use Prim.Native.Nat.{ℕ, _≤_, _<_}
 use mathlib.Core.Path.{_≡_}
 use mathlib.Core.Bool.{true, false}

@@ -1,5 +1,5 @@
 -- 02, Order 14: "The exponent, subnormal and zero lines add up to the records": of the lines that are printed. The definitions, and the
--- statement; proofs/Sums has the proof.
+-- statement; proofs/sheet_lines/Sums has the proof.
 use Prim.Native.Nat.{ℕ, _+_}
 use mathlib.Core.Path.{_≡_}
 use mathlib.Core.Bool.{Bool, true, false}

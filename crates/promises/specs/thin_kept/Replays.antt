@@ -1,4 +1,5 @@
--- A thinned trace replayed: its counts are those of the kept records. 02, Orders 2 and 13. Statements; proofs/Replays has the proofs.
+-- A thinned trace replayed: its counts are those of the kept records. 02, Orders 2 and 13. Statements; proofs/thin_kept/Replays has the
+-- proofs.
 use mathlib.Core.Path.{_≡_}
 use mathlib.Core.List.{List}
 use Prim.Native.Nat.{ℕ}

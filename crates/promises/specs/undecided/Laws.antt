@@ -1,5 +1,5 @@
 -- What Order 5 says of the answers that searches and entries ask for, `answerOf`, of a cone that row 1 lets through. Definitions only;
--- proofs/Laws proves it.
+-- proofs/undecided/Laws proves it.
 use mathlib.Core.Path.{_≡_}
 use mathlib.Core.Bool.{Bool, true, false}
 use mathlib.Core.List.{List}

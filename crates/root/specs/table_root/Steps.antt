@@ -1,5 +1,5 @@
 -- The square root of a double by a table estimate and correction steps. Definitions only. That it is the plain root, and the most steps
--- that it takes, is stated in specs/SameRoot.
+-- that it takes, is stated in specs/table_root/SameRoot.
 use mathlib.Core.Bool.{cond}
 use Prim.Native.Nat.{ℕ, zero, suc, _+_, _-_, _*_, _/_, _%_, _^_}
 use lib.Dec.{leb, eqb}

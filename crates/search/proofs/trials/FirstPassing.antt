@@ -1,5 +1,5 @@
--- What a search owes (specs/FirstPassing) holds of `searchOf`, and of no other outcome. Both by cases of how the search ends. Assumes
--- nothing.
+-- What a search owes (specs/trials/FirstPassing) holds of `searchOf`, and of no other outcome. Both by cases of how the search ends.
+-- Assumes nothing.
 use mathlib.Core.Path.{_≡_, refl, sym, ap, _∙_, subst}
 use mathlib.Core.Bool.{true, false, true≢false}
 use mathlib.Core.List.{List}

@@ -1,5 +1,5 @@
--- What a search with single tests owes (specs/LargestPassing) holds of `costedOf`, and of no other outcome; and of `searchOf`, where every
--- test is a single one. Assumes nothing.
+-- What a search with single tests owes (specs/trials/LargestPassing) holds of `costedOf`, and of no other outcome; and of `searchOf`, where
+-- every test is a single one. Assumes nothing.
 use mathlib.Core.Path.{_≡_, refl, sym, ap, _∙_, subst}
 use mathlib.Core.Logic.{_⊎_, inl, inr}
 use mathlib.Core.Bool.{true, false, true≢false}

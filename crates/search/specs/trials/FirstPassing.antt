@@ -1,7 +1,7 @@
 -- What a search owes, demand 3: "each search returns the first allowed trial whose computed point passes the cone test, and zero exactly if
 -- none passes. It hands back that tested point (the start point for zero) and the true number of tests.
 -- That number is at most 69 times (start's binary exponent minus smallest's, plus one), or 1 if the start is below the smallest."
--- Definitions and the statement only; proofs/FirstPassing shows it of `searchOf`, and that it leaves one outcome.
+-- Definitions and the statement only; proofs/trials/FirstPassing shows it of `searchOf`, and that it leaves one outcome.
 use Prim.Native.Nat.{ℕ, suc, _≤_, _<_}
 use mathlib.Core.Path.{_≡_}
 use mathlib.Core.Bool.{true, false}

@@ -1,5 +1,5 @@
 -- What a search owes whose tests are made of single tests. With every test a single one it is demand 3's record and no more
--- (proofs/LargestPassing). The statement only; proofs/LargestPassing shows it of `costedOf`, and that it leaves one outcome.
+-- (proofs/trials/LargestPassing). The statement only; proofs/trials/LargestPassing shows it of `costedOf`, and that it leaves one outcome.
 use Prim.Native.Nat.{ℕ, _*_, _≤_}
 use mathlib.Core.Path.{_≡_}
 use mathlib.Core.Logic.{_⊎_}

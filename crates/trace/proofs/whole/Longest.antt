@@ -1,4 +1,4 @@
--- The theorems of specs/Longest. Assumes nothing.
+-- The theorems of specs/whole/Longest. Assumes nothing.
 use mathlib.Core.Path.{_≡_, refl, sym, ap, _∙_}
 use mathlib.Core.Bool.{Bool, true, false}
 use mathlib.Core.List.{List, [], _∷_, _++_, append-nil}

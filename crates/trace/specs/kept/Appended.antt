@@ -1,4 +1,4 @@
--- What a done call leaves. Statements; proofs/Appended and proofs/Made have the proofs.
+-- What a done call leaves. Statements; proofs/kept/Appended and proofs/kept/Made have the proofs.
 use Prim.Native.Nat.{ℕ, _+_, _<_}
 use mathlib.Core.Path.{_≡_}
 use mathlib.Core.Bool.{true}

@@ -1,4 +1,4 @@
--- The whole records are the longest prefix of whole records. Statements; proofs/Longest has the proofs.
+-- The whole records are the longest prefix of whole records. Statements; proofs/whole/Longest has the proofs.
 use Prim.Native.Nat.{ℕ, _≤_, _<_}
 use mathlib.Core.Path.{_≡_}
 use mathlib.Core.Bool.{true, false}

@@ -1,4 +1,4 @@
--- The theorems of specs/Rescues. Assumes nothing.
+-- The theorems of specs/slices/Rescues. Assumes nothing.
 use mathlib.Core.Path.{_≡_, refl, sym, ap, _∙_, subst}
 use mathlib.Core.Bool.{true, false, not}
 use mathlib.Core.List.{List, [], _++_}

@@ -1,4 +1,4 @@
--- What a done rescue leaves, and which edition it has. Statements; proofs/Rescues has the proofs.
+-- What a done rescue leaves, and which edition it has. Statements; proofs/slices/Rescues has the proofs.
 use Prim.Native.Nat.{ℕ, _-_, _≤_}
 use mathlib.Core.Path.{_≡_}
 use mathlib.Core.Bool.{true, false}

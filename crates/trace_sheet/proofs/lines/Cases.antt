@@ -1,4 +1,4 @@
--- The document's own lines, byte by byte, and small cases. Assumes nothing.
+-- Small cases of lines, byte by byte. The document's six lines together are `DocumentsLines` of promises. Assumes nothing.
 use mathlib.Core.Path.{_≡_, refl}
 use mathlib.Core.Bool.{true, false}
 use mathlib.Core.List.{[], _∷_, _++_}

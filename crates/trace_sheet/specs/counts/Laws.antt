@@ -1,4 +1,4 @@
--- The laws of the sheet. Statements; proofs/Groups and proofs/AddsUp have the proofs.
+-- The laws of the sheet. Statements; proofs/counts/Groups and proofs/counts/AddsUp have the proofs.
 use Prim.Native.Nat.{ℕ, _*_, _≤_}
 use mathlib.Core.Path.{_≡_}
 use mathlib.Core.List.{List, [], _∷_, _++_}

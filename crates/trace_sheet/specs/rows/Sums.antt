@@ -1,4 +1,4 @@
--- Files added one by one, and two groups of them joined, give the sheet of all of them. Statement; proofs/Sums has the proof.
+-- Files added one by one, and two groups of them joined, give the sheet of all of them. Statement; proofs/rows/Sums has the proof.
 use Prim.Native.Nat.{ℕ, _≤_}
 use mathlib.Core.Path.{_≡_}
 use mathlib.Core.List.{List, [], _∷_, _++_}

@@ -1,4 +1,4 @@
--- From the bytes of files to the bytes of the text. Statement; proofs/FromFiles has the proof.
+-- From the bytes of files to the bytes of the text. Statement; proofs/text/FromFiles has the proof.
 use Prim.Native.Nat.{ℕ, _≤_}
 use mathlib.Core.Path.{_≡_}
 use mathlib.Core.List.{List, _++_}

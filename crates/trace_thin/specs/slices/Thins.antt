@@ -1,4 +1,4 @@
--- What a done thinning leaves, in both forms, and what is refused. Statements; proofs/Thins has the proofs.
+-- What a done thinning leaves, in both forms, and what is refused. Statements; proofs/slices/Thins has the proofs.
 use Prim.Native.Nat.{ℕ, _+_, _≤_, _<_}
 use mathlib.Core.Path.{_≡_}
 use mathlib.Core.Bool.{true, false}

@@ -239,6 +239,7 @@ wait "$edits" || tried=1
 started=
 cat "$copy/outside.txt" "$copy/edits.txt"
 [ "$(cat "$copy/status")" = 0 ] || { tail -n 1 "$copy/ci.txt"; die "rt ci failed"; }
+tools/edits --logs || die "an edit that rt ci tried was not refused at a fact"
 [ $passed = 0 ] || die "a run over the archive failed"
 [ $tried = 0 ] || die "tools/edits failed"
 tail -n 1 "$copy/ci.txt"

@@ -10,8 +10,8 @@
 #   sh build.sh --package           the same files as target/package/spindle-VERSION-MACHINE.tar.gz, with its sha256 beside it
 #   sh build.sh --help              this text
 #
-# --install and --uninstall look at two variables: LIBDIR, the folder of the libraries below PREFIX (lib), and DESTDIR, a folder that stands before
-# PREFIX while the files are put there.
+# --install looks at two variables: LIBDIR, the folder of the libraries below PREFIX (lib), and DESTDIR, a folder that stands before PREFIX while the
+# files are put there. --uninstall looks at DESTDIR; the list of what was installed tells it the rest.
 # The library is fresh if it is the one last built here, by this kit, from the library's files as they are now (by their sums, not their dates).
 # Exit status 0: done; 1: something was not proved or not built; 2: bad usage, or a command is missing.
 set -eu
@@ -31,7 +31,7 @@ all | --archive | --programs | --fresh | --package) [ $# -le 1 ] || usage "$job 
 -h | --help) awk 'NR > 1 { if (!/^#/) exit; sub(/^# ?/, ""); print }' build.sh; exit 0 ;;
 *) usage "no such option: $job" ;;
 esac
-case ${LIBDIR:-lib} in /* | .. | ../* | */.. | */../*) usage "LIBDIR is a folder below PREFIX, as lib64: ${LIBDIR:-}" ;; esac
+case ${LIBDIR:-lib} in /* | . | ./* | */. | */./* | */ | .. | ../* | */.. | */../*) usage "LIBDIR is a folder below PREFIX, as lib64: ${LIBDIR:-}" ;; esac
 
 [ "$job" = --uninstall ] || command -v rt >/dev/null 2>&1 || { echo "build: the Rattle kit's command rt is not on the PATH; install the kit first" >&2; exit 2; }
 
@@ -65,8 +65,13 @@ proved_of() {
     } | sha256sum
 }
 
-# What this machine's library is made of beside that: the header, from which the face is written, and the tools that compile it.
-native_of() { cat include/spindle.h tools/native tools/shim | sha256sum; }
+# What this machine's library is made of beside that: the header, from which the face is written, the tools that compile it, and for which machine.
+native_of() {
+    {
+        cat include/spindle.h tools/native tools/shim
+        echo "$machine ${SPINDLE_MACHINE:-} ${SPINDLE_SHIM:-}"
+    } | sha256sum
+}
 
 sums() { cat "$@" 2>/dev/null | sha256sum; }
 proved() { [ -f $archive ] && [ -f $module ] && [ -f target/staticlib/made-of ] && [ "$(cat target/staticlib/made-of)" = "$(proved_of; sums $archive $module)" ]; }
@@ -193,7 +198,9 @@ EOF
 }
 
 mkdir -p target/log
-DESTDIR=${DESTDIR:-}
+# as the shell that called us means it; what is installed is for all to read, whatever the caller's umask is
+case ${DESTDIR:-} in '' | /*) DESTDIR=${DESTDIR:-} ;; *) DESTDIR=$from/$DESTDIR ;; esac
+umask 022
 libdir=${LIBDIR:-lib}
 case $job in
 --install | --uninstall) case $2 in /*) prefix=${2%/} ;; *) prefix=$from/${2%/} ;; esac ;;
@@ -244,8 +251,14 @@ all)
     prefix=/$name
     install_files >/dev/null
     # the same files give the same bytes
-    (cd target/package && find "$name" ! -type d | LC_ALL=C sort | tar --create --format=ustar --owner=0 --group=0 --numeric-owner --mtime='@0' --files-from=- --file=- | gzip -n >"$name.tar.gz" \
-        && sha256sum "$name.tar.gz" >"$name.tar.gz.sha256" && rm -rf "${name:?}")
+    (
+        cd target/package
+        find "$name" ! -type d | LC_ALL=C sort >files
+        tar --create --format=ustar --owner=0 --group=0 --numeric-owner --mtime='@0' --files-from=files --file="$name.tar"
+        gzip -n "$name.tar"
+        sha256sum "$name.tar.gz" >"$name.tar.gz.sha256"
+        rm -rf "${name:?}" files
+    ) || die "the package was not made"
     echo "build: target/package/$name.tar.gz"
     cat "target/package/$name.tar.gz.sha256"
     ;;

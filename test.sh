@@ -161,7 +161,7 @@ grep -q "^## $version" CHANGELOG.md || die "CHANGELOG.md has no heading for vers
 say "no file names a path of a machine"
 roots='opt|tmp|root|home|mnt|srv|work|Users'
 if git rev-parse --git-dir >/dev/null 2>&1; then
-    found=$(git grep -nIE "(^|[^A-Za-z0-9._/-])/($roots)/[A-Za-z]" -- . ':!docs/src' ':!test.sh' || true)
+    found=$(git grep --untracked -nIE "(^|[^A-Za-z0-9._/-])/($roots)/[A-Za-z]" -- . ':!docs/src' ':!test.sh' || true)
 else
     found=$(grep -rnIE "(^|[^A-Za-z0-9._/-])/($roots)/[A-Za-z]" --exclude-dir=target --exclude=test.sh . | grep -v '^\./docs/src/' || true)
 fi

@@ -1,5 +1,5 @@
 /* What the kit's library `os` asks of the system, for a program that is compiled for another machine than x86-64: the words that the program was
-   called with, errno, and files by their name. Each file is closed in a program that this one starts. */
+   called with (glibc hands them to constructors), errno, and files by their name. Each file is closed in a program that this one starts. */
 #include <errno.h>
 #include <fcntl.h>
 #include <stddef.h>

@@ -1,24 +1,31 @@
 //! Links libspindle.a. It looks in the folder that SPINDLE_ARCHIVE names; then where pkg-config finds an installed library of this version
 //! or a later one with the same first number; then in the repository that this crate stands in, if the library there is fresh. It proves
 //! nothing: that takes minutes, and cargo would be silent about it.
-use std::{env, path::PathBuf, process::Command};
+use std::{env, ffi::OsString, path::PathBuf, process::Command};
 
 fn stop(why: String) -> ! {
     eprintln!("spindle: {why}");
     std::process::exit(1)
 }
 
-/// What pkg-config prints, if it is there and its status is 0.
+/// What pkg-config prints, if it is there and its status is 0. It writes a blank in a path as `\\ `.
 fn pkg_config(words: &[&str]) -> Option<String> {
-    let command = env::var_os("PKG_CONFIG").unwrap_or_else(|| "pkg-config".into());
-    let said = Command::new(command).args(words).output().ok()?;
-    said.status.success().then(|| String::from_utf8_lossy(&said.stdout).trim().to_string())
+    let said = Command::new(pkg_config_command()).args(words).output().ok()?;
+    said.status.success().then(|| String::from_utf8_lossy(&said.stdout).trim().replace("\\ ", " "))
+}
+
+fn pkg_config_command() -> OsString {
+    env::var_os("PKG_CONFIG").unwrap_or_else(|| "pkg-config".into())
 }
 
 /// The folder of an installed library, or why there is none to take.
 fn installed() -> Result<PathBuf, String> {
     let wanted = env!("CARGO_PKG_VERSION");
     let Some(found) = pkg_config(&["--modversion", "spindle"]) else {
+        if Command::new(pkg_config_command()).arg("--version").output().is_err() {
+            let command = pkg_config_command();
+            return Err(format!("the command {} cannot be run, so no installed library is looked for", command.to_string_lossy()));
+        }
         return Err("pkg-config finds no spindle (PKG_CONFIG_PATH names the folder of its spindle.pc)".into());
     };
     let later = env!("CARGO_PKG_VERSION_MAJOR").parse::<u32>().unwrap() + 1;
@@ -60,7 +67,8 @@ fn main() {
         Some(folder) => {
             let folder = PathBuf::from(folder);
             if !folder.join("libspindle.a").is_file() {
-                stop(format!("SPINDLE_ARCHIVE names a folder without a libspindle.a: {}", folder.display()));
+                let place = env::current_dir().map(|here| here.join(&folder)).unwrap_or(folder);
+                stop(format!("SPINDLE_ARCHIVE names a folder without a libspindle.a: {}", place.display()));
             }
             folder
         }

@@ -70,7 +70,8 @@ def _places(path):
         return [os.fspath(path)]
     if os.environ.get("SPINDLE_LIBRARY"):
         return [os.environ["SPINDLE_LIBRARY"]]
-    return [SONAME, str(Path(__file__).resolve().parents[3] / "target" / "native" / SONAME)]
+    above = Path(__file__).resolve().parents
+    return [SONAME] + [str(folder / "target" / "native" / SONAME) for folder in above[3:4]]
 
 
 class Library:
@@ -86,7 +87,9 @@ class Library:
                 tried.append("%s (%s)" % (place, why))
         else:
             raise LibraryNotFound("no %s was found: %s. Name it by SPINDLE_LIBRARY" % (SONAME, "; ".join(tried)))
-        version = self._library.spindle_version
+        version = getattr(self._library, "spindle_version", None)
+        if version is None:
+            raise LibraryNotFound("%s has no spindle_version: it is not libspindle, or is older than 1.0" % place)
         version.argtypes, version.restype = [], ctypes.c_uint32
         self.version = version()
         if self.version // 10000 != FIRST_NUMBER:

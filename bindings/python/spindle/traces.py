@@ -1,4 +1,4 @@
-"""Traces by their bytes: records, sheets and CSV. README.md of the repository has the layout; document 02's Orders 1, 8, 9 and 14 order it."""
+"""Traces by their bytes: records, sheets and CSV. docs/traces.md of the repository has the layout; document 02's Orders 1, 8, 9 and 14 order it."""
 import csv
 import math
 import os

@@ -1,4 +1,4 @@
-//! include/spindle.h, word for word in Rust.
+//! The functions of include/spindle.h that this crate calls, declared in Rust, with the structs that no caller sees.
 use crate::kernels::Root;
 use crate::{Cone, Recorded, Scaling, Settings, Three, Wide};
 

@@ -753,18 +753,53 @@ static Plan *stack_plan;
 static SpindleScaling *stack_records;
 static Outputs stack_out;
 
-/* the two steps of the plan's one cone, which no round of the plan calls */
-enum { COMMON_STEP = ENTRIES, PLAN_STEP, MEASURED };
+/* The calls over the plan's one cone that no round of the plan makes, each with a frame of its own. */
+static double stack_first[64], stack_second[64];
+#define IN stack_plan->unit, stack_plan->at[1]
+#define OUT stack_first, stack_plan->at[1]
+#define OUT_TOO stack_second, stack_plan->at[1]
+#define OTHER(name, call) \
+    __attribute__((noinline)) static void name(void) { call; }
+OTHER(other_fresh, spindle_fresh(*stack_plan->cone))
+OTHER(other_is_primal_feasible, spindle_is_primal_feasible(*stack_plan->cone, IN))
+OTHER(other_is_dual_feasible, spindle_is_dual_feasible(*stack_plan->cone, IN))
+OTHER(other_barrier_dual, spindle_barrier_dual(*stack_plan->cone, IN))
+OTHER(other_dual_grad_h, spindle_dual_grad_h(*stack_plan->cone, IN))
+OTHER(other_barrier_primal, spindle_barrier_primal(*stack_records, IN))
+OTHER(other_higher_correction, spindle_higher_correction(*stack_records, stack_records->serial, OUT, IN, IN))
+OTHER(other_unit_initialization, spindle_unit_initialization(*stack_plan->cone, OUT, OUT_TOO))
+OTHER(other_rectify_equilibration, spindle_rectify_equilibration(*stack_plan->cone, OUT, IN))
+OTHER(other_affine_ds, spindle_affine_ds(*stack_plan->cone, OUT, IN))
+OTHER(other_ds_from_dz_offset, spindle_ds_from_dz_offset(*stack_plan->cone, OUT, IN, IN))
+OTHER(other_backtrack_search, spindle_backtrack_search(*stack_plan->cone, true, IN, IN, OUT, stack_plan->in.settings))
+OTHER(other_common_step, spindle_common_step(stack_plan->cone, 1, true, IN, IN, OUT, stack_plan->in.settings))
+OTHER(other_plan_step, spindle_plan_step(stack_plan->cone, 1, IN, IN, IN, IN, OUT, OUT_TOO, stack_plan->in.settings))
+
+static const struct {
+    const char *name;
+    void (*call)(void);
+} others[] = {
+    {"fresh", other_fresh},
+    {"is_primal_feasible", other_is_primal_feasible},
+    {"is_dual_feasible", other_is_dual_feasible},
+    {"barrier_dual", other_barrier_dual},
+    {"dual_grad_h", other_dual_grad_h},
+    {"barrier_primal", other_barrier_primal},
+    {"higher_correction", other_higher_correction},
+    {"unit_initialization", other_unit_initialization},
+    {"rectify_equilibration", other_rectify_equilibration},
+    {"affine_ds", other_affine_ds},
+    {"ds_from_dz_offset", other_ds_from_dz_offset},
+    {"backtrack_search", other_backtrack_search},
+    {"common_step", other_common_step},
+    {"plan_step", other_plan_step},
+};
+enum { MEASURED = ENTRIES + sizeof(others) / sizeof(*others) };
 
 static void one_call(void)
 {
-    static double point[64], second[64];
-    size_t n = stack_plan->at[1];
-    const double *unit = stack_plan->unit;
-    if (stack_entry == PLAN_STEP)
-        spindle_plan_step(stack_plan->cone, 1, unit, n, unit, n, unit, n, unit, n, point, n, second, n, stack_plan->in.settings);
-    else if (stack_entry == COMMON_STEP)
-        spindle_common_step(stack_plan->cone, 1, true, unit, n, unit, n, point, n, stack_plan->in.settings);
+    if (stack_entry >= ENTRIES)
+        others[stack_entry - ENTRIES].call();
     else if (stack_entry >= 0)
         port_entry(stack_records, stack_entry, &stack_plan->in, &stack_out);
 }
@@ -802,10 +837,12 @@ static void stacks(void)
         for (int entry = 0; entry < MEASURED; entry++) bytes[c][entry] = stack_of(entry) - empty;
     }
     for (int entry = 0; entry < MEASURED; entry++) {
-        printf("  %-46s", entry < ENTRIES ? entry_names[entry] : entry == COMMON_STEP ? "common_step" : "plan_step");
+        const char *name = entry < ENTRIES ? entry_names[entry] : others[entry - ENTRIES].name;
+        printf("  %-46s", name);
         for (int c = 0; c < 2; c++) {
             int width = c ? 13 : 21;
-            if (entry == (c ? SHIFT : GRADIENT))
+            /* what refuses kind 3 with 1, and what the plan asks of kind 3 alone */
+            if (entry == (c ? SHIFT : GRADIENT) || (c && !strcmp(name, "higher_correction")))
                 printf("%*s", width, "-");
             else
                 printf("%*zu", width, bytes[c][entry]);

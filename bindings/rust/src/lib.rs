@@ -24,8 +24,9 @@
 //! A call that is refused changes nothing that it was lent: slices keep their contents, a record stays as it was. The numbers of a
 //! [`Refusal`] are those of the library's scope document. No call allocates, and none panics.
 //!
-//! The library runs on Linux, x86-64 or Arm (aarch64). Structs pass by value: a call with a [`Scaling`] copies its 2,744 bytes. The calls of a round take up to
-//! 25 KB of stack each, as bench/run measures them; [`thin`] and [`thin_in_place`] take 66 KB, [`Trace::replay`] 42, [`rescue`] and [`Sheet::add`] 33.
+//! The library runs on Linux, x86-64 or Arm (aarch64). Structs pass by value: a call with a [`Scaling`] copies its 2,744 bytes. A call
+//! takes at most 25 KB of stack on x86-64 and 34 KB on Arm, as bench/run measures it, with these exceptions: [`thin`] and
+//! [`thin_in_place`] take 66 KB, [`Trace::replay`] 42, [`rescue`] and [`Sheet::add`] 34, sealing a trace 33.
 //!
 //! Why the calls are safe to make: the library takes every number, length and code and answers all of them; a lent slice is the pointer and
 //! length of a Rust slice, read or written within that length alone; and the borrows keep the slices of one call from overlapping, which is

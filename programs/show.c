@@ -1,48 +1,55 @@
 /* show FILE [OFFSET]: the records of a trace for people; `spindle show` and `spindle csv` run it.
 
-       show FILE                 every record of the trace
-       show FILE OFFSET          the one that begins at this byte, as replay's line `at OFFSET` names it
-       show --edition E FILE ..  the same of a file that lost its list and trailer: its records, from byte 0, by the layout of edition 1, 2 or 3
-       show --csv FILE           every record as a line of CSV, for spreadsheets; a vector's numbers stand in one field
+       show FILE                          every record of the trace
+       show FILE OFFSET                   the one that begins at this byte, as replay's line `at OFFSET` names it
+       show --edition E FILE [OFFSET]     the same of a file that lost its list and trailer: its records, from byte 0, by the layout of
+                                          edition 1, 2 or 3. A whole trace tells its edition; with another E it is refused.
+       show --csv FILE                    every record as a line of CSV, for spreadsheets; a vector's numbers stand in one field
 
-   Each record is shown with what was recorded and with what its search gives now. Numbers are written so that reading them gives the same double.
-   Exit status 0: all records that were shown are the same now; 1: one differs, or bytes behind the records were not shown; 2: bad usage, or the file
-   cannot be read; 3: the file is no trace, or no record begins at OFFSET. */
+   Each record is shown with what was recorded and with what its search gives now. A number is written so that reading it gives the same
+   double; only a NaN's payload is not written.
+   Exit status 0: all records that were shown are the same now; 1: one differs, or bytes behind the records were not shown; 2: bad usage,
+   or the file cannot be read, or standard output not written; 3: the file is no trace, of another edition than E, or larger than any
+   trace; or no record begins at OFFSET, or at byte 0 by the layout of edition E. */
 #include <spindle.h>
+#include <errno.h>
 #include <stdio.h>
 #include <stdlib.h>
 #include <string.h>
 
 enum { SAME = 0, DIFFERS = 1, USAGE = 2, REFUSED = 3 };
 
+/* The largest trace: 4,096 records of kind 3 with 64 numbers, of edition 3, with flag 0; list and trailer. */
+enum { RECORD = 8 + 12 + 4 + 8 * 32 + 8 + 4 + 16 + 4 * 8 * 64 + 24, LARGEST = 4096 * (RECORD + 8) + 20 };
+
+/* One byte more, so that a larger file shows. */
+static uint8_t bytes[LARGEST + 1];
+
+static const char *called = "show";
+
 static int usage(void)
 {
-    fputs("usage: show [--edition E | --csv] FILE [OFFSET]\n", stderr);
+    fputs("usage: spindle show [--edition E] FILE [OFFSET]\n", stderr);
     return USAGE;
 }
 
-/* The whole file, to be freed by the caller; NULL where it cannot be read. */
-static uint8_t *read_file(const char *name, size_t *length)
+/* Reads the whole file; what fails is told. */
+static int read_file(const char *name, size_t *length)
 {
-    FILE *file = fopen(name, "rb");
-    if (!file) return NULL;
-    size_t room = 65536;
-    uint8_t *bytes = malloc(room);
     *length = 0;
-    while (bytes) {
-        *length += fread(bytes + *length, 1, room - *length, file);
-        if (*length < room) break;
-        uint8_t *more = realloc(bytes, 2 * room);
-        if (!more) free(bytes);
-        bytes = more;
-        room *= 2;
-    }
-    if (ferror(file)) {
-        free(bytes);
-        bytes = NULL;
+    errno = 0;
+    FILE *file = fopen(name, "rb");
+    if (file) *length = fread(bytes, 1, sizeof bytes, file);
+    if (!file || ferror(file)) {
+        fprintf(stderr, "%s: %s: %s\n", called, name, strerror(errno));
+        return USAGE;
     }
     fclose(file);
-    return bytes;
+    if (*length > LARGEST) {
+        fprintf(stderr, "%s: %s: too large: a trace has at most %d bytes\n", called, name, LARGEST);
+        return REFUSED;
+    }
+    return SAME;
 }
 
 static void print_row(const char *name, const double *numbers, size_t n)
@@ -142,41 +149,40 @@ static void print_csv_record(const SpindleRecorded *record, SpindleSteps now)
 }
 
 /* Where the records of the file end, and their edition: the list of a whole trace, or the file's end where the caller names the edition. */
-static int bounds(const char *name, const uint8_t *bytes, size_t length, uint32_t named, uint32_t *edition, size_t *end)
+static int bounds(const char *name, size_t length, uint32_t named, uint32_t *edition, size_t *end)
 {
     SpindleOpened opened = spindle_trace_open(bytes, length);
     if (opened.code == SPINDLE_DONE) {
         *edition = opened.edition;
         *end = length - 20 - 8 * (size_t)opened.records;
-        return SAME;
+        if (!named || named == opened.edition) return SAME;
+        fprintf(stderr, "%s: %s: a whole trace of edition %lu, not %lu\n", called, name, (unsigned long)opened.edition,
+                (unsigned long)named);
+        return REFUSED;
     }
     if (named) {
         *edition = named;
         *end = length;
         return SAME;
     }
-    fprintf(stderr, "show: %s: no whole trace; for a file that lost its end name its edition: show --edition 3 FILE\n", name);
+    fprintf(stderr, "%s: %s: no whole trace; if it lost its end: spindle show --edition 3 FILE, or spindle rescue\n", called, name);
     return REFUSED;
 }
 
-static int show(const char *name, const uint8_t *bytes, size_t length, uint32_t named, bool csv, const char *offset)
+static int show(const char *name, size_t length, uint32_t named, bool csv, const char *offset)
 {
     uint32_t edition;
-    size_t end, at = 0;
-    int status = bounds(name, bytes, length, named, &edition, &end);
+    size_t end, at = offset ? strtoull(offset, NULL, 10) : 0;
+    int status = bounds(name, length, named, &edition, &end);
     if (status) return status;
-    if (offset) {
-        char *rest;
-        at = strtoull(offset, &rest, 10);
-        if (!*offset || *rest) return usage();
-    }
     if (csv) print_csv_head();
+    if (!csv && !offset && !end) printf("no records\n");
     while (at < end) {
         SpindleRecorded record = spindle_record_at(bytes, end, edition, at);
         if (record.code != SPINDLE_DONE) {
-            fprintf(stderr, "show: %s: no record of edition %lu begins at %llu; %llu bytes are left\n", name, (unsigned long)edition,
+            fprintf(stderr, "%s: %s: no record of edition %lu begins at %llu; %llu bytes are left\n", called, name, (unsigned long)edition,
                     (unsigned long long)at, (unsigned long long)(end - at));
-            return offset ? REFUSED : DIFFERS;
+            return offset || !at ? REFUSED : DIFFERS;
         }
         SpindleSteps now = search_now(&record);
         if (!same_now(&record, now)) status = DIFFERS;
@@ -188,7 +194,7 @@ static int show(const char *name, const uint8_t *bytes, size_t length, uint32_t 
         at = record.next;
     }
     if (offset) {
-        fprintf(stderr, "show: %s: no record begins at %s\n", name, offset);
+        fprintf(stderr, "%s: %s: no record begins at %s\n", called, name, offset);
         return REFUSED;
     }
     return status;
@@ -197,28 +203,28 @@ static int show(const char *name, const uint8_t *bytes, size_t length, uint32_t 
 int main(int words, char **word)
 {
     uint32_t edition = 0;
-    bool csv = false;
-    int at = 1;
-    if (words > 1 && !strcmp(word[1], "--csv")) {
-        csv = true;
-        at = 2;
-    } else if (words > 2 && !strcmp(word[1], "--edition")) {
-        if (strlen(word[2]) != 1 || word[2][0] < '1' || word[2][0] > '0' + SPINDLE_NEWEST_EDITION) return usage();
-        edition = (uint32_t)(word[2][0] - '0');
+    bool csv = words > 1 && !strcmp(word[1], "--csv");
+    int at = csv ? 2 : 1;
+    if (csv) called = "csv";
+    if (words > 1 && !strcmp(word[1], "--edition")) {
+        if (words > 2 && (strlen(word[2]) != 1 || word[2][0] < '1' || word[2][0] > '0' + SPINDLE_NEWEST_EDITION)) {
+            fprintf(stderr, "show: no such edition: %s (1 to %d)\n", word[2], SPINDLE_NEWEST_EDITION);
+            return USAGE;
+        }
+        if (words > 2) edition = (uint32_t)(word[2][0] - '0');
         at = 3;
     }
-    if (words <= at || words > at + (csv ? 1 : 2) || word[at][0] == '-') return usage();
-    size_t length;
-    uint8_t *bytes = read_file(word[at], &length);
-    if (!bytes) {
-        fprintf(stderr, "show: ");
-        perror(word[at]);
+    if (words <= at || words > at + (csv ? 1 : 2)) return usage();
+    const char *offset = words > at + 1 ? word[at + 1] : NULL;
+    if (offset && (!*offset || strspn(offset, "0123456789") != strlen(offset))) {
+        fprintf(stderr, "show: OFFSET is a number of bytes: %s is none\n", offset);
         return USAGE;
     }
-    int status = show(word[at], bytes, length, edition, csv, words > at + 1 ? word[at + 1] : NULL);
-    free(bytes);
+    size_t length;
+    int status = read_file(word[at], &length);
+    if (!status) status = show(word[at], length, edition, csv, offset);
     if (fflush(stdout) || ferror(stdout)) {
-        perror("show: standard output");
+        fprintf(stderr, "%s: standard output: %s\n", called, strerror(errno));
         return USAGE;
     }
     return status;

@@ -12,6 +12,7 @@ use Rattle.rounding.specs.Within.{Within}
 use Rattle.series.specs.Series.{sum, oddProduct, term, sNum, sDen, Signed, Same, lAt, magnitude}
 use Rattle.series.proofs.Order.{S-at-most-third}
 use Rattle.series.proofs.SignedFractions.{most-moves, at-most-moves, at-least-moves}
+use Rattle.series.proofs.change.LSizes.{third-one}
 use Rattle.logarithm.specs.Steps.{scaledOf, mantissaOf, ln2}
 use Rattle.logarithm.specs.Bound.{Close, Negative, NotNegative}
 use Rattle.logarithm.proofs.Mantissas.{mantissa-fits}
@@ -51,15 +52,11 @@ size-close (suc s) a o hs k₁ k₃ =
     size-close-of (suc s) a o (r .units) (scaledOf (suc s)) k₁ k₃ (r .value)
     (λ h. some-units (suc s) (r .units) (omega arith) (r .not-below)) (r .not-above) (r .not-below)
 
--- ---- S(1/3) is between ½ and 1
+-- ---- S(1/3) is at least ½; it is at most 1 (series' change/LSizes)
 
 third-half : sDen 3 ≤ 2 * sNum 1 3
 unfolding sNum sDen sum term oddProduct
 third-half = leb→le _ _ tt
-
-third-one : sNum 1 3 ≤ sDen 3
-unfolding sNum sDen sum term oddProduct
-third-one = leb→le _ _ tt
 
 turns-large : (n m : ℕ) → n * over m ≤ 2 * turns n m
 turns-large n m = omega (arith, mul-le-mul-left (n * sDen (m + 2 ^ 52)) third-half)

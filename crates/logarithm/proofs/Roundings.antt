@@ -1,79 +1,25 @@
--- Doubles that are not negative, in units of 2^-1074: a quotient and a sum are the exact values, rounded; the digits of a sum with 2^52 are
--- the other number, within 1; and a product of a number up to 2^52 is off by less than one in that number. Assumes nothing.
+-- Doubles that are not negative, in units of 2^-1074: the digits of a sum with 2^52 are the other number, within 1; and a product of a number up to 2^52 is off by less than one in that number. Assumes nothing.
 use mathlib.Core.Path.{_≡_, refl, sym, ap, _∙_, subst}
-use mathlib.Core.Bool.{Bool, true, false, not, cond, true≢false}
+use mathlib.Core.Bool.{Bool, false, not}
 use Prim.Native.Nat.{ℕ, zero, suc, _+_, _*_, _^_, _≤_, _<_}
-use native.Mathlib.Nat.{le-trans, mul-pos, zero-mul, le-add-left, mul-le-mul-left, mul-le-mul-right}
-use native.Mathlib.Nat.{le-of-mul-le-mul-right, eq-of-mul-eq-mul-right, pow-suc}
+use native.Mathlib.Nat.{le-trans, mul-pos, le-add-left, mul-le-mul-left, mul-le-mul-right}
+use native.Mathlib.Nat.{le-of-mul-le-mul-right, pow-suc}
 use native.Mathlib.Decide.{decLt}
 use native.Mathlib.Omega.{arith}
-use lib.Dec.{T, eqb, leb→le}
+use lib.Dec.{T, leb→le}
 use lib.Pow.{pow-pos, pow-mono}
 use lib.IntN.{pos}
-use lib.Ieee.{Float, nan, inf, fin, binary64, up, down, round, sum, add, div, le, isNan, ofInt, ofBits, toBits}
+use lib.Ieee.{Float, nan, inf, fin, binary64, up, down, round, sum, add, le, isNan, ofInt, ofBits, toBits}
 use lib.Ieee.Back.{round-whole}
 use lib.Ieee.Exact.{HasValue, round-exact}
-use lib.Ieee.Fits.{down-pos, add-fits}
+use lib.Ieee.Fits.{add-fits}
 use lib.Ieee.Order.{round-mono}
 use lib.Ieee.Positive.{positive-of-value, values-of-le}
-use lib.Ieee.Scale.{round-same}
-use borrow.Author.Tests.{ne-eqb}
 use Rattle.double.specs.Fields.{Units, fieldOf, digitsOf, mag}
 use Rattle.double.proofs.Fields.{Read, read, digits-lt}
 use Rattle.double.proofs.Made.{of-parts}
 use Rattle.double.proofs.NotNan.{no-nan-of-value}
-use Rattle.rounding.proofs.errors.Added.{Totalled, total-near}
-
--- ---- a quotient and a sum of numbers that are not negative are the exact values, rounded
-
-no-zero : (n u b U D : ℕ) → 0 < b → 0 < D → n * u * U ≡ b * D → n ≡ 0 → ⊥
-no-zero n u b U D pb pD e z =
-    none (b * D) (mul-pos pb pD) (sym e ∙ ap (λ (t : ℕ). t * u * U) z ∙ ap (λ (t : ℕ). t * U) (zero-mul u) ∙ zero-mul U)
-  where
-    none : (x : ℕ) → 0 < x → x ≡ 0 → ⊥
-    none x p e = omega arith
-
-some : (X b U D : ℕ) → 0 < b → 0 < D → X * U ≡ b * D → 0 < X
-some zero b U D pb pD e = absurd (none (b * D) (mul-pos pb pD) (sym e ∙ zero-mul U))
-  where
-    none : (x : ℕ) → 0 < x → x ≡ 0 → ⊥
-    none x p e = omega arith
-some (suc X) b U D pb pD e = omega arith
-
-cross : (X Y U a b D E : ℕ) → 0 < U → X * U ≡ a * D → Y * U ≡ b * E → X * E * b ≡ a * (Y * D)
-cross X Y U a b D E pU h k =
-    eq-of-mul-eq-mul-right U pU (X * E * b) (a * (Y * D)) (omega (arith, ap (λ (t : ℕ). t * (b * E)) h, ap (λ (t : ℕ). a * D * t) k))
-
-joined : (X Y U a b D E : ℕ) → X * U ≡ a * D → Y * U ≡ b * E → (X * E + Y * D) * U ≡ (a + b) * (D * E)
-joined X Y U a b D E h k = omega (arith, ap (λ (t : ℕ). t * E) h, ap (λ (t : ℕ). t * D) k)
-
-pub div-is : (x y : Float) (a b : ℕ) → 0 < b → Units x a → Units y b → div binary64 x y ≡ round binary64 false a b
-unfolding div
-div-is nan y a b pb h k = absurd h
-div-is (inf i) y a b pb h k = absurd h
-div-is (fin i m e) nan a b pb h k = absurd k
-div-is (fin i m e) (inf j) a b pb h k = absurd k
-div-is (fin true m e) (fin j n d) a b pb h k = absurd (true≢false (h .0))
-div-is (fin false m e) (fin true n d) a b pb h k = absurd (true≢false (k .0))
-div-is (fin false m e) (fin false n d) a b pb h k =
-    ap (λ (z : Bool). cond z (cond (eqb m 0) nan (inf false)) (round binary64 false (m * up e * down d) (n * up d * down e)))
-    (ne-eqb n 0 (no-zero n (up d) b (2 ^ 1074) (down d) pb (down-pos d) (k .1)))
-    ∙ round-same binary64 false (m * up e * down d) (n * up d * down e) a b
-    (mul-pos (some (n * up d) b (2 ^ 1074) (down d) pb (down-pos d) (k .1)) (down-pos e)) pb
-    (cross (m * up e) (n * up d) (2 ^ 1074) a b (down e) (down d) (pow-pos 1074) (h .1) (k .1))
-
-add-is : (x y : Float) (a b : ℕ) → Units x a → Units y b → add binary64 x y ≡ round binary64 false (a + b) (2 ^ 1074)
-unfolding add sum
-add-is nan y a b h k = absurd h
-add-is (inf i) y a b h k = absurd h
-add-is (fin i m e) nan a b h k = absurd k
-add-is (fin i m e) (inf j) a b h k = absurd k
-add-is (fin true m e) (fin j n d) a b h k = absurd (true≢false (h .0))
-add-is (fin false m e) (fin true n d) a b h k = absurd (true≢false (k .0))
-add-is (fin false m e) (fin false n d) a b h k =
-    round-same binary64 false (m * up e * down d + n * up d * down e) (down e * down d) (a + b) (2 ^ 1074)
-    (mul-pos (down-pos e) (down-pos d)) (pow-pos 1074)
-    (joined (m * up e) (n * up d) (2 ^ 1074) a b (down e) (down d) (h .1) (k .1))
+use Rattle.rounding.proofs.errors.Added.{Totalled, add-is, total-near}
 
 -- ---- the three numbers that are not rounded
 
@@ -176,7 +122,7 @@ module _ (z : Float) (u : ℕ) (is : Units z u) (small : u ≤ (2 ^ 51 + 2) * 2 
       (positive-of-value least _ (2 ^ 1074) exact (mul-pos {m = 2 ^ 52} (omega arith) (pow-pos 1074)))
       (positive-of-value s g (2 ^ 1074) (sum-near .is) g-some) exact (sum-near .is)
       (subst (λ (r : Float). T (le least r))
-      (sym (add-is z (ofBits binary64 0x4330_0000_0000_0000) u (2 ^ 52 * 2 ^ 1074) is two-to-52))
+      (sym (add-is binary64 z (ofBits binary64 0x4330_0000_0000_0000) u (2 ^ 52 * 2 ^ 1074) is two-to-52))
       (round-mono binary64 (2 ^ 52 * 2 ^ 1074) (2 ^ 1074) (u + 2 ^ 52 * 2 ^ 1074) (2 ^ 1074) (pow-pos 1074) (pow-pos 1074)
       (mul-le-mul-right (2 ^ 1074) (le-add-left (2 ^ 52 * 2 ^ 1074) u)))))
       (pow-pos 1074)

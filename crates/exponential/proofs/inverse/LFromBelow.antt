@@ -1,19 +1,16 @@
 -- L grows by not less than h/(x+h), but for one part in 3^80: L(x + h) is at least L(x) + (1 - 3^-80)·h/(x+h), for h up to x. Exact, on any
 -- fractions. The companion of series' change/Lipschitz, and as that walked in two steps where x + h has the next k. Assumes nothing.
-use mathlib.Core.Path.{_≡_, refl, sym, ap, ap₂, _∙_, subst}
-use Prim.Native.Nat.{ℕ, suc, _+_, _-_, _*_, _^_, _≤_, _<_}
-use native.Mathlib.Nat.{le-trans, le-of-eq, le-of-lt, mul-pos, mul-le-mul-left, mul-le-mul-right, le-of-mul-le-mul-right, pow-suc, le-dest}
-use native.Mathlib.Nat.{le-add-right, add-mul, mul-add}
-use native.Mathlib.Decide.{decLt}
+use mathlib.Core.Path.{_≡_, refl, sym, ap, _∙_, subst}
+use Prim.Native.Nat.{ℕ, suc, _+_, _*_, _^_, _≤_, _<_}
+use native.Mathlib.Nat.{le-of-lt, mul-pos, mul-le-mul-left, mul-le-mul-right, le-of-mul-le-mul-right}
+use native.Mathlib.Nat.{add-mul, mul-add}
 use native.Mathlib.Omega.{arith}
 use lib.Pow.{pow-pos}
-use Rattle.series.specs.Series.{Signed, Same, Written, sNum, sDen, lAt, lOf, rise, fall}
+use Rattle.series.specs.Series.{Signed, Same, sNum, sDen, lOf, rise, fall}
 use Rattle.series.proofs.Terms.{sDen-pos}
 use Rattle.series.proofs.Order.{S-grows, S-of-same}
-use Rattle.series.proofs.Written.{written}
-use Rattle.series.proofs.SameFraction.{L-by-any}
-use Rattle.series.proofs.SignedFractions.{same-back, over-pos}
-use Rattle.series.proofs.change.Lipschitz.{by, as-by, S-at-zero}
+use Rattle.series.proofs.change.Binades.{by, walked}
+use Rattle.series.proofs.change.Lipschitz.{S-at-zero, before-shape, after-shape}
 use Rattle.exponential.specs.inverse.Inverse.{RisesBy}
 use Rattle.exponential.proofs.inverse.SFromBelow.{rest, S-from-below}
 
@@ -114,20 +111,9 @@ over-shape : (r f t T N Q N′ Q′ K e g : ℕ) → K * (N * T) + e * (Q * T) �
     → K * ((r * (t * Q) + N * T) * (T * Q′) + f * (t * Q′) * (T * Q)) + (e + g) * (T * Q * (T * Q′))
     ≤ K * ((suc r * (t * Q′) + N′ * T) * (T * Q) + f * (t * Q) * (T * Q′))
 over-shape r f t T N Q N′ Q′ K e g h i =
-    rw (before r f t T N Q Q′ K, after r f t T N′ Q Q′ K)
+    rw (before-shape r f t T N Q Q′ K, after-shape r f t T N′ Q Q′ K)
     (two-steps _ _ _ _ e g (T * Q * (T * Q′)) (first h) (second i))
   where
-    before :
-        (r f t T N Q Q′ K : ℕ)
-        → K * ((r * (t * Q) + N * T) * (T * Q′) + f * (t * Q′) * (T * Q)) ≡ (r + f) * (K * (t * Q) * (T * Q′)) + K * (N * T) * (T * Q′)
-    before r f t T N Q Q′ K = omega arith
-
-    after :
-        (r f t T N′ Q Q′ K : ℕ)
-        → K * ((suc r * (t * Q′) + N′ * T) * (T * Q) + f * (t * Q) * (T * Q′))
-        ≡ (r + f) * (K * (t * Q) * (T * Q′)) + K * (t * Q) * (T * Q′) + T * T * Q * (K * N′)
-    after r f t T N′ Q Q′ K = omega arith
-
     first : K * (N * T) + e * (Q * T) ≤ K * (t * Q) → K * (N * T) * (T * Q′) + e * (T * Q * (T * Q′)) ≤ K * (t * Q) * (T * Q′)
     first h = go (K * (N * T)) e (K * (t * Q)) (mul-le-mul-right (T * Q′) h)
       where
@@ -219,110 +205,26 @@ module _ (a e c : ℕ) (pa : 0 < a) (pc : 0 < c) (small : e ≤ a) where
   abbrev h : ℕ
   h = e * 2 ^ f
 
-  own : Written a c r f (a * 2 ^ f) d
-  own = written a c pa pc
-
   pd : 0 < d
   pd = mul-pos pc (pow-pos r)
 
   more : (a + e) * 2 ^ f ≡ a * 2 ^ f + h
   more = add-mul a e (2 ^ f)
 
-  abbrev Rises : Type 0
-  Rises = RisesBy (suc rest * (a + e)) (rest * e) (lOf a c) (lOf (a + e) c)
-
-  pos-sum : 0 < a + e
-  pos-sum = go pa
-    where
-      go : 0 < a → 0 < a + e
-      go l = omega arith
-
-  -- the numerator of m, taken apart
-  module _ (p : ℕ) (is : d + p ≡ a * 2 ^ f) where
-    before : Written a c r f (d + p) d
-    before = rw is own
-
-    p-small : p < d
-    p-small = go (a * 2 ^ f) d is (own .below-two)
-      where
-        go : (m d : ℕ) → d + p ≡ m → m < 2 * d → p < d
-        go m d s l = omega arith
-
-    h-small : h ≤ d + p
-    h-small = le-trans (mul-le-mul-right (2 ^ f) small) (le-of-eq (sym is))
-
-    within : p + h < d → Rises
-    within l =
-        rises-cancelled (lOf a c) (lOf (a + e) c) rest a e (2 ^ f) (d + p + h) (rest * h) (pow-pos f) (ap (λ (z : ℕ). z + h) is
-        ∙ sym more) refl
-        (rise-moves (suc rest * (d + p + h)) (rest * h) (over-pos r f (d + p) d pd) (over-pos r f (d + (p + h)) d pd)
-        (same-back (L-by-any pa pc before)) (same-back (L-by-any pos-sum pc after))
-        (rw (as-by r f p d, as-by r f (p + h) d) (inside r f p h d pd (le-of-lt p-small))))
-      where
-        joined : (m x h d p : ℕ) → x ≡ m + h → d + p ≡ m → x ≡ d + (p + h)
-        joined m x h d p s t = omega arith
-
-        few : (d z : ℕ) → z < d → d + z < 2 * d
-        few d z l = omega arith
-
-        after : Written (a + e) c r f (d + (p + h)) d
-        after = record {
-          from-one = le-add-right d (p + h);
-          below-two = few d (p + h) l;
-          value = ap (λ (z : ℕ). z * d) (joined (a * 2 ^ f) ((a + e) * 2 ^ f) h d p more is);
-        }
-
-    -- h = g + q: g to 2^(k+1), q from there
-    beyond : (g q : ℕ) → p + g ≡ d → g + q ≡ h → Rises
-    beyond g q s t =
-        rises-cancelled (lOf a c) (lOf (a + e) c) rest a e (2 ^ f) (d + d + q) (rest * g + rest * q) (pow-pos f)
-        (reached (a * 2 ^ f) ((a + e) * 2 ^ f) h d p more is s t)
-        (shared rest g q t)
-        (rise-moves (suc rest * (d + d + q)) (rest * g + rest * q) (over-pos r f (d + p) d pd)
-        (over-pos (suc r) f (d + d + q) (d + d) (twice pd))
-        (same-back (L-by-any pa pc before)) (same-back (L-by-any pos-sum pc after))
-        (rw (as-by r f p d, as-by (suc r) f q (d + d)) (over r f p g q d pd s)))
-      where
-        twice : {d : ℕ} → 0 < d → 0 < d + d
-        twice l = omega arith
-
-        shared : (k g q : ℕ) {x : ℕ} → g + q ≡ x → k * g + k * q ≡ k * x
-        shared k g q e = sym (mul-add k g q) ∙ ap (λ (z : ℕ). k * z) e
-
-        joined : (m x h d p : ℕ) → x ≡ m + h → d + p ≡ m → p + g ≡ d → g + q ≡ h → x ≡ d + d + q
-        joined m x h d p i j k l = omega arith
-
-        reached : (m x h d p : ℕ) → x ≡ m + h → d + p ≡ m → p + g ≡ d → g + q ≡ h → d + d + q ≡ x
-        reached m x h d p i j k l = omega arith
-
-        few : (d h : ℕ) → p < d → h ≤ d + p → p + g ≡ d → g + q ≡ h → d + d + q < 2 * (d + d)
-        few d h i j k l = omega arith
-
-        doubled : (c R : ℕ) → c * R + c * R ≡ c * (R * 2)
-        doubled c R = omega arith
-
-        after : Written (a + e) c (suc r) f (d + d + q) (d + d)
-        after = record {
-          from-one = le-add-right (d + d) q;
-          below-two = few d h p-small h-small s t;
-          value =
-              ap₂ _*_ (joined (a * 2 ^ f) ((a + e) * 2 ^ f) h d p more is s t)
-              (doubled c (2 ^ r) ∙ ap (λ (z : ℕ). c * z) (sym (pow-suc 2 r)));
-        }
-
   -- L(x + h) is at least L(x) + (1 - 3^-80)·h/(x+h), for x = a/c, h = e/c
-  pub L-rises : Rises
-  L-rises = go (le-dest (own .from-one))
+  pub L-rises : RisesBy (suc rest * (a + e)) (rest * e) (lOf a c) (lOf (a + e) c)
+  L-rises =
+      walked a e c pa pc small (λ (x y : Signed). RisesBy (suc rest * (a + e)) (rest * e) x y)
+      (λ x y x′ y′. rise-moves (suc rest * (a + e)) (rest * e))
+      (λ p is l.
+      rises-cancelled (by r f p d) (by r f (p + h) d) rest a e (2 ^ f) (d + p + h) (rest * h) (pow-pos f)
+      (ap (λ (z : ℕ). z + h) is ∙ sym more) refl (inside r f p h d pd (le-of-lt l)))
+      (λ p g q is s t.
+      rises-cancelled (by r f p d) (by (suc r) f q (d + d)) rest a e (2 ^ f) (d + d + q) (rest * g + rest * q) (pow-pos f)
+      (reached (a * 2 ^ f) ((a + e) * 2 ^ f) h d p g q more is s t) (shared rest g q t) (over r f p g q d pd s))
     where
-      go : (p : ℕ) × (d + p ≡ a * 2 ^ f) → Rises
-      go (p, is) = cases (decLt (p + h) d)
-        where
-          cases : Dec (p + h < d) → Rises
-          cases (yes l) = within p is l
-          cases (no l) = beyond p is (d - p) (p + h - d) (back p d (p-small p is)) (left p d h (p-small p is) l)
-            where
-              back : (p d : ℕ) → p < d → p + (d - p) ≡ d
-              back p d l = omega arith
+      shared : (k g q : ℕ) {x : ℕ} → g + q ≡ x → k * g + k * q ≡ k * x
+      shared k g q e = sym (mul-add k g q) ∙ ap (λ (z : ℕ). k * z) e
 
-              left : (p d h : ℕ) → p < d → (p + h < d → ⊥) → d - p + (p + h - d) ≡ h
-              left p d h l k = omega arith
+      reached : (m x h d p g q : ℕ) → x ≡ m + h → d + p ≡ m → p + g ≡ d → g + q ≡ h → d + d + q ≡ x
+      reached m x h d p g q i j k l = omega arith

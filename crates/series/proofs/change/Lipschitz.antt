@@ -1,36 +1,18 @@
 -- L grows with its fraction, and no faster than the fraction does: L(x + h) lies between L(x) and L(x) + h/x, for h up to x. Exact, on any
 -- fractions. Assumes nothing.
 -- x = m·2^k. Up to 2^(k+1) the k is the same and the law is that of S. From there on it is walked in two steps, to 2^(k+1) and from there.
-use mathlib.Core.Path.{_≡_, refl, sym, ap, ap₂, _∙_, subst}
-use Prim.Native.Nat.{ℕ, suc, _+_, _-_, _*_, _^_, _≤_, _<_}
-use native.Mathlib.Nat.{le-trans, le-of-eq, mul-pos, mul-le-mul-left, mul-le-mul-right, le-of-mul-le-mul-right, pow-suc, le-dest}
-use native.Mathlib.Nat.{le-add-right, add-mul}
-use native.Mathlib.Decide.{decLt}
+use mathlib.Core.Path.{_≡_, refl, ap, _∙_, subst}
+use Prim.Native.Nat.{ℕ, suc, _+_, _*_, _^_, _≤_, _<_}
+use native.Mathlib.Nat.{mul-pos, mul-le-mul-left, mul-le-mul-right, le-of-mul-le-mul-right}
 use native.Mathlib.Omega.{arith}
 use lib.Pow.{pow-pos}
-use Rattle.series.specs.Series.{Signed, Same, Written, sNum, sDen, lAt, lOf, rise, fall}
+use Rattle.series.specs.Series.{Signed, Same, sNum, sDen, lOf, rise, fall}
 use Rattle.series.proofs.OddPowers.{odds-at-zero}
 use Rattle.series.proofs.Terms.{weight, sNum-by-weights, sDen-pos}
 use Rattle.series.proofs.Order.{S-grows, S-of-same, S-lipschitz}
-use Rattle.series.proofs.Written.{written}
-use Rattle.series.proofs.SameFraction.{L-by-any}
-use Rattle.series.proofs.SignedFractions.{same-back, over-pos}
 use Rattle.series.specs.change.Distances.{AtMostBy}
 use Rattle.series.proofs.change.Distances.{difference-moves}
-
--- L by m = (d + p)/d, so that (m-1)/(m+1) is p/(2d + p)
-abbrev pub by : ℕ → ℕ → ℕ → ℕ → Signed
-by r f p d = record {
-  plus = r * (sNum 1 3 * sDen (d + d + p)) + sNum p (d + d + p) * sDen 3;
-  less = f * (sNum 1 3 * sDen (d + d + p));
-  over = sDen 3 * sDen (d + d + p);
-}
-
-pub as-by : (r f p d : ℕ) → lAt r f (d + p) d ≡ by r f p d
-unfolding lAt
-as-by r f p d =
-    ap₂ (λ (u v : ℕ). record { plus = r * (sNum 1 3 * sDen v) + sNum u v * sDen 3; less = f * (sNum 1 3 * sDen v); over = sDen 3 * sDen v })
-    (omega arith) (omega arith)
+use Rattle.series.proofs.change.Binades.{by, walked}
 
 pub S-at-zero : (q : ℕ) → sNum 0 q ≡ 0
 S-at-zero q = sNum-by-weights 0 q ∙ ap (λ (x : ℕ). 2 * x) (odds-at-zero weight 40 q)
@@ -117,12 +99,12 @@ from-two d q c pd l =
     none q = omega arith
 
 -- the turns that both have taken out
-before-shape :
+pub before-shape :
     (r f t T N Q Q′ c : ℕ)
     → c * ((r * (t * Q) + N * T) * (T * Q′) + f * (t * Q′) * (T * Q)) ≡ (r + f) * (c * (t * Q) * (T * Q′)) + c * (N * T) * (T * Q′)
 before-shape r f t T N Q Q′ c = omega arith
 
-after-shape :
+pub after-shape :
     (r f t T N′ Q Q′ c : ℕ)
     → c * ((suc r * (t * Q′) + N′ * T) * (T * Q) + f * (t * Q) * (T * Q′))
     ≡ (r + f) * (c * (t * Q) * (T * Q′)) + c * (t * Q) * (T * Q′) + T * T * Q * (c * N′)
@@ -167,14 +149,11 @@ pub record Nearby (a e : ℕ) (x y : Signed) : Type 0 where
 
 -- x = (d+p)/d · 2^k, and x + h either (d+p+e)/d · 2^k or (2d+q)/2d · 2^(k+1)
 module _ (r f d : ℕ) (pd : 0 < d) where
-  nearby-at : (p e : ℕ) → Nearby (d + p) e (lAt r f (d + p) d) (lAt r f (d + (p + e)) d)
-  nearby-at p e =
-      rw (as-by r f p d, as-by r f (p + e) d) (record { not-below = inside-grows r f p e d pd; not-far = inside-near r f p e d pd })
+  nearby-at : (p e : ℕ) → Nearby (d + p) e (by r f p d) (by r f (p + e) d)
+  nearby-at p e = record { not-below = inside-grows r f p e d pd; not-far = inside-near r f p e d pd }
 
-  nearby-over : (p e q : ℕ) → p + e ≡ d → Nearby (d + p) (e + q) (lAt r f (d + p) d) (lAt (suc r) f (d + d + q) (d + d))
-  nearby-over p e q s =
-      rw (as-by r f p d, as-by (suc r) f q (d + d))
-      (record { not-below = over-grows r f p e q d pd s; not-far = over-near r f p e q d pd s })
+  nearby-over : (p e q : ℕ) → p + e ≡ d → Nearby (d + p) (e + q) (by r f p d) (by (suc r) f q (d + d))
+  nearby-over p e q s = record { not-below = over-grows r f p e q d pd s; not-far = over-near r f p e q d pd s }
 
 nearby-moves :
     {a e : ℕ} {x y x′ y′ : Signed} → 0 < x .over → 0 < y .over → Same x x′ → Same y y′ → Nearby a e x y → Nearby a e x′ y′
@@ -200,99 +179,12 @@ module _ (a e c : ℕ) (pa : 0 < a) (pc : 0 < c) (small : e ≤ a) where
   abbrev d : ℕ
   d = c * 2 ^ r
 
-  abbrev h : ℕ
-  h = e * 2 ^ f
-
-  own : Written a c r f (a * 2 ^ f) d
-  own = written a c pa pc
-
   pd : 0 < d
   pd = mul-pos pc (pow-pos r)
 
-  more : (a + e) * 2 ^ f ≡ a * 2 ^ f + h
-  more = add-mul a e (2 ^ f)
-
-  -- the numerator of m, taken apart
-  module _ (p : ℕ) (is : d + p ≡ a * 2 ^ f) where
-    before : Written a c r f (d + p) d
-    before = rw is own
-
-    p-small : p < d
-    p-small = go (a * 2 ^ f) d is (own .below-two)
-      where
-        go : (m d : ℕ) → d + p ≡ m → m < 2 * d → p < d
-        go m d s l = omega arith
-
-    h-small : h ≤ d + p
-    h-small = le-trans (mul-le-mul-right (2 ^ f) small) (le-of-eq (sym is))
-
-    inside : p + h < d → Nearby a e (lOf a c) (lOf (a + e) c)
-    inside l =
-        cancelled a e (2 ^ f) (pow-pos f) is refl
-        (nearby-moves (over-pos r f (d + p) d pd) (over-pos r f (d + (p + h)) d pd) (same-back (L-by-any pa pc before))
-        (same-back (L-by-any (pos-sum pa) pc after)) (nearby-at r f d pd p h))
-      where
-        pos-sum : 0 < a → 0 < a + e
-        pos-sum l = omega arith
-
-        joined : (m x h d p : ℕ) → x ≡ m + h → d + p ≡ m → x ≡ d + (p + h)
-        joined m x h d p s t = omega arith
-
-        few : (d z : ℕ) → z < d → d + z < 2 * d
-        few d z l = omega arith
-
-        after : Written (a + e) c r f (d + (p + h)) d
-        after = record {
-          from-one = le-add-right d (p + h);
-          below-two = few d (p + h) l;
-          value = ap (λ (z : ℕ). z * d) (joined (a * 2 ^ f) ((a + e) * 2 ^ f) h d p more is);
-        }
-
-    -- e = g + q: g to 2^(k+1), q from there
-    outside : (g q : ℕ) → p + g ≡ d → g + q ≡ h → Nearby a e (lOf a c) (lOf (a + e) c)
-    outside g q s t =
-        cancelled a e (2 ^ f) (pow-pos f) is t
-        (nearby-moves (over-pos r f (d + p) d pd) (over-pos (suc r) f (d + d + q) (d + d) (twice pd)) (same-back (L-by-any pa pc before))
-        (same-back (L-by-any (pos-sum pa) pc after))
-        (nearby-over r f d pd p g q s))
-      where
-        twice : {d : ℕ} → 0 < d → 0 < d + d
-        twice l = omega arith
-
-        pos-sum : 0 < a → 0 < a + e
-        pos-sum l = omega arith
-
-        joined : (m x h d p : ℕ) → x ≡ m + h → d + p ≡ m → p + g ≡ d → g + q ≡ h → x ≡ d + d + q
-        joined m x h d p i j k l = omega arith
-
-        few : (d h : ℕ) → p < d → h ≤ d + p → p + g ≡ d → g + q ≡ h → d + d + q < 2 * (d + d)
-        few d h i j k l = omega arith
-
-        doubled : (c R : ℕ) → c * R + c * R ≡ c * (R * 2)
-        doubled c R = omega arith
-
-        after : Written (a + e) c (suc r) f (d + d + q) (d + d)
-        after = record {
-          from-one = le-add-right (d + d) q;
-          below-two = few d h p-small h-small s t;
-          value =
-              ap₂ _*_ (joined (a * 2 ^ f) ((a + e) * 2 ^ f) h d p more is s t)
-              (doubled c (2 ^ r) ∙ ap (λ (z : ℕ). c * z) (sym (pow-suc 2 r)));
-        }
-
   -- L(x + h) lies between L(x) and L(x) + h/x, for x = a/c, h = e/c
   pub L-nearby : Nearby a e (lOf a c) (lOf (a + e) c)
-  L-nearby = go (le-dest (own .from-one))
-    where
-      go : (p : ℕ) × (d + p ≡ a * 2 ^ f) → Nearby a e (lOf a c) (lOf (a + e) c)
-      go (p, is) = cases (decLt (p + h) d)
-        where
-          cases : Dec (p + h < d) → Nearby a e (lOf a c) (lOf (a + e) c)
-          cases (yes l) = inside p is l
-          cases (no l) = outside p is (d - p) (p + h - d) (back p d (p-small p is)) (rest p d h (p-small p is) l)
-            where
-              back : (p d : ℕ) → p < d → p + (d - p) ≡ d
-              back p d l = omega arith
-
-              rest : (p d h : ℕ) → p < d → (p + h < d → ⊥) → d - p + (p + h - d) ≡ h
-              rest p d h l k = omega arith
+  L-nearby =
+      walked a e c pa pc small (λ (x y : Signed). Nearby a e x y) (λ x y x′ y′. nearby-moves)
+      (λ p is l. cancelled a e (2 ^ f) (pow-pos f) is refl (nearby-at r f d pd p (e * 2 ^ f)))
+      (λ p g q is s t. cancelled a e (2 ^ f) (pow-pos f) is t (nearby-over r f d pd p g q s))

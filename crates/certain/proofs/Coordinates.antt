@@ -1,5 +1,5 @@
 -- A moderate coordinate in units, what a sign test says of it, and the logarithm of the quotient of two such. Assumes nothing.
-use mathlib.Core.Path.{_≡_, refl, sym, ap, _∙_}
+use mathlib.Core.Path.{_≡_, refl, sym, ap, _∙_, subst}
 use mathlib.Core.Bool.{Bool, true, false}
 use Prim.Native.Nat.{ℕ, zero, suc, _+_, _*_, _^_, _≤_, _<_}
 use native.Mathlib.Nat.{le-trans, le-of-eq, mul-le-mul-left, mul-le-mul-right, mul-pos, le-of-mul-le-mul-left, le-of-mul-le-mul-right}
@@ -82,6 +82,29 @@ below-zero x false n h t = let l = lt-units binary64 x #0 false false n 0 h zero
     none : (n : ℕ) → n + 0 < 0 + 0 → ⊥
     none n l = omega arith
 
+-- a coordinate of a known sign
+pub record Nonzero (s : Bool) (x : Float) : Type 0 where
+  pub units : ℕ
+  pub is : Sized x s units
+  pub some : 0 < units
+  pub most : units ≤ largest * 2 ^ 1074
+  pub least : 2 ^ 1074 ≤ largest * units
+
+nonzero : {s : Bool} {x : Float} (c : Coordinate x) → (c .sign ≡ s) × (0 < c .units) → Nonzero s x
+nonzero {s} {x} c t = record {
+  units = c .units;
+  is = subst (λ (r : Bool). Sized x r (c .units)) (t .0) (c .is);
+  some = t .1;
+  most = c .most;
+  least = c .least (t .1);
+}
+
+pub positive : (x : Float) → T (fits binary64 x) → InRange x → T (#0 ≺ x) → Nonzero false x
+positive x F r t = let c = coordinate x F r in nonzero c (above-zero x (c .sign) (c .units) (c .is) t)
+
+pub negative : (x : Float) → T (fits binary64 x) → InRange x → T (x ≺ #0) → Nonzero true x
+negative x F r t = let c = coordinate x F r in nonzero c (below-zero x (c .sign) (c .units) (c .is) t)
+
 -- ---- a/b, both from 2^-500 to 2^500
 
 pub record Sides (a b : ℕ) : Type 0 where
@@ -92,8 +115,9 @@ pub record Sides (a b : ℕ) : Type 0 where
   pub a-least : 2 ^ 1074 ≤ largest * a
   pub b-least : 2 ^ 1074 ≤ largest * b
 
-pub sides : {x y : Float} (c : Coordinate x) (d : Coordinate y) → 0 < c .units → 0 < d .units → Sides (c .units) (d .units)
-sides c d pa pb = record { a-pos = pa; b-pos = pb; a-most = c .most; b-most = d .most; a-least = c .least pa; b-least = d .least pb }
+pub sides : {s t : Bool} {x y : Float} (c : Nonzero s x) (d : Nonzero t y) → Sides (c .units) (d .units)
+sides c d =
+    record { a-pos = c .some; b-pos = d .some; a-most = c .most; b-most = d .most; a-least = c .least; b-least = d .least }
 
 at-most : (x y K M U : ℕ) → K * K ≤ M → x ≤ K * U → U ≤ K * y → x ≤ M * y
 at-most x y K M U r h k = le-trans h (le-trans (mul-le-mul-left K k) (le-trans (le-of-eq (sym (mul-assoc K K y))) (mul-le-mul-right y r)))

@@ -1,6 +1,5 @@
 -- The dual cone: a residue beyond its margin tells the sign of z2 - z1 - z1·L(-z3/z1). Assumes nothing.
 -- In units: z1 = -b, z2 = ±c, z3 = a. As in Primal, with z2 - z1 in the place of -s1.
-use mathlib.Core.Path.{_≡_, subst}
 use mathlib.Core.Bool.{Bool, true, false}
 use Prim.Native.Nat.{ℕ, _+_, _*_, _^_, _<_}
 use native.Mathlib.Nat.{mul-pos, mul-lt-mul-of-pos-right}
@@ -12,7 +11,6 @@ use lib.Ieee.Fits.{div-fits}
 use Rattle.double.specs.Operators.{_⊘_, _≺_}
 use Rattle.double.specs.Numbers.{#0}
 use Rattle.double.specs.Sizes.{absOf}
-use Rattle.double.specs.Fields.{Sized, Units}
 use Rattle.series.specs.Series.{Signed, Same, lOf}
 use Rattle.series.proofs.SignedFractions.{over-pos-of}
 use Rattle.series.specs.change.SignedArithmetic.{times, minus, AboveZero, BelowZero}
@@ -26,7 +24,7 @@ use Rattle.certain.proofs.Logarithms.{LogNear}
 use Rattle.certain.proofs.Margins.{Weighed, abs-units, weigh-dual}
 use Rattle.certain.proofs.Residues.{ResidueNear, dual-near}
 use Rattle.certain.proofs.ExactCoordinates.{inUnits, units-exact, exact-over, quotient-exact, quotient-over}
-use Rattle.certain.proofs.Coordinates.{Coordinate, coordinate, above-zero, below-zero, Sides, sides, large, quotient-most}
+use Rattle.certain.proofs.Coordinates.{Coordinate, coordinate, Nonzero, positive, negative, Sides, sides, large, quotient-most}
 use Rattle.certain.proofs.Coordinates.{quotient-least, Logged, logged}
 use Rattle.certain.proofs.Decided.{above-decided, below-decided}
 
@@ -52,14 +50,14 @@ in-units-below b P M O U zp zm pU h = go b P M O U zp zm (mul-lt-mul-of-pos-righ
     go b P M O U zp zm h = omega arith
 
 module _ (z1 z2 z3 : Float) (p : Point z1 z2 z3) (t3 : T (#0 ≺ z3)) (t1 : T (z1 ≺ #0)) where
-  c1 : Coordinate z1
-  c1 = coordinate z1 (p .first-double) (p .first)
+  c1 : Nonzero true z1
+  c1 = negative z1 (p .first-double) (p .first) t1
 
   c2 : Coordinate z2
   c2 = coordinate z2 (p .second-double) (p .second)
 
-  c3 : Coordinate z3
-  c3 = coordinate z3 (p .third-double) (p .third)
+  c3 : Nonzero false z3
+  c3 = positive z3 (p .third-double) (p .third) t3
 
   abbrev a : ℕ
   a = c3 .units
@@ -73,20 +71,8 @@ module _ (z1 z2 z3 : Float) (p : Point z1 z2 z3) (t3 : T (#0 ≺ z3)) (t1 : T (z
   abbrev σ : Bool
   σ = c2 .sign
 
-  third : (c3 .sign ≡ false) × (0 < a)
-  third = above-zero z3 (c3 .sign) a (c3 .is) t3
-
-  first : (c1 .sign ≡ true) × (0 < b)
-  first = below-zero z1 (c1 .sign) b (c1 .is) t1
-
-  is-a : Units z3 a
-  is-a = subst (λ (s : Bool). Sized z3 s a) (third .0) (c3 .is)
-
-  is-b : Sized z1 true b
-  is-b = subst (λ (s : Bool). Sized z1 s b) (first .0) (c1 .is)
-
   d : Sides a b
-  d = sides c3 c1 (third .1) (first .1)
+  d = sides c3 c1
 
   abbrev l : Float
   l = dual.log z1 z3
@@ -94,7 +80,7 @@ module _ (z1 z2 z3 : Float) (p : Point z1 z2 z3) (t3 : T (#0 ≺ z3)) (t1 : T (z
   log : Logged l a b
   log =
       logged (neg z3 ⊘ z1) d (div-fits binary64 (neg z3) z1)
-      (div-near binary64 (neg z3) z1 true true a b (d .b-pos) (neg-units binary64 z3 false a is-a) is-b (quotient-most d)
+      (div-near binary64 (neg z3) z1 true true a b (d .b-pos) (neg-units binary64 z3 false a (c3 .is)) (c1 .is) (quotient-most d)
       (quotient-least d))
 
   abbrev n : LogNear l (lOf a b)
@@ -104,14 +90,14 @@ module _ (z1 z2 z3 : Float) (p : Point z1 z2 z3) (t3 : T (#0 ≺ z3)) (t1 : T (z
   res = dual.residue z1 z2 l
 
   residue : ResidueNear res b (n .units) c (above (n .sign) (n .units)) (below (n .sign) (n .units)) (above σ c + b) (below σ c + 0)
-  residue = dual-near z1 l z2 b (n .units) c (n .sign) σ (n .is) (c2 .is) (large d) (c1 .most) (log .size) (c2 .most) is-b
+  residue = dual-near z1 l z2 b (n .units) c (n .sign) σ (n .is) (c2 .is) (large d) (c1 .most) (log .size) (c2 .most) (c1 .is)
 
   abbrev margin : Float
   margin = dual.margin z1 z2 l
 
   weighed : Weighed margin b (n .units) c
   weighed =
-      weigh-dual (absOf z1) (absOf l) (absOf z2) b (n .units) c (abs-units z1 true b is-b) (abs-units l (n .sign) (n .units) (n .is))
+      weigh-dual (absOf z1) (absOf l) (absOf z2) b (n .units) c (abs-units z1 true b (c1 .is)) (abs-units l (n .sign) (n .units) (n .is))
       (abs-units z2 σ c (c2 .is)) (large d) (c1 .most)
       (log .size)
       (c2 .most)
@@ -127,13 +113,13 @@ module _ (z1 z2 z3 : Float) (p : Point z1 z2 z3) (t3 : T (#0 ≺ z3)) (t1 : T (z
   unfolding dual.number
   same =
       same-minus (mul-pos (exact-over z2) (exact-over z1)) (mul-pos (pow-pos 1074) (over-pos-of a b (d .b-pos)))
-      (same-minus (exact-over z2) (pow-pos 1074) (units-exact z2 σ c (c2 .is)) (units-exact z1 true b is-b))
-      (same-times (exact-over z1) (over-pos-of a b (d .b-pos)) (units-exact z1 true b is-b)
-      (quotient-exact z3 z1 false true a b (d .a-pos) (d .b-pos) is-a is-b))
+      (same-minus (exact-over z2) (pow-pos 1074) (units-exact z2 σ c (c2 .is)) (units-exact z1 true b (c1 .is)))
+      (same-times (exact-over z1) (over-pos-of a b (d .b-pos)) (units-exact z1 true b (c1 .is))
+      (quotient-exact z3 z1 false true a b (d .a-pos) (d .b-pos) (c3 .is) (c1 .is)))
 
   over-exact : 0 < dual.number z1 z2 z3 .over
   unfolding dual.number
-  over-exact = mul-pos (mul-pos (exact-over z2) (exact-over z1)) (mul-pos (exact-over z1) (quotient-over z3 z1 true b (d .b-pos) is-b))
+  over-exact = mul-pos (mul-pos (exact-over z2) (exact-over z1)) (mul-pos (exact-over z1) (quotient-over z3 z1 true b (d .b-pos) (c1 .is)))
 
   square : 0 < 2 ^ 1074 * 2 ^ 1074
   square = mul-pos (pow-pos 1074) (pow-pos 1074)
@@ -146,8 +132,8 @@ module _ (z1 z2 z3 : Float) (p : Point z1 z2 z3) (t3 : T (#0 ≺ z3)) (t1 : T (z
 
   pub inside : T (margin ≺ res) → dual.Inside z1 z2 z3
   inside t = record {
-    first-below = below-moves (exact-over z1) (units-exact z1 true b is-b) (d .b-pos);
-    third-above = above-moves (exact-over z3) (units-exact z3 false a is-a) (d .a-pos);
+    first-below = below-moves (exact-over z1) (units-exact z1 true b (c1 .is)) (d .b-pos);
+    third-above = above-moves (exact-over z3) (units-exact z3 false a (c3 .is)) (d .a-pos);
     number-above = number-above t;
   }
 

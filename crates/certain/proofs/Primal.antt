@@ -1,7 +1,6 @@
 -- The cone itself: a residue beyond its margin tells the sign of s2·L(s3/s2) - s1. Assumes nothing.
 -- In units: s1 = ±c, s2 = b, s3 = a. The logarithm of the rounded quotient is near L(a/b), the residue near b·l - s1, the margin heavy
 -- enough for both.
-use mathlib.Core.Path.{_≡_, subst}
 use mathlib.Core.Bool.{Bool, true, false, not}
 use Prim.Native.Nat.{ℕ, _+_, _*_, _^_, _<_}
 use native.Mathlib.Nat.{mul-pos, mul-lt-mul-of-pos-right}
@@ -13,7 +12,6 @@ use lib.Ieee.Fits.{div-fits}
 use Rattle.double.specs.Operators.{_⊘_, _≺_}
 use Rattle.double.specs.Numbers.{#0}
 use Rattle.double.specs.Sizes.{absOf}
-use Rattle.double.specs.Fields.{Sized, Units}
 use Rattle.series.specs.Series.{Signed, Same, lOf}
 use Rattle.series.proofs.SignedFractions.{over-pos-of}
 use Rattle.series.specs.change.SignedArithmetic.{times, minus, AboveZero, BelowZero}
@@ -26,7 +24,7 @@ use Rattle.certain.proofs.Logarithms.{LogNear}
 use Rattle.certain.proofs.Margins.{Weighed, abs-units, weigh}
 use Rattle.certain.proofs.Residues.{ResidueNear, primal-near}
 use Rattle.certain.proofs.ExactCoordinates.{inUnits, units-exact, exact-over, quotient-exact, quotient-over}
-use Rattle.certain.proofs.Coordinates.{Coordinate, coordinate, above-zero, Sides, sides, large, quotient-most, quotient-least}
+use Rattle.certain.proofs.Coordinates.{Coordinate, coordinate, Nonzero, positive, Sides, sides, large, quotient-most, quotient-least}
 use Rattle.certain.proofs.Coordinates.{Logged, logged}
 use Rattle.certain.proofs.Decided.{above-decided, below-decided}
 
@@ -56,11 +54,11 @@ module _ (s1 s2 s3 : Float) (p : Point s1 s2 s3) (t3 : T (#0 ≺ s3)) (t2 : T (#
   c1 : Coordinate s1
   c1 = coordinate s1 (p .first-double) (p .first)
 
-  c2 : Coordinate s2
-  c2 = coordinate s2 (p .second-double) (p .second)
+  c2 : Nonzero false s2
+  c2 = positive s2 (p .second-double) (p .second) t2
 
-  c3 : Coordinate s3
-  c3 = coordinate s3 (p .third-double) (p .third)
+  c3 : Nonzero false s3
+  c3 = positive s3 (p .third-double) (p .third) t3
 
   abbrev a : ℕ
   a = c3 .units
@@ -74,20 +72,8 @@ module _ (s1 s2 s3 : Float) (p : Point s1 s2 s3) (t3 : T (#0 ≺ s3)) (t2 : T (#
   abbrev σ : Bool
   σ = c1 .sign
 
-  third : (c3 .sign ≡ false) × (0 < a)
-  third = above-zero s3 (c3 .sign) a (c3 .is) t3
-
-  second : (c2 .sign ≡ false) × (0 < b)
-  second = above-zero s2 (c2 .sign) b (c2 .is) t2
-
-  is-a : Units s3 a
-  is-a = subst (λ (s : Bool). Sized s3 s a) (third .0) (c3 .is)
-
-  is-b : Units s2 b
-  is-b = subst (λ (s : Bool). Sized s2 s b) (second .0) (c2 .is)
-
   d : Sides a b
-  d = sides c3 c2 (third .1) (second .1)
+  d = sides c3 c2
 
   abbrev l : Float
   l = primal.log s2 s3
@@ -95,7 +81,7 @@ module _ (s1 s2 s3 : Float) (p : Point s1 s2 s3) (t3 : T (#0 ≺ s3)) (t2 : T (#
   log : Logged l a b
   log =
       logged (s3 ⊘ s2) d (div-fits binary64 s3 s2)
-      (div-near binary64 s3 s2 false false a b (d .b-pos) is-a is-b (quotient-most d) (quotient-least d))
+      (div-near binary64 s3 s2 false false a b (d .b-pos) (c3 .is) (c2 .is) (quotient-most d) (quotient-least d))
 
   abbrev n : LogNear l (lOf a b)
   n = log .near
@@ -104,14 +90,14 @@ module _ (s1 s2 s3 : Float) (p : Point s1 s2 s3) (t3 : T (#0 ≺ s3)) (t2 : T (#
   res = primal.residue s1 s2 l
 
   residue : ResidueNear res b (n .units) c (above (n .sign) (n .units)) (below (n .sign) (n .units)) (above (not σ) c) (below (not σ) c)
-  residue = primal-near s2 l s1 b (n .units) c (n .sign) σ (n .is) (c1 .is) (large d) (c2 .most) (log .size) (c1 .most) is-b
+  residue = primal-near s2 l s1 b (n .units) c (n .sign) σ (n .is) (c1 .is) (large d) (c2 .most) (log .size) (c1 .most) (c2 .is)
 
   abbrev margin : Float
   margin = primal.margin s1 s2 l
 
   weighed : Weighed margin b (n .units) c
   weighed =
-      weigh s2 (absOf l) (absOf s1) b (n .units) c is-b (abs-units l (n .sign) (n .units) (n .is)) (abs-units s1 σ c (c1 .is)) (large d)
+      weigh s2 (absOf l) (absOf s1) b (n .units) c (c2 .is) (abs-units l (n .sign) (n .units) (n .is)) (abs-units s1 σ c (c1 .is)) (large d)
       (c2 .most) (log .size) (c1 .most)
 
   -- the exact number, by units and by the coordinates
@@ -121,14 +107,14 @@ module _ (s1 s2 s3 : Float) (p : Point s1 s2 s3) (t3 : T (#0 ≺ s3)) (t2 : T (#
   same : Same number (primal.number s1 s2 s3)
   unfolding primal.number
   same =
-      same-minus (mul-pos (exact-over s2) (quotient-over s3 s2 false b (d .b-pos) is-b)) (pow-pos 1074)
-      (same-times (exact-over s2) (over-pos-of a b (d .b-pos)) (units-exact s2 false b is-b)
-      (quotient-exact s3 s2 false false a b (d .a-pos) (d .b-pos) is-a is-b))
+      same-minus (mul-pos (exact-over s2) (quotient-over s3 s2 false b (d .b-pos) (c2 .is))) (pow-pos 1074)
+      (same-times (exact-over s2) (over-pos-of a b (d .b-pos)) (units-exact s2 false b (c2 .is))
+      (quotient-exact s3 s2 false false a b (d .a-pos) (d .b-pos) (c3 .is) (c2 .is)))
       (units-exact s1 σ c (c1 .is))
 
   over-exact : 0 < primal.number s1 s2 s3 .over
   unfolding primal.number
-  over-exact = mul-pos (mul-pos (exact-over s2) (quotient-over s3 s2 false b (d .b-pos) is-b)) (exact-over s1)
+  over-exact = mul-pos (mul-pos (exact-over s2) (quotient-over s3 s2 false b (d .b-pos) (c2 .is))) (exact-over s1)
 
   abbrev L : Signed
   L = lOf a b
@@ -142,8 +128,8 @@ module _ (s1 s2 s3 : Float) (p : Point s1 s2 s3) (t3 : T (#0 ≺ s3)) (t2 : T (#
 
   pub inside : T (margin ≺ res) → primal.Inside s1 s2 s3
   inside t = record {
-    second-above = above-moves (exact-over s2) (units-exact s2 false b is-b) (d .b-pos);
-    third-above = above-moves (exact-over s3) (units-exact s3 false a is-a) (d .a-pos);
+    second-above = above-moves (exact-over s2) (units-exact s2 false b (c2 .is)) (d .b-pos);
+    third-above = above-moves (exact-over s3) (units-exact s3 false a (c3 .is)) (d .a-pos);
     number-above = number-above t;
   }
 

@@ -17,13 +17,17 @@ use Rattle.genpowcone.specs.declared.Residue.{Residue}
 unfoldable pub residueAt : Float → Float → Residue
 residueAt p w = record { res = p ⊖ w; power = p; square = w }
 
+-- the point's tail behind its head, which is as long as the exponents α
+abbrev pub tailOf : List Float → List Float → List Float
+tailOf α s = drop (length α) s
+
 -- 002 is_primal_feasible, res: exp(Σ 2αᵢ·log sᵢ) less the tail's sumsq
 unfoldable pub primalResidue : List Float → List Float → Residue
-primalResidue α s = residueAt (expOf (primalLogSum α s)) (sumsqOf (drop (length α) s))
+primalResidue α s = residueAt (expOf (primalLogSum α s)) (sumsqOf (tailOf α s))
 
 -- 002 is_dual_feasible, res: exp(Σ 2αᵢ·log(zᵢ/αᵢ)) less the tail's sumsq
 unfoldable pub dualResidue : List Float → List Float → Residue
-dualResidue α z = residueAt (expOf (dualLogSum α z)) (sumsqOf (drop (length α) z))
+dualResidue α z = residueAt (expOf (dualLogSum α z)) (sumsqOf (tailOf α z))
 
 -- 02, Order 5: "2^-30·(the exponential plus the sumsq)", of the two numbers that the residue is made of
 unfoldable pub primalMargin : List Float → List Float → Float

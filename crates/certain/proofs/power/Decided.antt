@@ -1,13 +1,13 @@
 -- The test of both power cones, e - q against part·(e + q) with e the exponential of y: a residue beyond its margin tells the sign of
--- Y - L(Q), where y is near Y and q near Q = c/U². For every part from 2^-33 on; Order 5's is 2^-30. Assumes nothing.
+-- Y - L(Q), where y is near Y and q near Q = c/U². For every part that leaves room for the errors of y. Assumes nothing.
 -- Where y is between -708 and 709, that the exponential and L undo one another (exponential's inverse/Decision); above it e is infinite and
 -- nothing is told; below it e is 0 and L(Q) is far above.
 use mathlib.Core.Path.{_≡_, refl, sym, subst}
 use mathlib.Core.Bool.{Bool, true, false, cond}
 use mathlib.Core.Logic.{_⊎_, inl, inr}
-use Prim.Native.Nat.{ℕ, suc, _+_, _-_, _*_, _^_, _≤_, _<_}
-use native.Mathlib.Nat.{le-trans, le-of-eq, mul-pos, mul-le-mul-left, mul-le-mul-right, le-of-mul-le-mul-right, le-add-left}
-use native.Mathlib.Nat.{one-le-pow, eq-zero-or-pos, add-comm, lt-of-mul-lt-mul-right}
+use Prim.Native.Nat.{ℕ, suc, _+_, _*_, _^_, _≤_, _<_}
+use native.Mathlib.Nat.{le-trans, le-of-eq, mul-pos, mul-le-mul-left, mul-le-mul-right, le-of-mul-le-mul-right, le-of-mul-le-mul-left}
+use native.Mathlib.Nat.{le-add-left, one-le-pow, eq-zero-or-pos, add-comm, lt-of-mul-lt-mul-right}
 use native.Mathlib.Omega.{arith}
 use lib.Dec.{T, eqb, lit≤, lit<}
 use lib.Count.{trailingZeros}
@@ -41,13 +41,13 @@ use Rattle.exponential.proofs.inverse.Sums.{factorial-pos}
 use Rattle.exponential.proofs.inverse.Inverse.{E-not-above}
 use Rattle.exponential.proofs.inverse.SFromBelow.{rest}
 use Rattle.exponential.proofs.inverse.Decision.{Finer, above-L, below-L}
-use Rattle.certain.specs.power.Margins.{marginOf}
+use Rattle.cone.specs.verdict.Margins.{marginOf}
 use Rattle.certain.proofs.power.Margins.{Counted}
 use Rattle.certain.proofs.ExactCoordinates.{inUnits}
 use Rattle.certain.proofs.OneOperation.{sum-most}
 use Rattle.certain.proofs.power.Distances.{Near, one-part}
 use Rattle.certain.proofs.power.Terms.{Term}
-use Rattle.certain.proofs.power.Ratios.{apart, beyond, exactly-above, exactly-below}
+use Rattle.certain.proofs.power.Ratios.{beyond, exactly-above, exactly-below}
 
 abbrev U : ℕ
 U = 2 ^ 1074
@@ -60,18 +60,31 @@ pub record Squared (q : Float) (c : ℕ) : Type 0 where
   pub least : 0 < c → 2 ^ 74 * U ≤ c
   pub most : units ≤ 2 ^ 1010 * U
 
--- ---- the room: the exponent's errors, at most this many parts of 2^-52, and what the residue leaves for them
+-- ---- the room
 
-abbrev pub errors : ℕ
-errors = 625000
-
--- 1/fine is a part in 3^80 less than 1/(apart + 1), and at least the errors
-abbrev fine : ℕ
-fine = apart + 2
-
-finer : Finer apart fine
+rest-large : 2 ^ 40 ≤ rest
 unfolding rest
-finer = record { some = lit< tt; parts-some = lit< tt; enough = lit≤ tt }
+rest-large = lit≤ tt
+
+parts-large : 2 ^ 40 ≤ parts
+unfolding parts
+parts-large = lit≤ tt
+
+-- 1/(9n + 2) is a part in 3^80 less than 1/(9n + 1)
+finer : (n : ℕ) → 0 < n → n ≤ 2 ^ 31 → Finer (9 * n) (9 * n + 2)
+finer n p few = record { some = nine n p; parts-some = more n; enough = shape n rest (le-trans (small n few) rest-large) }
+  where
+    nine : (n : ℕ) → 0 < n → 0 < 9 * n
+    nine n p = omega arith
+
+    more : (n : ℕ) → 0 < 9 * n + 2
+    more n = omega arith
+
+    small : (n : ℕ) → n ≤ 2 ^ 31 → 9 * n + 1 ≤ 2 ^ 40
+    small n h = omega arith
+
+    shape : (n r : ℕ) → 9 * n + 1 ≤ r → suc r * (9 * n + 1) ≤ (9 * n + 2) * r
+    shape n r h = omega arith
 
 -- ---- the margin
 
@@ -92,7 +105,9 @@ room-shape P t s M U one some third h l =
 -- ---- finite e
 
 -- u/64 under the room of 2^1023, and what is added
-module _ (f : Float) (F : Counted f) (e q : Float) (u v : ℕ) (is-e : Units e u) (is-q : Units q v) (room : u + v ≤ 2 ^ 1023 * U) where
+module _
+    {errors : ℕ} (f : Float) (F : Counted errors f) (e q : Float) (u v : ℕ) (is-e : Units e u) (is-q : Units q v)
+    (room : u + v ≤ 2 ^ 1023 * U) where
   abbrev part : ℕ
   part = F .units
 
@@ -109,10 +124,10 @@ module _ (f : Float) (F : Counted f) (e q : Float) (u v : ℕ) (is-e : Units e u
   margin : Multiplied binary64 (marginOf f e q) false part (total .units)
   margin = mul-near binary64 f (e ⊕ q) false false part (total .units) (F .is) (total .is) margin-room
 
-  pub above-margin : 2 ^ 60 ≤ u + v → T (marginOf f e q ≺ (e ⊖ q)) → (2 ^ 36 + 15) * v ≤ 2 ^ 36 * u
+  pub above-margin : 2 ^ 60 ≤ u + v → T (marginOf f e q ≺ (e ⊖ q)) → (128 * F .n + 15) * v ≤ 128 * F .n * u
   above-margin large t =
-      beyond (above (residue .sign) (residue .units)) (below (residue .sign) (residue .units)) u v (total .units)
-      (margin .units) part U (F .some)
+      beyond (F .n) (above (residue .sign) (residue .units)) (below (residue .sign) (residue .units)) u v (total .units)
+      (margin .units) part U (F .n-some) (F .n-few) (F .some)
       (F .least) large (residue-form _ _ (residue .near .not-above)) (total .near .not-below) (margin .near .not-below)
       (test _ _ _ (lt-units binary64 (marginOf f e q) (e ⊖ q) false (residue .sign) (margin .units) (residue .units) (margin .is)
       (residue .is) t))
@@ -155,9 +170,10 @@ module _ (f : Float) (F : Counted f) (e q : Float) (u v : ℕ) (is-e : Units e u
         go : (p q g : ℕ) → 2 ^ 53 * (q + u) ≤ 2 ^ 53 * (p + v) + (v + u + 2 ^ 52) → g + p < q → 0 < v
         go p q g h l = omega arith
 
-    pub below-margin : 2 ^ 60 ≤ u + v → (2 ^ 36 + 15) * u ≤ 2 ^ 36 * v
+    pub below-margin : 2 ^ 60 ≤ u + v → (128 * F .n + 15) * u ≤ 128 * F .n * v
     below-margin large =
-        beyond rm rp v u (total .units) (margin .units) part U (F .some) (F .least) (le-trans large (le-of-eq (add-comm u v))) turned
+        beyond (F .n) rm rp v u (total .units) (margin .units) part U (F .n-some) (F .n-few) (F .some) (F .least)
+        (le-trans large (le-of-eq (add-comm u v))) turned
         (subst (λ (z : ℕ). z * 2 ^ 53 ≤ total .units * 2 ^ 53 + (z + 2 ^ 52)) (add-comm u v) (total .near .not-below))
         (margin .near .not-below)
         beyond-test
@@ -174,7 +190,8 @@ unfolding lt neg
 told-nothing-below true t = t
 told-nothing-below false t = t
 
-pub untold-above : (f : Float) → Counted f → (q : Float) (v : ℕ) → Units q v → T (marginOf f (inf false) q ≺ (inf false ⊖ q)) → ⊥
+pub untold-above :
+    {errors : ℕ} (f : Float) → Counted errors f → (q : Float) (v : ℕ) → Units q v → T (marginOf f (inf false) q ≺ (inf false ⊖ q)) → ⊥
 unfolding add sub mul
 untold-above nan F q v h t = absurd (F .is)
 untold-above (inf s) F q v h t = absurd (F .is)
@@ -183,7 +200,8 @@ untold-above (fin false m e) F nan v h t = absurd h
 untold-above (fin false m e) F (inf s) v h t = absurd h
 untold-above (fin false m e) F (fin s n d) v h t = told-nothing (eqb m 0) t
 
-pub untold-below : (f : Float) → Counted f → (q : Float) (v : ℕ) → Units q v → T ((inf false ⊖ q) ≺ neg (marginOf f (inf false) q)) → ⊥
+pub untold-below :
+    {errors : ℕ} (f : Float) → Counted errors f → (q : Float) (v : ℕ) → Units q v → T ((inf false ⊖ q) ≺ neg (marginOf f (inf false) q)) → ⊥
 unfolding add sub mul
 untold-below nan F q v h t = absurd (F .is)
 untold-below (inf s) F q v h t = absurd (F .is)
@@ -215,10 +233,6 @@ L-least c d pc h = shape (fall c d) (sNum 1 3) (sDen 3) _ (fall-most c d 1000 pc
 
 -- ---- y is near Y
 
-parts-large : 2 ^ 40 ≤ parts
-unfolding parts
-parts-large = lit≤ tt
-
 pub zero-units : Units #0 0
 unfolding ofBits ofFields odd trailingZeros
 zero-units = (refl, refl)
@@ -240,40 +254,56 @@ sixty c x w l h = omega arith
 large-square : (c v w : ℕ) → 0 < w → 2 ^ 74 * w ≤ c → 2 ^ 45 * c ≤ 2 ^ 45 * (v * w) + c → 2 ^ 60 ≤ v
 large-square c v w pw l h = le-of-mul-le-mul-right {k = w} (sixty c (v * w) w l (half-of c (v * w) h)) pw
 
--- Y at most y + 1/fine, and y below -708
+-- Y at most y + 1/k, and y below -708
 far-first :
-    (P M O n w : ℕ) → 0 < w → 0 < O → suc (708 * w) * O ≤ n * O → fine * (P * w + n * O) ≤ fine * (0 * O + M * w) + 1 * (w * O)
+    (k P M O n w : ℕ) → 0 < k → 0 < w → 0 < O → suc (708 * w) * O ≤ n * O → k * (P * w + n * O) ≤ k * (0 * O + M * w) + 1 * (w * O)
     → (P + 706 * O) * w < M * w
-far-first P M O n w pw pO i j = go (P * w) (w * O) (n * O) (M * w) _ (mul-pos pw pO) (one i) (two j) (three P O w)
+far-first k P M O n w pk pw pO i j =
+    go (P * w) (w * O) (n * O) (M * w) _ (mul-pos pw pO) (one i)
+    (le-of-mul-le-mul-left {k = k} (two k (P * w + n * O) (M * w) (w * O) j (mul-le-mul-right (w * O) pk)) pk) (three P O w)
   where
     one : suc (708 * w) * O ≤ n * O → 708 * (w * O) ≤ n * O
     one i = omega arith
 
-    two : fine * (P * w + n * O) ≤ fine * (0 * O + M * w) + 1 * (w * O) → fine * (P * w + n * O) ≤ fine * (M * w) + w * O
-    two j = omega arith
+    two : (k x y z : ℕ) → k * x ≤ k * (0 * O + y) + 1 * z → 1 * z ≤ k * z → k * x ≤ k * (y + z)
+    two k x y z h l = omega arith
 
     three : (P O w : ℕ) → (P + 706 * O) * w ≡ P * w + 706 * (w * O)
     three P O w = omega arith
 
-    go : (x z a b y : ℕ) → 0 < z → 708 * z ≤ a → fine * (x + a) ≤ fine * b + z → y ≡ x + 706 * z → y < b
+    go : (x z a b y : ℕ) → 0 < z → 708 * z ≤ a → x + a ≤ b + z → y ≡ x + 706 * z → y < b
     go x z a b y p i j e = omega arith
 
 far-last : (P M O p l o : ℕ) → 0 < o → P + 706 * O < M → l * O ≤ 700 * o * O → P * o + l * O < M * o + p * O
 far-last P M O p l o po i j = omega (arith, mul-le-mul-right o i)
 
-module _ (f : Float) (F : Counted f) (y : Float) (Y : Signed) (E : ℕ) (fit : T (fits binary64 y)) (pY : 0 < Y .over) (t : Term y Y E)
-    (few : E ≤ errors * U) where
+module _
+    {errors : ℕ} (f : Float) (F : Counted errors f) (y : Float) (Y : Signed) (E : ℕ) (fit : T (fits binary64 y)) (pY : 0 < Y .over)
+    (t : Term y Y E) (few : E ≤ errors * U) where
   abbrev s : Bool
   s = t .sign
 
   abbrev n : ℕ
   n = t .units
 
+  -- the exact numbers are apart by a part in `apart`, Y and y are at most 1/fine apart
+  abbrev apart : ℕ
+  apart = 9 * F .n
+
+  abbrev fine : ℕ
+  fine = 9 * F .n + 2
+
   near : Near fine 1 Y (inUnits s n)
-  near = one-part (2 ^ 52 * U) E fine (mul-pos (pow-pos 52) (pow-pos 1074)) (room-in E U few) (t .near)
+  near = one-part (2 ^ 52 * U) E fine (mul-pos (pow-pos 52) (pow-pos 1074)) (room-in E errors fine U few (F .room)) (t .near)
     where
-      room-in : (E z : ℕ) → E ≤ errors * z → E * fine ≤ 2 ^ 52 * z
-      room-in E z h = omega arith
+      room-in : (E e k z : ℕ) → E ≤ e * z → e * k ≤ 2 ^ 52 → E * k ≤ 2 ^ 52 * z
+      room-in E e k z h l = le-trans (mul-le-mul-right k h) (le-trans (le-of-eq (regrouped e z k)) (mul-le-mul-right z l))
+        where
+          regrouped : (e z k : ℕ) → e * z * k ≡ e * k * z
+          regrouped e z k = omega arith
+
+  told : Finer apart fine
+  told = finer (F .n) (F .n-some) (F .n-few)
 
   module _ (q : Float) (c : ℕ) (g : Squared q c) where
     abbrev v : ℕ
@@ -363,16 +393,16 @@ module _ (f : Float) (F : Counted f) (y : Float) (Y : Signed) (E : ℕ) (fit : T
 
       between-yes : 0 < c → T (marginOf f (expOf y) q ≺ (expOf y ⊖ q)) → AboveZero (minus Y (lOf c (U * U)))
       between-yes pc test =
-          above-L apart fine finer s n U (N .j) (N .p) c (U * U) (pow-pos 1074) pc pU2 (N .parted) Y pY (near .ahead)
-          (exactly-above c v u U X Z pc pZ (g .near .not-below)
+          above-L apart fine told s n U (N .j) (N .p) c (U * U) (pow-pos 1074) pc pU2 (N .parted) Y pY (near .ahead)
+          (exactly-above (F .n) c v u U X Z (F .n-some) (F .n-few) pc pZ (g .near .not-below)
           (above-margin f F (expOf y) q u v (N .value) (g .is) room (le-trans (large pc) (le-add-left v u)) test) (N .distance .not-above))
 
       between-no : T ((expOf y ⊖ q) ≺ neg (marginOf f (expOf y) q)) → (0 < c) × BelowZero (minus Y (lOf c (U * U)))
       between-no test =
           let pc : 0 < c = some (some-square f F (expOf y) q u v (N .value) (g .is) room test) in (
             pc,
-            below-L apart fine finer s n U (N .j) (N .p) c (U * U) (pow-pos 1074) pc pU2 (N .parted) Y pY (near .behind)
-                (exactly-below c v u U X Z parts parts-large pc pZ (g .near .not-above)
+            below-L apart fine told s n U (N .j) (N .p) c (U * U) (pow-pos 1074) pc pU2 (N .parted) Y pY (near .behind)
+                (exactly-below (F .n) c v u U X Z (F .n-some) (F .n-few) parts parts-large pc pZ (g .near .not-above)
                 (below-margin f F (expOf y) q u v (N .value) (g .is) room test (le-trans (large pc) (le-add-left v u)))
                 (N .distance .not-below)),
           )
@@ -390,12 +420,12 @@ module _ (f : Float) (F : Counted f) (y : Float) (Y : Signed) (E : ℕ) (fit : T
 
       under-yes : 0 < c → T (marginOf f (expOf y) q ≺ (expOf y ⊖ q)) → ⊥
       under-yes pc test =
-          never v (large pc)
+          never (F .n) v (large pc)
           (above-margin f F #0 q 0 v zero-units (g .is) zero-room (le-trans (large pc) (le-add-left v 0))
           (subst (λ (e : Float). T (marginOf f e q ≺ (e ⊖ q))) nothing test))
         where
-          never : (v : ℕ) → 2 ^ 60 ≤ v → (2 ^ 36 + 15) * v ≤ 2 ^ 36 * 0 → ⊥
-          never v h i = omega arith
+          never : (k v : ℕ) → 2 ^ 60 ≤ v → (128 * k + 15) * v ≤ 128 * k * 0 → ⊥
+          never k v h i = omega arith
 
       low : (s ≡ true) × (708 * U < n)
       low = go s (t .is)
@@ -417,8 +447,8 @@ module _ (f : Float) (F : Counted f) (y : Float) (Y : Signed) (E : ℕ) (fit : T
           some (some-square f F #0 q 0 v zero-units (g .is) zero-room
           (subst (λ (e : Float). T ((e ⊖ q) ≺ neg (marginOf f e q))) nothing test)) in (
             pc,
-            far (Y .plus) (Y .less) (Y .over) (lOf c (U * U) .plus) (lOf c (U * U) .less) (lOf c (U * U) .over) n U pY
-                (over-pos-of c (U * U) pU2) (pow-pos 1074) (low .1)
+            far fine (Y .plus) (Y .less) (Y .over) (lOf c (U * U) .plus) (lOf c (U * U) .less) (lOf c (U * U) .over) n U
+                (told .parts-some) pY (over-pos-of c (U * U) pU2) (pow-pos 1074) (low .1)
                 (subst (λ (r : Bool). AtMostBy fine 1 (inUnits r n) Y) (low .0) (near .behind))
                 (L-least c (U * U) pc (least-of c (g .least pc))),
           )
@@ -427,11 +457,12 @@ module _ (f : Float) (F : Counted f) (y : Float) (Y : Signed) (E : ℕ) (fit : T
           least-of c h = le-trans (lit≤ tt) (mul-le-mul-left (2 ^ 1000) h)
 
           far :
-              (P M O p l o n w : ℕ) → 0 < O → 0 < o → 0 < w → 708 * w < n → fine * (P * w + n * O) ≤ fine * (0 * O + M * w) + 1 *
-              (w * O)
+              (k P M O p l o n w : ℕ) → 0 < k → 0 < O → 0 < o → 0 < w → 708 * w < n
+              → k * (P * w + n * O) ≤ k * (0 * O + M * w) + 1 * (w * O)
               → l ≤ 700 * o → P * o + l * O < M * o + p * O
-          far P M O p l o n w pO po pw m h k =
-              far-last P M O p l o po (lt-of-mul-lt-mul-right w (far-first P M O n w pw pO (mul-le-mul-right O m) h)) (mul-le-mul-right O k)
+          far k P M O p l o n w pk pO po pw m h i =
+              far-last P M O p l o po (lt-of-mul-lt-mul-right w (far-first k P M O n w pk pw pO (mul-le-mul-right O m) h))
+              (mul-le-mul-right O i)
 
   -- ---- any y
 

@@ -29,10 +29,11 @@ use Rattle.series.proofs.change.RelativeChange.{L-relative}
 use Rattle.logarithm.specs.Steps.{logOf}
 use Rattle.logarithm.proofs.Promise as logarithm
 use Rattle.exponential.specs.Steps.{expOf}
-use Rattle.certain.specs.power.Margins.{marginOf}
+use Rattle.cone.specs.verdict.Margins.{marginOf}
+use Rattle.powcone.specs.Feasible.{dualExponent}
 use Rattle.certain.specs.Coordinates.{largest, Point, exactOf}
 use Rattle.certain.proofs.ExactCoordinates.{inUnits, units-exact, exact-over, num-pos-of, cross-of, quotient-exact, quotient-over}
-use Rattle.certain.proofs.Coordinates.{Coordinate, coordinate, above-zero}
+use Rattle.certain.proofs.Coordinates.{Coordinate, coordinate, Nonzero, positive}
 use Rattle.certain.specs.power.Numbers.{sum, two, one}
 use Rattle.certain.specs.power.Dual as dual
 use Rattle.certain.specs.power.Meaning.{Exponent}
@@ -44,9 +45,9 @@ use Rattle.certain.proofs.power.Quotients.{InRange, quotient-cases, not
 use Rattle.certain.proofs.power.ExactNumbers.{same-sum, same-twice, same-less, square-exact, units-above, units-some, root-some}
 use Rattle.certain.proofs.power.Exponents.{in-units, A, B, rest, rest-least, rest-most, first-dual, first-positive, rest-weight}
 use Rattle.certain.proofs.power.Primal.{one-error, room-for, fits-for}
-use Rattle.certain.proofs.power.Margins.{Counted}
+use Rattle.certain.proofs.power.Margins.{Counted, powerErrors}
 use Rattle.certain.proofs.power.Infinities.{mul-infinity, infinite-and-finite, exp-infinity}
-use Rattle.certain.proofs.power.Decided.{errors, Squared, decided-yes, decided-no, untold-above, untold-below}
+use Rattle.certain.proofs.power.Decided.{Squared, decided-yes, decided-no, untold-above, untold-below}
 
 abbrev U : ℕ
 U = 2 ^ 1074
@@ -166,7 +167,7 @@ rest-exact z α s a n pa l h k = (
 
 -- ---- the test
 
-errors-most : (a b z : ℕ) → a + b ≡ z → 2 * a * 184320 + 3250 * z + (2 * (b * 184320 + 3250 * z) + 1088 * z) + 1440 * z ≤ errors * z
+errors-most : (a b z : ℕ) → a + b ≡ z → 2 * a * 184320 + 3250 * z + (2 * (b * 184320 + 3250 * z) + 1088 * z) + 1440 * z ≤ powerErrors * z
 errors-most a b z e = omega arith
 
 half-error : (a z : ℕ) → a ≤ z → a * 184320 + 3250 * z ≤ 2 ^ 52 * z
@@ -191,11 +192,11 @@ itself x = record { ahead = shape (x .plus) (x .less) (x .over); behind = shape 
     shape p l o = omega arith
 
 module _ (α z1 z2 z3 : Float) (x : Exponent α) (p : Point z1 z2 z3) (t1 : T (#0 ≺ z1)) (t2 : T (#0 ≺ z2)) where
-  c1 : Coordinate z1
-  c1 = coordinate z1 (p .first-double) (p .first)
+  c1 : Nonzero false z1
+  c1 = positive z1 (p .first-double) (p .first) t1
 
-  c2 : Coordinate z2
-  c2 = coordinate z2 (p .second-double) (p .second)
+  c2 : Nonzero false z2
+  c2 = positive z2 (p .second-double) (p .second) t2
 
   c3 : Coordinate z3
   c3 = coordinate z3 (p .third-double) (p .third)
@@ -208,18 +209,6 @@ module _ (α z1 z2 z3 : Float) (x : Exponent α) (p : Point z1 z2 z3) (t1 : T (#
 
   abbrev w : ℕ
   w = c3 .units
-
-  first : (c1 .sign ≡ false) × (0 < a)
-  first = above-zero z1 (c1 .sign) a (c1 .is) t1
-
-  second : (c2 .sign ≡ false) × (0 < b)
-  second = above-zero z2 (c2 .sign) b (c2 .is) t2
-
-  is-a : Units z1 a
-  is-a = subst (λ (s : Bool). Sized z1 s a) (first .0) (c1 .is)
-
-  is-b : Units z2 b
-  is-b = subst (λ (s : Bool). Sized z2 s b) (second .0) (c2 .is)
 
   abbrev M : ℕ
   M = A α x
@@ -250,10 +239,10 @@ module _ (α z1 z2 z3 : Float) (x : Exponent α) (p : Point z1 z2 z3) (t1 : T (#
 
   -- both quotients are normal numbers, or infinite
   a-large : 2 ^ 52 * M ≤ a * U
-  a-large = large-of a M U (2 ^ 52) (le-trans M-most (lit≤ tt)) (lit≤ tt) (c1 .least (first .1))
+  a-large = large-of a M U (2 ^ 52) (le-trans M-most (lit≤ tt)) (lit≤ tt) (c1 .least)
 
   b-large : 2 ^ 52 * R ≤ b * U
-  b-large = large-of b R U (2 ^ 52) (R-sides .3) (lit≤ tt) (c2 .least (second .1))
+  b-large = large-of b R U (2 ^ 52) (R-sides .3) (lit≤ tt) (c2 .least)
 
   b-most : b ≤ 2 ^ 1023 * R
   b-most =
@@ -265,11 +254,11 @@ module _ (α z1 z2 z3 : Float) (x : Exponent α) (p : Point z1 z2 z3) (t1 : T (#
 
   log2 : LogOf (logOf (z2 ⊘ (#1 ⊖ α))) (lOf b N)
   log2 =
-      quotient-log (z2 ⊘ (#1 ⊖ α)) b R N largest (div-fits binary64 z2 (#1 ⊖ α)) (second .1) (R-sides .0) N-pos (R-sides .3)
-      (c2 .least (second .1))
+      quotient-log (z2 ⊘ (#1 ⊖ α)) b R N largest (div-fits binary64 z2 (#1 ⊖ α)) (c2 .some) (R-sides .0) N-pos (R-sides .3)
+      (c2 .least)
       (lit≤ tt) (R-sides .1) (R-sides .2)
-      (not-infinite z2 (#1 ⊖ α) b R (R-sides .0) is-b (rest α x .is) b-large b-most)
-      (rest-moved b N R (second .1) N-pos (R-sides .0) (R-near .0) (R-near .1))
+      (not-infinite z2 (#1 ⊖ α) b R (R-sides .0) (c2 .is) (rest α x .is) b-large b-most)
+      (rest-moved b N R (c2 .some) N-pos (R-sides .0) (R-near .0) (R-near .1))
 
   half2 : Term ((#1 ⊖ α) ⊗ logOf (z2 ⊘ (#1 ⊖ α))) (times (inUnits false N) (lOf b N)) (N * 184320 + 3250 * U)
   half2 = weighed (rest-weight α x) (le-trans (rest-most α x) (lit≤ tt)) (log2 .log) (log2 .over-pos) (log2 .small)
@@ -297,7 +286,7 @@ module _ (α z1 z2 z3 : Float) (x : Exponent α) (p : Point z1 z2 z3) (t1 : T (#
   rest-over = mul-pos {m = 1} (pow-pos 0) (exact-over α)
 
   rest-same : (0 < den α - num α) × Same (lOf b N) (dual.lOfRest z2 α)
-  rest-same = rest-exact z2 α false b M (second .1) (in-units α x .less) is-b (in-units α x .is)
+  rest-same = rest-exact z2 α false b M (c2 .some) (in-units α x .less) (c2 .is) (in-units α x .is)
 
   abbrev logs : Signed
   logs = sum (times (inUnits false (2 * M)) (lOf a M)) (times (inUnits false (2 * N)) (lOf b N))
@@ -307,7 +296,7 @@ module _ (α z1 z2 z3 : Float) (x : Exponent α) (p : Point z1 z2 z3) (t1 : T (#
       same-sum
       (same-times (mul-pos {m = 1} (pow-pos 0) (exact-over α)) (over-pos-of a M (in-units α x .some))
       (same-twice M (exactOf α) (exact-over α) α-same)
-      (quotient-exact z1 α false false a M (first .1) (in-units α x .some) is-a (in-units α x .is)))
+      (quotient-exact z1 α false false a M (c1 .some) (in-units α x .some) (c1 .is) (in-units α x .is)))
       (same-times (mul-pos {m = 1} (pow-pos 0) rest-over) (log2 .over-pos)
       (same-twice N (minus one (exactOf α)) rest-over (same-less M (exactOf α) (exact-over α) M-most α-same))
       (rest-same .1))
@@ -335,20 +324,20 @@ module _ (α z1 z2 z3 : Float) (x : Exponent α) (p : Point z1 z2 z3) (t1 : T (#
       (square-exact z3 (c3 .sign) w pw (c3 .is))
 
   abbrev y : Float
-  y = dual.exponent α z1 z2
+  y = dualExponent α z1 z2
 
   abbrev E : ℕ
   E = 2 * M * 184320 + 3250 * U + (2 * (N * 184320 + 3250 * U) + 1088 * U) + 1440 * U
 
-  E-most : E ≤ errors * U
+  E-most : E ≤ powerErrors * U
   E-most = errors-most M N U (add-sub-of-le M-most)
 
   -- z1/α is in range
   module _ (r : InRange (z1 ⊘ α) a M) where
     log1 : LogOf (logOf (z1 ⊘ α)) (lOf a M)
     log1 =
-        quotient-log (z1 ⊘ α) a M M largest (div-fits binary64 z1 α) (first .1) (in-units α x .some) (in-units α x .some)
-        (le-trans M-most (lit≤ tt)) (c1 .least (first .1)) (lit≤ tt) (twice-itself M) (twice-itself M) r (itself (lOf a M))
+        quotient-log (z1 ⊘ α) a M M largest (div-fits binary64 z1 α) (c1 .some) (in-units α x .some) (in-units α x .some)
+        (le-trans M-most (lit≤ tt)) (c1 .least) (lit≤ tt) (twice-itself M) (twice-itself M) r (itself (lOf a M))
       where
         twice-itself : (m : ℕ) → m ≤ 2 * m
         twice-itself m = omega arith
@@ -378,36 +367,45 @@ module _ (α z1 z2 z3 : Float) (x : Exponent α) (p : Point z1 z2 z3) (t1 : T (#
       ∙ ap expOf (infinite-and-finite ((#1 ⊖ α) ⊗ logOf (z2 ⊘ (#1 ⊖ α)) ⊗ #2) (term2 .sign) (term2 .units) (term2 .is)) ∙ exp-infinity
 
   cases : ((z1 ⊘ α) ≡ inf false) ⊎ InRange (z1 ⊘ α) a M
-  cases = quotient-cases z1 α a M (in-units α x .some) is-a (in-units α x .is) a-large
+  cases = quotient-cases z1 α a M (in-units α x .some) (c1 .is) (in-units α x .is) a-large
 
-  above : (part : Float) (F : Counted part) → 0 < w → T (dual.margin part α z1 z2 z3 ≺ dual.residue α z1 z2 z3) → AboveZero (minus logs (lOf (w * w) (U * U)))
+  above :
+      (part : Float) (F : Counted powerErrors part) → 0 < w → T (dual.margin part α z1 z2 z3 ≺ dual.residue α z1 z2 z3)
+      → AboveZero (minus logs (lOf (w * w) (U * U)))
   above part F pw test = go cases
     where
       go : ((z1 ⊘ α) ≡ inf false) ⊎ InRange (z1 ⊘ α) a M → AboveZero (minus logs (lOf (w * w) (U * U)))
       go (inl e) =
           absurd (untold-above part F (z3 ⊗ z3) (q .units) (q .is) (subst (λ (f : Float). T (marginOf part f (z3 ⊗ z3) ≺ (f ⊖ z3 ⊗ z3)))
           (infinite e) test))
-      go (inr r) = decided-yes part F y logs E (add-fits binary64 _ _) logs-over (exponent r) E-most (z3 ⊗ z3) (w * w) q (mul-pos pw pw) test
+      go (inr r) =
+          decided-yes part F y logs E (add-fits binary64 _ _) logs-over (exponent r) E-most (z3 ⊗ z3) (w * w) q (mul-pos pw pw) test
 
-  below : (part : Float) (F : Counted part) → T (dual.residue α z1 z2 z3 ≺ neg (dual.margin part α z1 z2 z3)) → (0 < w * w) × BelowZero (minus logs (lOf (w * w) (U * U)))
+  below :
+      (part : Float) (F : Counted powerErrors part) → T (dual.residue α z1 z2 z3 ≺ neg (dual.margin part α z1 z2 z3))
+      → (0 < w * w) × BelowZero (minus logs (lOf (w * w) (U * U)))
   below part F test = go cases
     where
       go : ((z1 ⊘ α) ≡ inf false) ⊎ InRange (z1 ⊘ α) a M → (0 < w * w) × BelowZero (minus logs (lOf (w * w) (U * U)))
       go (inl e) =
-          absurd (untold-below part F (z3 ⊗ z3) (q .units) (q .is) (subst (λ (f : Float). T ((f ⊖ z3 ⊗ z3) ≺ neg (marginOf part f (z3 ⊗ z3))))
+          absurd (untold-below part F (z3 ⊗ z3) (q .units) (q .is)
+          (subst (λ (f : Float). T ((f ⊖ z3 ⊗ z3) ≺ neg (marginOf part f (z3 ⊗ z3))))
           (infinite e) test))
       go (inr r) = decided-no part F y logs E (add-fits binary64 _ _) logs-over (exponent r) E-most (z3 ⊗ z3) (w * w) q test
 
-  pub inside : (part : Float) (F : Counted part) → T (dual.margin part α z1 z2 z3 ≺ dual.residue α z1 z2 z3) → dual.Inside α z1 z2 z3
+  pub inside :
+      (part : Float) (F : Counted powerErrors part) → T (dual.margin part α z1 z2 z3 ≺ dual.residue α z1 z2 z3) → dual.Inside α z1 z2 z3
   inside part F test = record {
-    first-above = units-above z1 a (first .1) is-a;
-    second-above = units-above z2 b (second .1) is-b;
+    first-above = units-above z1 a (c1 .some) (c1 .is);
+    second-above = units-above z2 b (c2 .some) (c2 .is);
     number-above = λ n.
         let pw : 0 < w = units-some z3 (c3 .sign) w (c3 .is) n in
         above-moves number-over (same pw) (above part F pw test);
   }
 
-  pub outside : (part : Float) (F : Counted part) → T (dual.residue α z1 z2 z3 ≺ neg (dual.margin part α z1 z2 z3)) → (0 < num z3) × BelowZero (dual.number α z1 z2 z3)
+  pub outside :
+      (part : Float) (F : Counted powerErrors part) → T (dual.residue α z1 z2 z3 ≺ neg (dual.margin part α z1 z2 z3))
+      → (0 < num z3) × BelowZero (dual.number α z1 z2 z3)
   outside part F test =
       let d = below part F test in
       let pw : 0 < w = root-some w (d .0) in

@@ -1,5 +1,5 @@
 -- How large L is: at most 0.7 for each power of two between its fraction and 1, and 0.7 more. Assumes nothing.
-use mathlib.Core.Path.{_≡_, sym, subst}
+use mathlib.Core.Path.{sym, subst}
 use Prim.Native.Nat.{ℕ, _+_, _-_, _*_, _/_, _^_, _≤_, _<_}
 use native.Mathlib.Nat.{mul-le-mul-left, mul-le-mul-right, div-lt-iff-lt-mul, one-mul}
 use native.Mathlib.Decide.{decLt}

@@ -1,6 +1,6 @@
 -- The power cone itself: a residue beyond its margin tells the sign of 2α·L(s1) + 2(1-α)·L(s2) - L(s3²). Assumes nothing.
-use mathlib.Core.Path.{_≡_, subst}
-use mathlib.Core.Bool.{Bool, false}
+use mathlib.Core.Path.{_≡_}
+use mathlib.Core.Bool.{false}
 use Prim.Native.Nat.{ℕ, _+_, _*_, _^_, _≤_, _<_}
 use native.Mathlib.Nat.{le-trans, le-of-lt, mul-pos, mul-le-mul-left, mul-le-mul-right, add-sub-of-le}
 use native.Mathlib.Omega.{arith}
@@ -11,15 +11,15 @@ use lib.Ieee.Fits.{add-fits}
 use lib.Ieee.Positive.{num, den, den-pos}
 use Rattle.double.specs.Operators.{_⊖_, _⊗_, _≺_}
 use Rattle.double.specs.Numbers.{#0, #1, #2}
-use Rattle.double.specs.Fields.{Sized, Units}
 use Rattle.series.specs.Series.{Signed, Same, lOf}
 use Rattle.series.proofs.SignedFractions.{over-pos-of}
 use Rattle.series.specs.change.SignedArithmetic.{times, minus, BelowZero}
 use Rattle.series.proofs.change.SignedArithmetic.{same-times, same-minus, above-moves, below-moves}
 use Rattle.logarithm.specs.Steps.{logOf}
+use Rattle.powcone.specs.Feasible.{primalExponent}
 use Rattle.certain.specs.Coordinates.{Point, exactOf}
 use Rattle.certain.proofs.ExactCoordinates.{inUnits, units-exact, exact-over, num-pos-of}
-use Rattle.certain.proofs.Coordinates.{Coordinate, coordinate, above-zero}
+use Rattle.certain.proofs.Coordinates.{Coordinate, coordinate, Nonzero, positive}
 use Rattle.certain.specs.power.Numbers.{sum, one}
 use Rattle.certain.specs.power.Primal as primal
 use Rattle.certain.specs.power.Meaning.{Exponent}
@@ -29,14 +29,14 @@ use Rattle.certain.proofs.power.Coordinates.{LogOf, own-log, square}
 use Rattle.certain.proofs.power.ExactNumbers.{same-sum, same-twice, same-less, one-exact, square-exact, units-above, units-some}
 use Rattle.certain.proofs.power.ExactNumbers.{root-some}
 use Rattle.certain.proofs.power.Exponents.{in-units, A, B, rest-most, first-weight, second-weight}
-use Rattle.certain.proofs.power.Margins.{Counted}
-use Rattle.certain.proofs.power.Decided.{errors, Squared, decided-yes, decided-no}
+use Rattle.certain.proofs.power.Margins.{Counted, powerErrors}
+use Rattle.certain.proofs.power.Decided.{Squared, decided-yes, decided-no}
 
 abbrev U : ℕ
 U = 2 ^ 1074
 
 -- the errors of two weighed logarithms and of their sum
-errors-most : (a b z : ℕ) → a + b ≡ z → 2 * a * 184320 + 3250 * z + (2 * b * 184320 + 3250 * z) + 1440 * z ≤ errors * z
+errors-most : (a b z : ℕ) → a + b ≡ z → 2 * a * 184320 + 3250 * z + (2 * b * 184320 + 3250 * z) + 1440 * z ≤ powerErrors * z
 errors-most a b z e = omega arith
 
 pub one-error : (a z : ℕ) → a ≤ z → 2 * a * 184320 + 3250 * z ≤ 2 ^ 52 * z
@@ -49,11 +49,11 @@ pub fits-for : (m n z : ℕ) → m ≤ (1438 + 1) * z → n ≤ (1438 + 1) * z �
 fits-for m n z h k = omega arith
 
 module _ (α s1 s2 s3 : Float) (x : Exponent α) (p : Point s1 s2 s3) (t1 : T (#0 ≺ s1)) (t2 : T (#0 ≺ s2)) where
-  c1 : Coordinate s1
-  c1 = coordinate s1 (p .first-double) (p .first)
+  c1 : Nonzero false s1
+  c1 = positive s1 (p .first-double) (p .first) t1
 
-  c2 : Coordinate s2
-  c2 = coordinate s2 (p .second-double) (p .second)
+  c2 : Nonzero false s2
+  c2 = positive s2 (p .second-double) (p .second) t2
 
   c3 : Coordinate s3
   c3 = coordinate s3 (p .third-double) (p .third)
@@ -67,23 +67,11 @@ module _ (α s1 s2 s3 : Float) (x : Exponent α) (p : Point s1 s2 s3) (t1 : T (#
   abbrev w : ℕ
   w = c3 .units
 
-  first : (c1 .sign ≡ false) × (0 < a)
-  first = above-zero s1 (c1 .sign) a (c1 .is) t1
-
-  second : (c2 .sign ≡ false) × (0 < b)
-  second = above-zero s2 (c2 .sign) b (c2 .is) t2
-
-  is-a : Units s1 a
-  is-a = subst (λ (s : Bool). Sized s1 s a) (first .0) (c1 .is)
-
-  is-b : Units s2 b
-  is-b = subst (λ (s : Bool). Sized s2 s b) (second .0) (c2 .is)
-
   log1 : LogOf (logOf s1) (lOf a U)
-  log1 = own-log s1 a (p .first-double) is-a (first .1) (c1 .most) (c1 .least (first .1))
+  log1 = own-log s1 a (p .first-double) (c1 .is) (c1 .some) (c1 .most) (c1 .least)
 
   log2 : LogOf (logOf s2) (lOf b U)
-  log2 = own-log s2 b (p .second-double) is-b (second .1) (c2 .most) (c2 .least (second .1))
+  log2 = own-log s2 b (p .second-double) (c2 .is) (c2 .some) (c2 .most) (c2 .least)
 
   abbrev W1 : ℕ
   W1 = 2 * A α x
@@ -121,7 +109,7 @@ module _ (α s1 s2 s3 : Float) (x : Exponent α) (p : Point s1 s2 s3) (t1 : T (#
   E = W1 * 184320 + 3250 * U + (W2 * 184320 + 3250 * U) + 1440 * U
 
   abbrev y : Float
-  y = primal.exponent α s1 s2
+  y = primalExponent α s1 s2
 
   exponent : Term y logs E
   exponent =
@@ -129,7 +117,7 @@ module _ (α s1 s2 s3 : Float) (x : Exponent α) (p : Point s1 s2 s3) (t1 : T (#
       (room-for (term1 .units) (term2 .units) U (lit≤ tt) size1 size2)
       (le-trans (fits-for (term1 .units) (term2 .units) U size1 size2) (mul-le-mul-right {m = 2878} {n = 2 ^ 1023} U (lit≤ tt)))
 
-  E-most : E ≤ errors * U
+  E-most : E ≤ powerErrors * U
   E-most = errors-most (A α x) (B α x) U (add-sub-of-le (le-of-lt (in-units α x .less)))
 
   logs-over : 0 < logs .over
@@ -146,11 +134,11 @@ module _ (α s1 s2 s3 : Float) (x : Exponent α) (p : Point s1 s2 s3) (t1 : T (#
   same-logs =
       same-sum
       (same-times (mul-pos {m = 1} (pow-pos 0) (exact-over α)) (log1 .over-pos) (same-twice (A α x) (exactOf α) (exact-over α) α-same)
-      (one-exact s1 false a (first .1) is-a))
+      (one-exact s1 false a (c1 .some) (c1 .is)))
       (same-times (mul-pos {m = 1} (pow-pos 0) rest-over) (log2 .over-pos)
       (same-twice (B α x) (minus one (exactOf α)) rest-over
       (same-less (A α x) (exactOf α) (exact-over α) (le-of-lt (in-units α x .less)) α-same))
-      (one-exact s2 false b (second .1) is-b))
+      (one-exact s2 false b (c2 .some) (c2 .is)))
 
   logs-exact : 0 < primal.logs α s1 s2 .over
   logs-exact =
@@ -170,17 +158,20 @@ module _ (α s1 s2 s3 : Float) (x : Exponent α) (p : Point s1 s2 s3) (t1 : T (#
       same-minus logs-exact (over-pos-of (w * w) (U * U) (mul-pos (pow-pos 1074) (pow-pos 1074))) same-logs
       (square-exact s3 (c3 .sign) w pw (c3 .is))
 
-  pub inside : (part : Float) (F : Counted part) → T (primal.margin part α s1 s2 s3 ≺ primal.residue α s1 s2 s3) → primal.Inside α s1 s2 s3
+  pub inside :
+      (part : Float) (F : Counted powerErrors part) → T (primal.margin part α s1 s2 s3 ≺ primal.residue α s1 s2 s3) → primal.Inside α s1 s2 s3
   inside part F test = record {
-    first-above = units-above s1 a (first .1) is-a;
-    second-above = units-above s2 b (second .1) is-b;
+    first-above = units-above s1 a (c1 .some) (c1 .is);
+    second-above = units-above s2 b (c2 .some) (c2 .is);
     number-above = λ n.
         let pw : 0 < w = units-some s3 (c3 .sign) w (c3 .is) n in
         above-moves number-over (same pw)
         (decided-yes part F y logs E (add-fits binary64 _ _) logs-over exponent E-most (s3 ⊗ s3) (w * w) q (mul-pos pw pw) test);
   }
 
-  pub outside : (part : Float) (F : Counted part) → T (primal.residue α s1 s2 s3 ≺ neg (primal.margin part α s1 s2 s3)) → (0 < num s3) × BelowZero (primal.number α s1 s2 s3)
+  pub outside :
+      (part : Float) (F : Counted powerErrors part) → T (primal.residue α s1 s2 s3 ≺ neg (primal.margin part α s1 s2 s3))
+      → (0 < num s3) × BelowZero (primal.number α s1 s2 s3)
   outside part F test =
       let d = decided-no part F y logs E (add-fits binary64 _ _) logs-over exponent E-most (s3 ⊗ s3) (w * w) q test in
       let pw : 0 < w = root-some w (d .0) in

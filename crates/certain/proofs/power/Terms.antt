@@ -143,11 +143,27 @@ product-error W h U big w l = go (W * h) (U * U) (mul-le-mul w l) (mul-le-mul-ri
     go : (x y : ℕ) → x ≤ 3 * U * (725 * U) → 2 ^ 52 * U ≤ U * U → x + 2 ^ 52 * U ≤ 2 * (1088 * (U * U))
     go x y i j = omega arith
 
+-- 2^53·a is at most 2^53·b and an error e, v times that; half the error in parts of 2^52
+scaled-parts :
+    (a b e f v X Y Z : ℕ) → 2 ^ 53 * a ≤ 2 ^ 53 * b + e → e ≤ 2 * f → X ≡ 2 ^ 52 * (a * v) → Y ≡ 2 ^ 52 * (b * v) → Z ≡ f * v
+    → X ≤ Y + Z
+scaled-parts a b e f v X Y Z h g i j k =
+    rw (i, j, k) (last (a * v) (b * v) (e * v) (f * v) (spread (mul-le-mul-right v h)) (spread′ (mul-le-mul-right v g)))
+  where
+    spread : 2 ^ 53 * a * v ≤ (2 ^ 53 * b + e) * v → 2 ^ 53 * (a * v) ≤ 2 ^ 53 * (b * v) + e * v
+    spread h = omega arith
+
+    spread′ : e * v ≤ 2 * f * v → e * v ≤ 2 * (f * v)
+    spread′ h = omega arith
+
+    last : (a b e f : ℕ) → 2 ^ 53 * a ≤ 2 ^ 53 * b + e → e ≤ 2 * f → 2 ^ 52 * a ≤ 2 ^ 52 * b + f
+    last a b e f h g = omega arith
+
 product-shape :
     (np nm W lp lm U e : ℕ) → e ≤ 2 * (1088 * (U * U)) → 2 ^ 53 * (np * U + W * lm) ≤ 2 ^ 53 * (nm * U + W * lp) + e
     → 2 ^ 52 * U * (np * (U * U) + (W * lm + 0 * lp) * U) ≤ 2 ^ 52 * U * ((W * lp + 0 * lm) * U + nm * (U * U)) + 1088 * U * (U * U * U)
 product-shape np nm W lp lm U e small h =
-    go _ _ _ _ (U * U) _ _ _ h small (left np W lm lp U) (right W lp lm nm U) (error U)
+    scaled-parts _ _ _ _ (U * U) _ _ _ h small (left np W lm lp U) (right W lp lm nm U) (error U)
   where
     left : (np W lm lp U : ℕ) → 2 ^ 52 * U * (np * (U * U) + (W * lm + 0 * lp) * U) ≡ 2 ^ 52 * ((np * U + W * lm) * (U * U))
     left np W lm lp U = omega arith
@@ -157,21 +173,6 @@ product-shape np nm W lp lm U e small h =
 
     error : (U : ℕ) → 1088 * U * (U * U * U) ≡ 1088 * (U * U) * (U * U)
     error U = omega arith
-
-    go :
-        (a b e f v X Y Z : ℕ) → 2 ^ 53 * a ≤ 2 ^ 53 * b + e → e ≤ 2 * f → X ≡ 2 ^ 52 * (a * v) → Y ≡ 2 ^ 52 * (b * v) → Z ≡ f * v
-        → X ≤ Y + Z
-    go a b e f v X Y Z h g i j k =
-        rw (i, j, k) (last (a * v) (b * v) (e * v) (f * v) (spread (mul-le-mul-right v h)) (spread′ (mul-le-mul-right v g)))
-      where
-        spread : 2 ^ 53 * a * v ≤ (2 ^ 53 * b + e) * v → 2 ^ 53 * (a * v) ≤ 2 ^ 53 * (b * v) + e * v
-        spread h = omega arith
-
-        spread′ : e * v ≤ 2 * f * v → e * v ≤ 2 * (f * v)
-        spread′ h = omega arith
-
-        last : (a b e f : ℕ) → 2 ^ 53 * a ≤ 2 ^ 53 * b + e → e ≤ 2 * f → 2 ^ 52 * a ≤ 2 ^ 52 * b + f
-        last a b e f h g = omega arith
 
 commuted : (k a b c d e U : ℕ) → k * (a + b) ≤ k * (c + d) + e * (U * U * U) → k * (b + a) ≤ k * (d + c) + e * (U * (U * U))
 commuted k a b c d e U h = omega arith
@@ -263,7 +264,7 @@ sum-shape :
     (a + b + 2 ^ 52)
     → 2 ^ 52 * U * (yp * (U * U) + (am * U + bm * U) * U) ≤ 2 ^ 52 * U * ((ap * U + bp * U) * U + ym * (U * U)) + N * U * (U * U * U)
 sum-shape yp ym ap am bp bm U N a b small h =
-    go (yp + (am + bm)) (ym + (ap + bp)) (a + b + 2 ^ 52) (N * U) (U * (U * U)) _ _ _ h small (left yp am bm U) (right ap bp ym U)
+    scaled-parts (yp + (am + bm)) (ym + (ap + bp)) (a + b + 2 ^ 52) (N * U) (U * (U * U)) _ _ _ h small (left yp am bm U) (right ap bp ym U)
     (error N U)
   where
     left : (yp am bm U : ℕ) → 2 ^ 52 * U * (yp * (U * U) + (am * U + bm * U) * U) ≡ 2 ^ 52 * ((yp + (am + bm)) * (U * (U * U)))
@@ -274,21 +275,6 @@ sum-shape yp ym ap am bp bm U N a b small h =
 
     error : (N U : ℕ) → N * U * (U * U * U) ≡ N * U * (U * (U * U))
     error N U = omega arith
-
-    go :
-        (a b e f v X Y Z : ℕ) → 2 ^ 53 * a ≤ 2 ^ 53 * b + e → e ≤ 2 * f → X ≡ 2 ^ 52 * (a * v) → Y ≡ 2 ^ 52 * (b * v) → Z ≡ f * v
-        → X ≤ Y + Z
-    go a b e f v X Y Z h g i j k =
-        rw (i, j, k) (last (a * v) (b * v) (e * v) (f * v) (spread (mul-le-mul-right v h)) (spread′ (mul-le-mul-right v g)))
-      where
-        spread : 2 ^ 53 * a * v ≤ (2 ^ 53 * b + e) * v → 2 ^ 53 * (a * v) ≤ 2 ^ 53 * (b * v) + e * v
-        spread h = omega arith
-
-        spread′ : e * v ≤ 2 * f * v → e * v ≤ 2 * (f * v)
-        spread′ h = omega arith
-
-        last : (a b e f : ℕ) → 2 ^ 53 * a ≤ 2 ^ 53 * b + e → e ≤ 2 * f → 2 ^ 52 * a ≤ 2 ^ 52 * b + f
-        last a b e f h g = omega arith
 
 module _
     (p q : Float) (x z : Signed) (E F N : ℕ) (s : Term p x E) (t : Term q z F) (few : s .units + t .units + 2 ^ 52 ≤ 2 * (N * 2 ^ 1074))

@@ -16,11 +16,12 @@ use Rattle.double.specs.Numbers.{#0}
 use Rattle.series.specs.Series.{Signed, lOf}
 use Rattle.series.specs.change.SignedArithmetic.{minus, AboveZero, BelowZero}
 use Rattle.exponential.specs.Steps.{expOf}
-use Rattle.certain.specs.power.Margins.{marginOf}
-use Rattle.certain.proofs.power.Margins.{Counted}
+use Rattle.cone.specs.verdict.Margins.{marginOf}
+use Rattle.certain.proofs.power.Margins.{Counted, wideErrors}
 use Rattle.certain.proofs.power.Infinities.{finite-and-infinite, infinite-and-finite, both-infinite, exp-infinity}
 use Rattle.certain.proofs.power.Decided.{Squared, decided-yes, decided-no, untold-above, untold-below}
 use Rattle.certain.specs.wide.Sums.{total}
+use Rattle.certain.specs.wide.Meaning.{mostExponents}
 use Rattle.certain.proofs.wide.LogSums.{logsTo, addedTo, At, logs-over, summed, errors-most}
 
 abbrev U : ℕ
@@ -35,7 +36,7 @@ module _ (p : ℕ → Float) (x : ℕ → Signed) (W : ℕ → ℕ) where
   abbrev Told : ℕ → Type 0
   Told n = (addedTo p x W n ≡ inf false) ⊎ ((i : ℕ) → i < n → At p x W i)
 
-  one-more : (n : ℕ) → Told n → n ≤ 32 → total W n ≤ 3 * U → (p n ≡ inf false) ⊎ At p x W n → Told (suc n)
+  one-more : (n : ℕ) → Told n → n ≤ mostExponents → total W n ≤ 3 * U → (p n ≡ inf false) ⊎ At p x W n → Told (suc n)
   unfolding iter
   one-more n (inl e) l few (inl f) = inl (ap₂ _⊕_ e f ∙ both-infinite)
   one-more n (inl e) l few (inr h) =
@@ -49,7 +50,7 @@ module _ (p : ℕ → Float) (x : ℕ → Signed) (W : ℕ → ℕ) where
       go i (inl e) = subst (λ (j : ℕ). At p x W j) (sym e) h
       go i (inr k) = g i k
 
-  told : (n : ℕ) → n ≤ 32 → total W n ≤ 3 * U → ((i : ℕ) → i < n → (p i ≡ inf false) ⊎ At p x W i) → Told n
+  told : (n : ℕ) → n ≤ mostExponents → total W n ≤ 3 * U → ((i : ℕ) → i < n → (p i ≡ inf false) ⊎ At p x W i) → Told n
   unfolding total
   told zero l few h = inr (λ i k. absurd (not-suc-le-zero k))
   told (suc n) l few h =
@@ -61,8 +62,9 @@ module _ (p : ℕ → Float) (x : ℕ → Signed) (W : ℕ → ℕ) where
   sum-fits zero = zero-fits
   sum-fits (suc n) = add-fits binary64 (addedTo p x W n) (p n)
 
-  module _ (n : ℕ) (l : n ≤ 32) (few : 2 * total W n ≤ 5 * U) (h : (i : ℕ) → i < n → (p i ≡ inf false) ⊎ At p x W i) (q : Float) (c : ℕ)
-      (g : Squared q c) where
+  module _
+      (n : ℕ) (l : n ≤ mostExponents) (few : 2 * total W n ≤ 5 * U) (h : (i : ℕ) → i < n → (p i ≡ inf false) ⊎ At p x W i) (q : Float)
+      (c : ℕ) (g : Squared q c) where
     abbrev y : Float
     y = addedTo p x W n
 
@@ -75,21 +77,27 @@ module _ (p : ℕ → Float) (x : ℕ → Signed) (W : ℕ → ℕ) where
     infinite : y ≡ inf false → expOf y ≡ inf false
     infinite e = ap expOf e ∙ exp-infinity
 
-    pub sum-above : (part : Float) (F : Counted part) → 0 < c → T (marginOf part (expOf y) q ≺ (expOf y ⊖ q)) → AboveZero (minus (logsTo p x W n) (lOf c (U * U)))
+    pub sum-above :
+        (part : Float) (F : Counted wideErrors part) → 0 < c → T (marginOf part (expOf y) q ≺ (expOf y ⊖ q))
+        → AboveZero (minus (logsTo p x W n) (lOf c (U * U)))
     sum-above part F pc test = go (told n l fewer h)
       where
         go : Told n → AboveZero (minus (logsTo p x W n) (lOf c (U * U)))
-        go (inl e) = absurd (untold-above part F q (g .units) (g .is) (subst (λ (f : Float). T (marginOf part f q ≺ (f ⊖ q))) (infinite e) test))
+        go (inl e) =
+            absurd (untold-above part F q (g .units) (g .is) (subst (λ (f : Float). T (marginOf part f q ≺ (f ⊖ q))) (infinite e) test))
         go (inr k) =
             decided-yes part F y (logsTo p x W n) _ (sum-fits n) (logs-over p x W n k) (summed p x W n l k fewer)
             (errors-most (total W n) n U few l) q c g pc test
 
-    pub sum-below : (part : Float) (F : Counted part) → T ((expOf y ⊖ q) ≺ neg (marginOf part (expOf y) q)) → (0 < c) × BelowZero (minus (logsTo p x W n) (lOf c (U * U)))
+    pub sum-below :
+        (part : Float) (F : Counted wideErrors part) → T ((expOf y ⊖ q) ≺ neg (marginOf part (expOf y) q))
+        → (0 < c) × BelowZero (minus (logsTo p x W n) (lOf c (U * U)))
     sum-below part F test = go (told n l fewer h)
       where
         go : Told n → (0 < c) × BelowZero (minus (logsTo p x W n) (lOf c (U * U)))
         go (inl e) =
-            absurd (untold-below part F q (g .units) (g .is) (subst (λ (f : Float). T ((f ⊖ q) ≺ neg (marginOf part f q))) (infinite e) test))
+            absurd (untold-below part F q (g .units) (g .is)
+            (subst (λ (f : Float). T ((f ⊖ q) ≺ neg (marginOf part f q))) (infinite e) test))
         go (inr k) =
             decided-no part F y (logsTo p x W n) _ (sum-fits n) (logs-over p x W n k) (summed p x W n l k fewer)
             (errors-most (total W n) n U few l) q c g test

@@ -24,8 +24,8 @@ use Rattle.logarithm.proofs.Promise as logarithm
 use Rattle.exponential.specs.Steps.{expOf}
 use Rattle.algebra.specs.Vectors.{sumsqOf}
 use Rattle.genpowcone.specs.loops.Folds.{dualLogTurn, dualLogSum}
-use Rattle.certain.specs.power.Margins.{marginOf}
-use Rattle.certain.proofs.power.Margins.{Counted}
+use Rattle.cone.specs.verdict.Margins.{marginOf}
+use Rattle.certain.proofs.power.Margins.{Counted, wideErrors}
 use Rattle.certain.specs.Coordinates.{largest, exactOf, lOfQuotient}
 use Rattle.certain.proofs.ExactCoordinates.{inUnits, units-exact, exact-over, quotient-exact, quotient-over}
 use Rattle.certain.proofs.power.Weights.{weighed}
@@ -34,7 +34,8 @@ use Rattle.certain.proofs.power.Quotients.{InRange, quotient-cases, quo
 use Rattle.certain.proofs.power.ExactNumbers.{same-twice}
 use Rattle.certain.proofs.power.Infinities.{mul-infinity}
 use Rattle.certain.proofs.power.Dual.{large-of, itself}
-use Rattle.certain.specs.wide.Tests.{tailOf, signs, weightAt, dualLogs, over, number, Inside}
+use Rattle.genpowcone.specs.Feasible.{tailOf, signs}
+use Rattle.certain.specs.wide.Tests.{weightAt, dualLogs, over, number, Inside}
 use Rattle.certain.specs.wide.Meaning.{Exponents, Point}
 use Rattle.certain.proofs.wide.LogSums.{addedTo, At}
 use Rattle.certain.proofs.wide.Exact.{Alike}
@@ -118,13 +119,15 @@ module _ (α s : List Float) (e : Exponents α) (pt : Point α s) (passed : sign
   abbrev q : Float
   q = sumsqOf (tailOf α s)
 
-  pub inside : (part : Float) (F : Counted part) → T (marginOf part (expOf (dualLogSum α s)) q ≺ (expOf (dualLogSum α s) ⊖ q)) → Inside (dualLogs α s) α s
+  pub inside :
+      (part : Float) (F : Counted wideErrors part) → T (marginOf part (expOf (dualLogSum α s)) q ≺ (expOf (dualLogSum α s) ⊖ q))
+      → Inside (dualLogs α s) α s
   inside part F test =
       tests.inside α s e pt passed p x z each-i alike-i part F
       (subst (λ (y : Float). T (marginOf part (expOf y) q ≺ (expOf y ⊖ q))) (sym sum-is) test)
 
   pub outside :
-      (part : Float) (F : Counted part) → T ((expOf (dualLogSum α s) ⊖ q) ≺ neg (marginOf part (expOf (dualLogSum α s)) q))
+      (part : Float) (F : Counted wideErrors part) → T ((expOf (dualLogSum α s) ⊖ q) ≺ neg (marginOf part (expOf (dualLogSum α s)) q))
       → (0 < over α s) × BelowZero (number (dualLogs α s) α s)
   outside part F test =
       tests.outside α s e pt passed p x z each-i alike-i part F

@@ -1,20 +1,20 @@
--- The exponents' exact sum is at most 5/4, their computed one being at most 2^-40 above 1. Assumes nothing.
+-- The exponents' exact sum is at most 5/4, their computed one being above 1 by at most the rule's tolerance. Assumes nothing.
 use mathlib.Core.Path.{_≡_, refl, sym, subst}
 use mathlib.Core.List.{List}
-use Prim.Native.Nat.{ℕ, zero, suc, _+_, _-_, _*_, _^_, _≤_, _<_}
+use Prim.Native.Nat.{ℕ, zero, suc, _+_, _-_, _*_, _/_, _^_, _≤_, _<_}
 use native.Mathlib.Nat.{le-trans, le-refl, le-step, le-of-suc-le, mul-le-mul-right, mul-le-mul-left, le-of-mul-le-mul-right, le-of-lt}
 use native.Mathlib.Nat.{lt-of-not-le, le-dest}
 use native.Mathlib.Decide.{decLe}
 use native.Mathlib.Omega.{arith}
-use lib.Dec.{T, lit≤}
+use lib.Dec.{T, lit≤, lit<}
 use lib.Count.{trailingZeros}
 use lib.Pow.{pow-pos}
 use lib.ListN.{length}
 use lib.Ieee.{Float, binary64, ofBits, ofFields, odd}
-use lib.Ieee.Positive.{positive-of-value, values-of-le}
+use lib.Ieee.Positive.{num, den, positive-of-value, values-of-le}
 use Rattle.arith.specs.Turns.{iter}
 use Rattle.double.specs.Operators.{_⊕_, _⊖_, _≼_, at}
-use Rattle.double.specs.Numbers.{#0, #1, #tolerance1}
+use Rattle.double.specs.Numbers.{#0, #1}
 use Rattle.double.specs.Fields.{Units}
 use Rattle.rounding.specs.Units.{unitsOf}
 use Rattle.rounding.proofs.errors.Added.{Totalled, total-near}
@@ -23,6 +23,7 @@ use Rattle.certain.proofs.power.Weights.{one-units, difference-near}
 use Rattle.certain.proofs.power.Dual.{rest-large}
 use Rattle.certain.proofs.power.Decided.{zero-units}
 use Rattle.certain.specs.wide.Sums.{total}
+use Rattle.certain.specs.wide.Meaning.{mostExponents, sumTolerance}
 use Rattle.certain.proofs.wide.Points.{Exponent}
 
 abbrev U : ℕ
@@ -32,9 +33,20 @@ U = 2 ^ 1074
 abbrev D : ℕ
 D = 2 ^ 1030
 
-tolerance-units : Units #tolerance1 (2 ^ 1034)
+abbrev tolerance : ℕ
+tolerance = num sumTolerance * U / den sumTolerance
+
+tolerance-units : Units sumTolerance tolerance
 unfolding ofBits ofFields odd trailingZeros
 tolerance-units = (refl, refl)
+
+tolerance-some : 0 < tolerance
+unfolding ofBits ofFields odd trailingZeros
+tolerance-some = lit< tt
+
+tolerance-small : 4 * (16 * tolerance) ≤ U
+unfolding ofBits ofFields odd trailingZeros
+tolerance-small = lit≤ tt
 
 -- after n terms: t units, at most 2n, and the exact sum S at most n·2^-44 more
 record Sum (r : Float) (S n : ℕ) : Type 0 where
@@ -43,10 +55,10 @@ record Sum (r : Float) (S n : ℕ) : Type 0 where
   most : units ≤ 2 * n * U
   near : S ≤ units + n * D
 
-few-error : (t a n z : ℕ) → n ≤ 32 → t ≤ 2 * n * z → a ≤ z → t + a ≤ 65 * z
+few-error : (t a n z : ℕ) → n ≤ mostExponents → t ≤ 2 * n * z → a ≤ z → t + a ≤ 65 * z
 few-error t a n z l h k = go t a z (le-trans h (mul-le-mul-right z (mul-le-mul-left 2 l))) k
   where
-    go : (t a z : ℕ) → t ≤ 2 * 32 * z → a ≤ z → t + a ≤ 65 * z
+    go : (t a z : ℕ) → t ≤ 2 * mostExponents * z → a ≤ z → t + a ≤ 65 * z
     go t a z h k = omega arith
 
 -- U = 2^44·D
@@ -98,7 +110,7 @@ upper-shape r s z b l h = go (decLe r s)
         over : (e : ℕ) × (s + e ≡ r) → r ≤ s + z
         over (e, k) = last s e r z k (small e s z b l (few s e (subst (λ (t : ℕ). t * 2 ^ 53 ≤ s * 2 ^ 53 + (s + 2 ^ 52)) (sym k) h)))
 
-one-more : (r a : Float) (S A n : ℕ) → n ≤ 32 → Sum r S n → Units a A → A ≤ U → Sum (r ⊕ a) (S + A) (suc n)
+one-more : (r a : Float) (S A n : ℕ) → n ≤ mostExponents → Sum r S n → Units a A → A ≤ U → Sum (r ⊕ a) (S + A) (suc n)
 one-more r a S A n l s is-a most =
     let s-few : s .units + A ≤ 65 * U = few-error (s .units) A n U l (s .most) most in
     let t : Totalled binary64 (r ⊕ a) (s .units + A) =
@@ -118,7 +130,7 @@ one-more r a S A n l s is-a most =
     joined S A s t n d h k = omega arith
 
 summed :
-    (α : List Float) (n : ℕ) → n ≤ 32 → ((i : ℕ) → i < n → Exponent (at α i))
+    (α : List Float) (n : ℕ) → n ≤ mostExponents → ((i : ℕ) → i < n → Exponent (at α i))
     → Sum (iter (sumTurn α) #0 n) (total (λ (i : ℕ). unitsOf binary64 (at α i)) n) n
 unfolding iter total
 summed α zero l h = record { units = 0; is = zero-units; most = none U; near = none′ D }
@@ -135,12 +147,12 @@ summed α (suc n) l h =
     (a .most)
 
 -- t units are at most 1 and a sixteenth, where t - 1 is at most 2^-40 as computed
-above-one : (t : Float) (T : ℕ) → Units t T → T ≤ 64 * U → lib.Dec.T (t ⊖ #1 ≼ #tolerance1) → 16 * T ≤ 17 * U
+above-one : (t : Float) (T : ℕ) → Units t T → T ≤ 2 * mostExponents * U → lib.Dec.T (t ⊖ #1 ≼ sumTolerance) → 16 * T ≤ 17 * U
 above-one t T is most test = go (decLe (16 * T) (17 * U))
   where
     go : Dec (16 * T ≤ 17 * U) → 16 * T ≤ 17 * U
     go (yes l) = l
-    go (no l) = absurd (never (T - U) (d .units) (16 * 2 ^ 1034) U (pow-pos 1074) large (lit≤ tt) half small)
+    go (no l) = absurd (never (T - U) (d .units) (16 * tolerance) U (pow-pos 1074) large tolerance-small half small)
       where
         more : (T z : ℕ) → (16 * T ≤ 17 * z → ⊥) → z ≤ T
         more T z h = omega arith
@@ -152,7 +164,9 @@ above-one t T is most test = go (decLe (16 * T) (17 * U))
         large = left T U l
 
         d : Totalled binary64 (t ⊖ #1) (T - U)
-        d = difference-near t #1 T U is one-units (more T U l) (le-trans most (mul-le-mul-right {m = 64} {n = 2 ^ 1023} U (lit≤ tt)))
+        d =
+            difference-near t #1 T U is one-units (more T U l)
+            (le-trans most (mul-le-mul-right {m = 2 * mostExponents} {n = 2 ^ 1023} U (lit≤ tt)))
 
         half : T - U + 2 ^ 52 ≤ 2 * d .units
         half = rest-large (d .units) (T - U) (sixteenth (T - U) U (lit≤ tt) large) (d .near .not-below)
@@ -166,24 +180,25 @@ above-one t T is most test = go (decLe (16 * T) (17 * U))
             go′ : (r n : ℕ) → n + 2 ^ 52 ≤ 2 * r → 0 < r
             go′ r n h = omega arith
 
-        small : 16 * d .units ≤ 16 * 2 ^ 1034
+        small : 16 * d .units ≤ 16 * tolerance
         small =
-            mul-le-mul-left {m = d .units} {n = 2 ^ 1034} 16
+            mul-le-mul-left {m = d .units} {n = tolerance} 16
             (le-of-mul-le-mul-right {k = U}
-            (values-of-le (t ⊖ #1) #tolerance1 (d .units) U (2 ^ 1034) U (positive-of-value (t ⊖ #1) (d .units) U (d .is) positive)
-            (positive-of-value #tolerance1 (2 ^ 1034) U tolerance-units (pow-pos 1034)) (d .is) tolerance-units test)
+            (values-of-le (t ⊖ #1) sumTolerance (d .units) U tolerance U (positive-of-value (t ⊖ #1) (d .units) U (d .is) positive)
+            (positive-of-value sumTolerance tolerance U tolerance-units tolerance-some) (d .is) tolerance-units test)
             (pow-pos 1074))
 
         never : (n r k z : ℕ) → 0 < z → z ≤ 16 * n → 4 * k ≤ z → n + 2 ^ 52 ≤ 2 * r → 16 * r ≤ k → ⊥
         never n r k z p i j h s = omega arith
 
 pub exact-sum :
-    (α : List Float) → length α ≤ 32 → ((i : ℕ) → i < length α → Exponent (at α i)) → lib.Dec.T (sumOf α ⊖ #1 ≼ #tolerance1)
+    (α : List Float) → length α ≤ mostExponents → ((i : ℕ) → i < length α → Exponent (at α i)) → lib.Dec.T (sumOf α ⊖ #1 ≼ sumTolerance)
     → 4 * total (λ (i : ℕ). unitsOf binary64 (at α i)) (length α) ≤ 5 * U
 unfolding sumOf
 exact-sum α l h test =
     let s = summed α (length α) l h in
-    last (total (λ (i : ℕ). unitsOf binary64 (at α i)) (length α)) (s .units) (length α * D) (32 * D) U (s .near) (mul-le-mul-right D l)
+    last (total (λ (i : ℕ). unitsOf binary64 (at α i)) (length α)) (s .units) (length α * D) (mostExponents * D) U (s .near)
+    (mul-le-mul-right D l)
     (lit≤ tt)
     (above-one (iter (sumTurn α) #0 (length α)) (s .units) (s .is) (le-trans (s .most) (mul-le-mul-right U (mul-le-mul-left 2 l))) test)
   where

@@ -18,8 +18,10 @@ use Rattle.certain.proofs.ExactCoordinates.{inUnits}
 use Rattle.certain.specs.power.Numbers.{sum}
 use Rattle.certain.proofs.power.Terms.{Term, term-size, sum-term}
 use Rattle.certain.proofs.power.Weights.{weighed-size, lighter}
-use Rattle.certain.proofs.power.Decided.{errors, zero-units}
+use Rattle.certain.proofs.power.Margins.{wideErrors}
+use Rattle.certain.proofs.power.Decided.{zero-units}
 use Rattle.certain.specs.wide.Sums.{none, weighedSum, total}
+use Rattle.certain.specs.wide.Meaning.{mostExponents}
 
 abbrev U : ℕ
 U = 2 ^ 1074
@@ -93,10 +95,10 @@ module _ (p : ℕ → Float) (x : ℕ → Signed) (W : ℕ → ℕ) where
   error-step : (S w n z : ℕ) → S * 184320 + n * 5049 * z + (w * 184320 + 3250 * z) + 1799 * z ≤ (S + w) * 184320 + suc n * 5049 * z
   error-step S w n z = omega arith
 
-  error-small : (S n z : ℕ) → S ≤ 3 * z → n ≤ 32 → S * 184320 + n * 5049 * z ≤ 2 ^ 52 * z
+  error-small : (S n z : ℕ) → S ≤ 3 * z → n ≤ mostExponents → S * 184320 + n * 5049 * z ≤ 2 ^ 52 * z
   error-small S n z h k = go S (n * 5049 * z) z h (mul-le-mul-right z (mul-le-mul-right 5049 k))
     where
-      go : (S y z : ℕ) → S ≤ 3 * z → y ≤ 32 * 5049 * z → S * 184320 + y ≤ 2 ^ 52 * z
+      go : (S y z : ℕ) → S ≤ 3 * z → y ≤ mostExponents * 5049 * z → S * 184320 + y ≤ 2 ^ 52 * z
       go S y z h k = omega arith
 
   one-small : (w z : ℕ) → w ≤ 2 * z → w * 184320 + 3250 * z ≤ 2 ^ 52 * z
@@ -109,7 +111,7 @@ module _ (p : ℕ → Float) (x : ℕ → Signed) (W : ℕ → ℕ) where
   fine m n z h k = omega arith
 
   step :
-      (n : ℕ) → suc n ≤ 32 → ((i : ℕ) → i < suc n → At i) → total W n ≤ 3 * U
+      (n : ℕ) → suc n ≤ mostExponents → ((i : ℕ) → i < suc n → At i) → total W n ≤ 3 * U
       → Term (addedTo n) (logsTo n) (total W n * 184320 + n * 5049 * U)
       → Term (addedTo n ⊕ p n) (sum (logsTo n) (times (inUnits false (W n)) (x n))) ((total W n + W n) * 184320 + suc n * 5049 * U)
   step n l h few before =
@@ -137,7 +139,8 @@ module _ (p : ℕ → Float) (x : ℕ → Signed) (W : ℕ → ℕ) where
           (one-small (W n) U (here .most))
 
   pub summed :
-      (n : ℕ) → n ≤ 32 → ((i : ℕ) → i < n → At i) → total W n ≤ 3 * U → Term (addedTo n) (logsTo n) (total W n * 184320 + n * 5049 * U)
+      (n : ℕ) → n ≤ mostExponents → ((i : ℕ) → i < n → At i) → total W n ≤ 3 * U
+      → Term (addedTo n) (logsTo n) (total W n * 184320 + n * 5049 * U)
   unfolding weighedSum iter total
   summed zero l h few = lighter _ (lit≤ tt) zero-term
   summed (suc n) l h few =
@@ -145,8 +148,8 @@ module _ (p : ℕ → Float) (x : ℕ → Signed) (W : ℕ → ℕ) where
       step n l h fewer (summed n (le-of-suc-le l) (λ i k. h i (le-step k)) fewer)
 
 -- 32 terms, their weights up to 5/2
-pub errors-most : (S n z : ℕ) → 2 * S ≤ 5 * z → n ≤ 32 → S * 184320 + n * 5049 * z ≤ errors * z
+pub errors-most : (S n z : ℕ) → 2 * S ≤ 5 * z → n ≤ mostExponents → S * 184320 + n * 5049 * z ≤ wideErrors * z
 errors-most S n z h k = go S (n * 5049 * z) z h (mul-le-mul-right z (mul-le-mul-right 5049 k))
   where
-    go : (S y z : ℕ) → 2 * S ≤ 5 * z → y ≤ 32 * 5049 * z → S * 184320 + y ≤ errors * z
+    go : (S y z : ℕ) → 2 * S ≤ 5 * z → y ≤ mostExponents * 5049 * z → S * 184320 + y ≤ wideErrors * z
     go S y z h k = omega arith

@@ -6,25 +6,28 @@ use mathlib.Core.List.{List}
 use Prim.Native.Nat.{_<_}
 use lib.Ieee.{Float}
 use Rattle.double.specs.Operators.{_⊖_}
+use Rattle.double.specs.Numbers.{pow2}
 use Rattle.exponential.specs.Steps.{expOf}
 use Rattle.algebra.specs.Vectors.{sumsqOf}
 use Rattle.genpowcone.specs.loops.Folds.{primalLogSum, dualLogSum}
 use Rattle.series.specs.change.SignedArithmetic.{BelowZero}
+use Rattle.cone.specs.verdict.Margins.{#2⁻³⁰, marginOf}
 use Rattle.cone.specs.declared.verdict.Answer.the-variants.{No, Yes}
-use Rattle.certain.specs.power.Margins.{#2⁻³³, marginOf, Part}
-use Rattle.certain.proofs.power.Margins.{Counted, counted, least-part}
+use Rattle.certain.specs.power.Margins.{leastOfWide, Part}
+use Rattle.certain.proofs.power.Margins.{Counted, wideErrors, counted, wide-enough, wide-order-5, wide-least}
 use Rattle.certain.proofs.Decided.{yes-tests, no-tests}
-use Rattle.certain.specs.wide.Tests.{tailOf, signs, primalAnswer, dualAnswer, primalLogs, dualLogs, over, number, Inside}
-use Rattle.certain.specs.wide.Meaning.{Exponents, Point, Proved, Room}
+use Rattle.genpowcone.specs.Feasible.{tailOf, signs}
+use Rattle.certain.specs.wide.Tests.{primalAnswer, dualAnswer, primalLogs, dualLogs, over, number, Inside}
+use Rattle.certain.specs.wide.Meaning.{Exponents, Point, Proved, Order5, Room}
 use Rattle.certain.proofs.wide.Primal as primal
 use Rattle.certain.proofs.wide.Dual as dual
 
-module _ (part : Float) (P : Part part) (α s : List Float) (e : Exponents α) (p : Point α s) where
+module _ (part : Float) (P : Part leastOfWide part) (α s : List Float) (e : Exponents α) (p : Point α s) where
   abbrev q : Float
   q = sumsqOf (tailOf α s)
 
-  F : Counted part
-  F = counted part P
+  F : Counted wideErrors part
+  F = counted wide-enough part P
 
   primal-yes : primalAnswer part α s ≡ Yes → Inside (primalLogs α s) α s
   primal-yes a =
@@ -43,7 +46,8 @@ module _ (part : Float) (P : Part part) (α s : List Float) (e : Exponents α) (
 
   dual-no : signs α s ≡ true → dualAnswer part α s ≡ No → (0 < over α s) × BelowZero (number (dualLogs α s) α s)
   dual-no passed a =
-      dual.outside α s e p passed part F (no-tests (signs α s) (expOf (dualLogSum α s) ⊖ q) (marginOf part (expOf (dualLogSum α s)) q) passed a)
+      dual.outside α s e p passed part F (no-tests (signs α s) (expOf (dualLogSum α s) ⊖ q)
+      (marginOf part (expOf (dualLogSum α s)) q) passed a)
 
 pub meaning : Proved
 meaning part P = record {
@@ -53,5 +57,8 @@ meaning part P = record {
   dual-no = dual-no part P;
 }
 
+pub order-5 : Order5
+order-5 = meaning #2⁻³⁰ wide-order-5
+
 pub room : Room
-room = meaning #2⁻³³ least-part
+room = meaning (pow2 leastOfWide) wide-least

@@ -26,8 +26,8 @@ use Rattle.certain.specs.Coordinates.{InRange}
 use Rattle.certain.proofs.Coordinates.{Coordinate, coordinate, above-zero}
 use Rattle.certain.proofs.power.Weights.{one-units, Weight, twice, twice-product, twice-some}
 use Rattle.certain.proofs.power.Exponents.{exactly}
-use Rattle.certain.specs.wide.Tests.{signs, tailOf}
-use Rattle.certain.specs.wide.Meaning.{Exponents, Point}
+use Rattle.genpowcone.specs.Feasible.{signs, tailOf}
+use Rattle.certain.specs.wide.Meaning.{mostTail, Exponents, Point}
 use Rattle.certain.proofs.wide.Exact.{units-by}
 
 abbrev U : ℕ
@@ -97,7 +97,7 @@ all-of xs (suc n) t i l =
     go k (inr m) = k m
 
 pub head-above : (α s : List Float) → length α ≤ length s → signs α s ≡ true → (i : ℕ) → i < length α → T (#0 ≺ at s i)
-unfolding allAboveZero
+unfolding signs allAboveZero
 head-above α s h e i l =
     subst (λ (x : Float). T (#0 ≺ x)) (getD-take (length α) s i nan l)
     (all-of (take (length α) s) (length (take (length α) s)) (subst T (sym e) tt) i
@@ -129,10 +129,10 @@ module _ {α s : List Float} (p : Point α s) where
       head-of (at s i) (p .doubles i (lt-of-lt-of-le l (p .head))) (p .sizes i (lt-of-lt-of-le l (p .head)))
       (head-above α s (p .head) e i l)
 
-  pub tail-length : length (tailOf α s) ≤ 32
+  pub tail-length : length (tailOf α s) ≤ mostTail
   tail-length = le-trans (le-of-eq (length-drop (length α) s)) (go (length s) (length α) (p .tail))
     where
-      go : (m n : ℕ) → m ≤ n + 32 → m - n ≤ 32
+      go : (m n : ℕ) → m ≤ n + mostTail → m - n ≤ mostTail
       go m n h = omega arith
 
   pub tail-at : (i : ℕ) → i < length (tailOf α s) → Coordinate (at (tailOf α s) i)

@@ -22,15 +22,16 @@ use Rattle.logarithm.specs.Steps.{logOf}
 use Rattle.exponential.specs.Steps.{expOf}
 use Rattle.algebra.specs.Vectors.{sumsqOf}
 use Rattle.genpowcone.specs.loops.Folds.{primalLogTurn, primalLogSum}
-use Rattle.certain.specs.power.Margins.{marginOf}
-use Rattle.certain.proofs.power.Margins.{Counted}
+use Rattle.cone.specs.verdict.Margins.{marginOf}
+use Rattle.certain.proofs.power.Margins.{Counted, wideErrors}
 use Rattle.certain.specs.Coordinates.{largest, exactOf}
 use Rattle.certain.proofs.ExactCoordinates.{inUnits, units-exact, exact-over}
 use Rattle.certain.specs.power.Numbers.{lOfOne}
 use Rattle.certain.proofs.power.Weights.{weighed}
 use Rattle.certain.proofs.power.Coordinates.{LogOf, own-log}
 use Rattle.certain.proofs.power.ExactNumbers.{same-twice, one-exact}
-use Rattle.certain.specs.wide.Tests.{tailOf, signs, weightAt, primalLogs, over, number, Inside}
+use Rattle.genpowcone.specs.Feasible.{tailOf, signs}
+use Rattle.certain.specs.wide.Tests.{weightAt, primalLogs, over, number, Inside}
 use Rattle.certain.specs.wide.Meaning.{Exponents, Point}
 use Rattle.certain.proofs.wide.LogSums.{addedTo, At}
 use Rattle.certain.proofs.wide.Exact.{Alike}
@@ -90,13 +91,15 @@ module _ (α s : List Float) (e : Exponents α) (pt : Point α s) (passed : sign
   abbrev q : Float
   q = sumsqOf (tailOf α s)
 
-  pub inside : (part : Float) (F : Counted part) → T (marginOf part (expOf (primalLogSum α s)) q ≺ (expOf (primalLogSum α s) ⊖ q)) → Inside (primalLogs α s) α s
+  pub inside :
+      (part : Float) (F : Counted wideErrors part) → T (marginOf part (expOf (primalLogSum α s)) q ≺ (expOf (primalLogSum α s) ⊖ q))
+      → Inside (primalLogs α s) α s
   inside part F test =
       tests.inside α s e pt passed p x z (λ i l. inr (at-i i l)) alike-i part F
       (subst (λ (y : Float). T (marginOf part (expOf y) q ≺ (expOf y ⊖ q))) (sym sum-is) test)
 
   pub outside :
-      (part : Float) (F : Counted part) → T ((expOf (primalLogSum α s) ⊖ q) ≺ neg (marginOf part (expOf (primalLogSum α s)) q))
+      (part : Float) (F : Counted wideErrors part) → T ((expOf (primalLogSum α s) ⊖ q) ≺ neg (marginOf part (expOf (primalLogSum α s)) q))
       → (0 < over α s) × BelowZero (number (primalLogs α s) α s)
   outside part F test =
       tests.outside α s e pt passed p x z (λ i l. inr (at-i i l)) alike-i part F

@@ -17,6 +17,7 @@ use Rattle.rounding.proofs.errors.Added.{Totalled, total-near}
 use Rattle.certain.proofs.power.Coordinates.{Fine}
 use Rattle.certain.proofs.power.Decided.{Squared, zero-units}
 use Rattle.certain.specs.wide.Sums.{total}
+use Rattle.certain.specs.wide.Meaning.{mostTail}
 
 abbrev U : ℕ
 U = 2 ^ 1074
@@ -61,10 +62,10 @@ more-parts : (n c d : ℕ) → 3 * n * c + 3 * (c + d) ≤ 3 * suc n * (c + d)
 more-parts n c d = omega arith
 
 -- what is near c is at most 2c
-twice-most : (y c n : ℕ) → n ≤ 32 → 2 ^ 52 * y ≤ 2 ^ 52 * c + 3 * n * c → y ≤ 2 * c
+twice-most : (y c n : ℕ) → n ≤ mostTail → 2 ^ 52 * y ≤ 2 ^ 52 * c + 3 * n * c → y ≤ 2 * c
 twice-most y c n l h = go y c (3 * n * c) (mul-le-mul-right c (mul-le-mul-left 3 l)) h
   where
-    go : (y c z : ℕ) → z ≤ 3 * 32 * c → 2 ^ 52 * y ≤ 2 ^ 52 * c + z → y ≤ 2 * c
+    go : (y c z : ℕ) → z ≤ 3 * mostTail * c → 2 ^ 52 * y ≤ 2 ^ 52 * c + z → y ≤ 2 * c
     go y c z i j = omega arith
 
 once-most : (w d : ℕ) → 2 ^ 52 * w ≤ 2 ^ 52 * d + d → w ≤ 2 * d
@@ -96,7 +97,7 @@ scaled-below t v g z h = go (mul-le-mul-right z h)
 zero-near : (m z : ℕ) → Within (2 ^ 52 * (0 * z)) (2 ^ 52 * 0) (m * 0)
 zero-near m z = record { not-above = omega arith; not-below = omega arith }
 
-module _ (q r : Float) (c d n : ℕ) (few : n ≤ 32) (s : Summed q c n) (f : Fine r d) where
+module _ (q r : Float) (c d n : ℕ) (few : n ≤ mostTail) (s : Summed q c n) (f : Fine r d) where
   abbrev v : ℕ
   v = s .units
 
@@ -109,20 +110,20 @@ module _ (q r : Float) (c d n : ℕ) (few : n ≤ 32) (s : Summed q c n) (f : Fi
   g-most : g * U ≤ 2 * d
   g-most = once-most (g * U) d (f .near .not-above)
 
-  v-room : v ≤ 64 * (2 ^ 1000 * U)
+  v-room : v ≤ 2 * mostTail * (2 ^ 1000 * U)
   v-room =
       le-of-mul-le-mul-right {k = U}
       (le-trans v-most (le-trans (mul-le-mul-left 2 (le-trans (s .most) (mul-le-mul-right (2 ^ 1000 * (U * U)) few)))
       (le-of-eq (regrouped (2 ^ 1000) U))))
       (pow-pos 1074)
     where
-      regrouped : (K z : ℕ) → 2 * (32 * (K * (z * z))) ≡ 64 * (K * z) * z
+      regrouped : (K z : ℕ) → 2 * (mostTail * (K * (z * z))) ≡ 2 * mostTail * (K * z) * z
       regrouped K z = omega arith
 
   room : v + g ≤ 2 ^ 1023 * U
   room = go v g (2 ^ 1000 * U) v-room (f .most)
     where
-      go : (v g m : ℕ) → v ≤ 64 * m → g ≤ 1024 * m → v + g ≤ 8388608 * m
+      go : (v g m : ℕ) → v ≤ 2 * mostTail * m → g ≤ 1024 * m → v + g ≤ 8388608 * m
       go v g m h k = omega arith
 
   added : Totalled binary64 (q ⊕ r) (v + g)
@@ -221,7 +222,7 @@ none-yet = record {
     never p = omega arith
 
 pub squares-summed :
-    (x : ℕ → Float) (w : ℕ → ℕ) (n : ℕ) → n ≤ 32 → ((i : ℕ) → i < n → Fine (x i ⊗ x i) (w i * w i))
+    (x : ℕ → Float) (w : ℕ → ℕ) (n : ℕ) → n ≤ mostTail → ((i : ℕ) → i < n → Fine (x i ⊗ x i) (w i * w i))
     → Summed (iter (λ (i : ℕ) (t : Float). t ⊕ x i ⊗ x i) #0 n) (total (λ (i : ℕ). w i * w i) n) n
 unfolding iter total
 squares-summed x w zero l h = none-yet
@@ -229,8 +230,8 @@ squares-summed x w (suc n) l h =
     one-more _ (x n ⊗ x n) _ (w n * w n) n (le-of-suc-le l) (squares-summed x w n (le-of-suc-le l) (λ i k. h i (le-step k)))
     (h n (le-refl (suc n)))
 
--- within 2^-45 after 32
-pub squared : {q : Float} {c n : ℕ} → n ≤ 32 → Summed q c n → Squared q c
+-- within 2^-45 after all
+pub squared : {q : Float} {c n : ℕ} → n ≤ mostTail → Summed q c n → Squared q c
 squared {q} {c} {n} l s = record {
   units = s .units;
   is = s .is;
@@ -243,8 +244,8 @@ squared {q} {c} {n} l s = record {
       (pow-pos 1074);
 }
   where
-    go : (x c k : ℕ) → k ≤ 3 * 32 * c → Within (2 ^ 52 * x) (2 ^ 52 * c) k → Within (2 ^ 45 * x) (2 ^ 45 * c) c
+    go : (x c k : ℕ) → k ≤ 3 * mostTail * c → Within (2 ^ 52 * x) (2 ^ 52 * c) k → Within (2 ^ 45 * x) (2 ^ 45 * c) c
     go x c k l h = record { not-above = omega (arith, h .not-above); not-below = omega (arith, h .not-below) }
 
-    last : (K z : ℕ) → 2 * (32 * (K * (z * z))) ≤ 1024 * K * z * z
+    last : (K z : ℕ) → 2 * (mostTail * (K * (z * z))) ≤ 1024 * K * z * z
     last K z = omega arith

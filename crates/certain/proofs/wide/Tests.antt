@@ -20,14 +20,15 @@ use Rattle.series.specs.change.SignedArithmetic.{minus, BelowZero}
 use Rattle.series.proofs.change.SignedArithmetic.{same-minus, above-moves, below-moves}
 use Rattle.exponential.specs.Steps.{expOf}
 use Rattle.algebra.specs.Vectors.{sumsqOf}
-use Rattle.certain.specs.power.Margins.{marginOf}
-use Rattle.certain.proofs.power.Margins.{Counted}
+use Rattle.cone.specs.verdict.Margins.{marginOf}
+use Rattle.certain.proofs.power.Margins.{Counted, wideErrors}
 use Rattle.certain.proofs.ExactCoordinates.{inUnits, cross-of}
 use Rattle.certain.proofs.power.Coordinates.{Fine, fine-square}
 use Rattle.certain.proofs.power.ExactNumbers.{units-above}
 use Rattle.certain.proofs.power.Decided.{Squared}
 use Rattle.certain.specs.wide.Sums.{weighedSum, total}
-use Rattle.certain.specs.wide.Tests.{tailOf, signs, weightAt, over, under, number, Inside}
+use Rattle.genpowcone.specs.Feasible.{tailOf, signs}
+use Rattle.certain.specs.wide.Tests.{weightAt, over, under, number, Inside}
 use Rattle.certain.specs.wide.Meaning.{Exponents, Point}
 use Rattle.certain.proofs.wide.LogSums.{logsTo, addedTo, At}
 use Rattle.certain.proofs.wide.Squares.{squares-summed, squared}
@@ -124,7 +125,7 @@ module _
       same-minus (sums-over (λ (i : ℕ). inUnits false (weightTo α i)) (weightAt α) x z n alike) (over-pos-of (c pt) (U * U) (pU pt))
       (same-sums (λ (i : ℕ). inUnits false (weightTo α i)) (weightAt α) x z n alike) (tail-exact pt pc)
 
-  pub inside : (part : Float) (F : Counted part) → T (marginOf part (expOf y) q ≺ (expOf y ⊖ q)) → Inside logs α s
+  pub inside : (part : Float) (F : Counted wideErrors part) → T (marginOf part (expOf y) q ≺ (expOf y ⊖ q)) → Inside logs α s
   inside part F test = record {
     head-above = λ i l. let h = head-at pt passed i l in units-above (at s i) (unitsOf binary64 (at s i)) (h .some) (h .is);
     number-above = λ k.
@@ -132,7 +133,9 @@ module _
         above-moves number-over (same pc) (sum-above p x (weightTo α) n (e .most) few each q (c pt) (tail-squared pt) part F pc test);
   }
 
-  pub outside : (part : Float) (F : Counted part) → T ((expOf y ⊖ q) ≺ neg (marginOf part (expOf y) q)) → (0 < over α s) × BelowZero (number logs α s)
+  pub outside :
+      (part : Float) (F : Counted wideErrors part) → T ((expOf y ⊖ q) ≺ neg (marginOf part (expOf y) q))
+      → (0 < over α s) × BelowZero (number logs α s)
   outside part F test =
       let d = sum-below p x (weightTo α) n (e .most) few each q (c pt) (tail-squared pt) part F test in
       (over-some pt (d .0), below-moves number-over (same (d .0)) (d .1))

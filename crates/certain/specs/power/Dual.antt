@@ -1,35 +1,27 @@
 -- The test of the power cone's dual on three numbers, and the exact number beside it. Definitions only. As specs/power/Primal.
 use Prim.Native.Nat.{_-_, _*_, _<_}
-use mathlib.Core.Bool.{Bool, _&&_}
 use lib.Ieee.{Float}
 use lib.Ieee.Positive.{num, den}
-use Rattle.double.specs.Operators.{_⊕_, _⊖_, _⊗_, _⊘_, _≺_}
-use Rattle.double.specs.Numbers.{#0, #1, #2}
+use Rattle.double.specs.Operators.{_⊖_, _⊗_}
 use Rattle.series.specs.Series.{Signed, lOf}
 use Rattle.series.specs.change.SignedArithmetic.{times, minus, AboveZero}
-use Rattle.logarithm.specs.Steps.{logOf}
 use Rattle.exponential.specs.Steps.{expOf}
 use Rattle.cone.specs.declared.verdict.Answer.{Answer}
-use Rattle.cone.specs.verdict.Answers.{judged}
+use Rattle.cone.specs.verdict.Margins.{marginOf}
+use Rattle.powcone.specs.Feasible.{dualExponent, signsAt}
 use Rattle.certain.specs.Coordinates.{exactOf, lOfQuotient}
-use Rattle.certain.specs.power.Margins.{marginOf}
+use Rattle.certain.specs.power.Margins.{answerOf}
 use Rattle.certain.specs.power.Numbers.{sum, two, one, lOfSquare}
 
--- 001 is_dual_feasible: 2α·log(z1/α) + (1-α)·log(z2/(1-α))·2, counting from 1
-abbrev pub exponent : Float → Float → Float → Float
-exponent α z1 z2 = α ⊗ #2 ⊗ logOf (z1 ⊘ α) ⊕ (#1 ⊖ α) ⊗ logOf (z2 ⊘ (#1 ⊖ α)) ⊗ #2
-
+-- 001 is_dual_feasible: the exponential less z3², counting from 1
 abbrev pub residue : Float → Float → Float → Float → Float
-residue α z1 z2 z3 = expOf (exponent α z1 z2) ⊖ z3 ⊗ z3
+residue α z1 z2 z3 = expOf (dualExponent α z1 z2) ⊖ z3 ⊗ z3
 
 abbrev pub margin : Float → Float → Float → Float → Float → Float
-margin part α z1 z2 z3 = marginOf part (expOf (exponent α z1 z2)) (z3 ⊗ z3)
-
-abbrev pub signs : Float → Float → Bool
-signs z1 z2 = (#0 ≺ z1) && (#0 ≺ z2)
+margin part α z1 z2 z3 = marginOf part (expOf (dualExponent α z1 z2)) (z3 ⊗ z3)
 
 abbrev pub answer : Float → Float → Float → Float → Float → Answer
-answer part α z1 z2 z3 = judged (signs z1 z2) (residue α z1 z2 z3) (margin part α z1 z2 z3)
+answer part α z1 z2 z3 = answerOf part (signsAt z1 z2) (expOf (dualExponent α z1 z2)) (z3 ⊗ z3)
 
 -- L(z/(1-α)), with the exact 1-α: (den α - num α)/den α
 abbrev pub lOfRest : Float → Float → Signed

@@ -6,11 +6,13 @@ use lib.Dec.{T}
 use lib.Ieee.{Float, binary64, fits}
 use lib.Ieee.Positive.{num}
 use Rattle.double.specs.Operators.{_≺_}
-use Rattle.double.specs.Numbers.{#0, #1}
+use Rattle.double.specs.Numbers.{#0, #1, pow2}
 use Rattle.series.specs.change.SignedArithmetic.{BelowZero}
 use Rattle.cone.specs.declared.verdict.Answer.the-variants.{No, Yes}
+use Rattle.cone.specs.verdict.Margins.{#2⁻³⁰}
+use Rattle.powcone.specs.Feasible.{signsAt}
 use Rattle.certain.specs.Coordinates.{Point}
-use Rattle.certain.specs.power.Margins.{#2⁻³³, Part}
+use Rattle.certain.specs.power.Margins.{leastOfPower, Part}
 use Rattle.certain.specs.power.Primal as primal
 use Rattle.certain.specs.power.Dual as dual
 
@@ -26,17 +28,20 @@ pub record Exponent (α : Float) : Type 0 where
 pub record Meaning (part : Float) : Type 0 where
   pub primal-yes : (α s1 s2 s3 : Float) → Exponent α → Point s1 s2 s3 → primal.answer part α s1 s2 s3 ≡ Yes → primal.Inside α s1 s2 s3
   pub primal-no :
-      (α s1 s2 s3 : Float) → Exponent α → Point s1 s2 s3 → primal.signs s1 s2 ≡ true → primal.answer part α s1 s2 s3 ≡ No
+      (α s1 s2 s3 : Float) → Exponent α → Point s1 s2 s3 → signsAt s1 s2 ≡ true → primal.answer part α s1 s2 s3 ≡ No
       → (0 < num s3) × BelowZero (primal.number α s1 s2 s3)
   pub dual-yes : (α z1 z2 z3 : Float) → Exponent α → Point z1 z2 z3 → dual.answer part α z1 z2 z3 ≡ Yes → dual.Inside α z1 z2 z3
   pub dual-no :
-      (α z1 z2 z3 : Float) → Exponent α → Point z1 z2 z3 → dual.signs z1 z2 ≡ true → dual.answer part α z1 z2 z3 ≡ No
+      (α z1 z2 z3 : Float) → Exponent α → Point z1 z2 z3 → signsAt z1 z2 ≡ true → dual.answer part α z1 z2 z3 ≡ No
       → (0 < num z3) × BelowZero (dual.number α z1 z2 z3)
 
--- What is proved: it holds of every part from 2^-33 to a quarter. Order 5's 2^-30 is one of them
+-- What is proved: it holds of every part from 2^-34 to a quarter. Order 5's 2^-30 is one of them
 abbrev pub Proved : Type 0
-Proved = (part : Float) → Part part → Meaning part
+Proved = (part : Float) → Part leastOfPower part → Meaning part
 
--- the room beside it: a margin of an eighth of Order 5's would do
+abbrev pub Order5 : Type 0
+Order5 = Meaning #2⁻³⁰
+
+-- the room beside it: a margin of a sixteenth of Order 5's would do
 abbrev pub Room : Type 0
-Room = Meaning #2⁻³³
+Room = Meaning (pow2 leastOfPower)

@@ -1,38 +1,29 @@
--- The test of the power cone on three numbers, and the exact number beside it. Definitions only. As specs/Primal; the test of a point
--- is powcone/specs/Feasible's.
+-- The test of the power cone on three numbers, and the exact number beside it. Definitions only. The formulas are powcone's
+-- (specs/Feasible); here the margin's part is a parameter.
 use Prim.Native.Nat.{_<_}
-use mathlib.Core.Bool.{Bool, _&&_}
 use lib.Ieee.{Float}
 use lib.Ieee.Positive.{num}
-use Rattle.double.specs.Operators.{_⊕_, _⊖_, _⊗_, _≺_}
-use Rattle.double.specs.Numbers.{#0, #1, #2}
+use Rattle.double.specs.Operators.{_⊖_, _⊗_}
 use Rattle.series.specs.Series.{Signed}
 use Rattle.series.specs.change.SignedArithmetic.{times, minus, AboveZero}
-use Rattle.logarithm.specs.Steps.{logOf}
 use Rattle.exponential.specs.Steps.{expOf}
 use Rattle.cone.specs.declared.verdict.Answer.{Answer}
-use Rattle.cone.specs.verdict.Answers.{judged}
+use Rattle.cone.specs.verdict.Margins.{marginOf}
+use Rattle.powcone.specs.Feasible.{primalExponent, signsAt}
 use Rattle.certain.specs.Coordinates.{exactOf}
-use Rattle.certain.specs.power.Margins.{marginOf}
+use Rattle.certain.specs.power.Margins.{answerOf}
 use Rattle.certain.specs.power.Numbers.{sum, two, one, lOfOne, lOfSquare}
 
--- 001 is_primal_feasible: 2α·log s1 + 2(1-α)·log s2, counting from 1
-abbrev pub exponent : Float → Float → Float → Float
-exponent α s1 s2 = #2 ⊗ α ⊗ logOf s1 ⊕ #2 ⊗ (#1 ⊖ α) ⊗ logOf s2
-
--- its exponential less s3²
+-- 001 is_primal_feasible: the exponential less s3², counting from 1
 abbrev pub residue : Float → Float → Float → Float → Float
-residue α s1 s2 s3 = expOf (exponent α s1 s2) ⊖ s3 ⊗ s3
+residue α s1 s2 s3 = expOf (primalExponent α s1 s2) ⊖ s3 ⊗ s3
 
 -- 02, Order 5: "2^-30·(the exponential plus the sumsq)"; the part is 2^-30 there
 abbrev pub margin : Float → Float → Float → Float → Float → Float
-margin part α s1 s2 s3 = marginOf part (expOf (exponent α s1 s2)) (s3 ⊗ s3)
-
-abbrev pub signs : Float → Float → Bool
-signs s1 s2 = (#0 ≺ s1) && (#0 ≺ s2)
+margin part α s1 s2 s3 = marginOf part (expOf (primalExponent α s1 s2)) (s3 ⊗ s3)
 
 abbrev pub answer : Float → Float → Float → Float → Float → Answer
-answer part α s1 s2 s3 = judged (signs s1 s2) (residue α s1 s2 s3) (margin part α s1 s2 s3)
+answer part α s1 s2 s3 = answerOf part (signsAt s1 s2) (expOf (primalExponent α s1 s2)) (s3 ⊗ s3)
 
 -- 2α·L(s1) + 2(1-α)·L(s2), with the exact 1-α; where it is asked for, s1 and s2 are above 0
 abbrev pub logs : Float → Float → Float → Signed

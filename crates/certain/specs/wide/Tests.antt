@@ -1,33 +1,25 @@
--- The exact numbers beside the generalized power cone's test and its dual's. The tests are genpowcone's, over its folds. Definitions only.
+-- The exact numbers beside the generalized power cone's test and its dual's. Definitions only. The formulas are genpowcone's
+-- (specs/Feasible, specs/loops/Folds); here the margin's part is a parameter.
 use Prim.Native.Nat.{ℕ, _<_}
-use mathlib.Core.Bool.{Bool}
 use mathlib.Core.List.{List}
-use lib.ListN.{length, take, drop}
+use lib.ListN.{length}
 use lib.Ieee.{Float}
-use Rattle.double.specs.Operators.{_⊖_, at}
+use Rattle.double.specs.Operators.{at}
 use Rattle.series.specs.Series.{Signed, lOf}
 use Rattle.series.specs.change.SignedArithmetic.{times, minus, AboveZero}
 use Rattle.kernels.specs.Door.{expOf}
 use Rattle.algebra.specs.Vectors.{sumsqOf}
-use Rattle.genpowcone.specs.loops.Folds.{allAboveZero, primalLogSum, dualLogSum}
+use Rattle.genpowcone.specs.loops.Folds.{primalLogSum, dualLogSum}
+use Rattle.genpowcone.specs.Feasible.{tailOf, signs}
 use Rattle.cone.specs.declared.verdict.Answer.{Answer}
-use Rattle.cone.specs.verdict.Answers.{judged}
 use Rattle.certain.specs.Coordinates.{exactOf, lOfQuotient}
-use Rattle.certain.specs.power.Margins.{marginOf}
+use Rattle.certain.specs.power.Margins.{answerOf}
 use Rattle.certain.specs.power.Numbers.{two, lOfOne}
 use Rattle.certain.specs.wide.Sums.{weighedSum, squaresOver, squaresUnder}
 
--- the point's tail behind its head, which is as long as the exponents α
-abbrev pub tailOf : List Float → List Float → List Float
-tailOf α s = drop (length α) s
-
-abbrev pub signs : List Float → List Float → Bool
-signs α s = allAboveZero (take (length α) s)
-
 -- 002 is_primal_feasible and is_dual_feasible, of the logarithms' sum y, with the margin's part of Order 5
 abbrev pub answerAt : Float → Float → List Float → List Float → Answer
-answerAt part y α s =
-    judged (signs α s) (expOf y ⊖ sumsqOf (tailOf α s)) (marginOf part (expOf y) (sumsqOf (tailOf α s)))
+answerAt part y α s = answerOf part (signs α s) (expOf y) (sumsqOf (tailOf α s))
 
 abbrev pub primalAnswer : Float → List Float → List Float → Answer
 primalAnswer part α s = answerAt part (primalLogSum α s) α s

@@ -16,6 +16,10 @@ pub record FactorsRight : Type 0 where
   pub exponential-right : #2⁻⁴⁰ ≡ pow2 40
   pub power-right : #2⁻³⁰ ≡ pow2 30
 
--- 02, Order 5: "For both power cones it is 2^-30·(the exponential plus the sumsq)."
+-- 02, Order 5: "For both power cones it is 2^-30·(the exponential plus the sumsq)." The part is a parameter for `certain`, which asks how
+-- small it may be.
+abbrev pub marginOf : Float → Float → Float → Float
+marginOf part power square = part ⊗ (power ⊕ square)
+
 unfoldable pub powerMargin : Float → Float → Float
-powerMargin power square = #2⁻³⁰ ⊗ (power ⊕ square)
+powerMargin power square = marginOf #2⁻³⁰ power square

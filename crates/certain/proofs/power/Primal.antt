@@ -159,7 +159,8 @@ module _ (α s1 s2 s3 : Float) (x : Exponent α) (p : Point s1 s2 s3) (t1 : T (#
       (square-exact s3 (c3 .sign) w pw (c3 .is))
 
   pub inside :
-      (part : Float) (F : Counted powerErrors part) → T (primal.margin part α s1 s2 s3 ≺ primal.residue α s1 s2 s3) → primal.Inside α s1 s2 s3
+      (part : Float) (F : Counted powerErrors part) → T (primal.margin part α s1 s2 s3 ≺ primal.residue α s1 s2 s3)
+      → primal.Inside α s1 s2 s3
   inside part F test = record {
     first-above = units-above s1 a (c1 .some) (c1 .is);
     second-above = units-above s2 b (c2 .some) (c2 .is);

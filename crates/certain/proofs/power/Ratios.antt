@@ -1,5 +1,6 @@
 -- What a residue beyond its margin, at least one of 16n parts of the sum, says of the two numbers that it is made of: one is above the
--- other by fifteen parts in 128n. And what that says of the exact ones, by a part in 9n. Over plain whole numbers, n up to 2^31. Assumes nothing.
+-- other by fifteen parts in 128n. And what that says of the exact ones, by a part in 9n. Over plain whole numbers, n up to 2^31. Assumes
+-- nothing.
 use mathlib.Core.Path.{_≡_, sym, subst}
 use Prim.Native.Nat.{ℕ, suc, _+_, _-_, _*_, _^_, _≤_, _<_}
 use native.Mathlib.Nat.{mul-le-mul-left, mul-le-mul-right, le-of-mul-le-mul-left, le-of-mul-le-mul-right, lt-of-mul-lt-mul-right}

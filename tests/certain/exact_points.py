@@ -119,9 +119,10 @@ RANGES = [(-3, 4), (-40, 40), (-500, -480), (480, 500), (-500, 500)]
 
 
 def sized(rng, low, high):
-    """A number from 2^low to 2^high, any digits, at times a power of two or beside one."""
+    """A number from 2^low to 2^high, any digits, at times one of the ends, a power of two or beside one."""
     x = math.ldexp(1 + rng.random(), rng.randrange(low, high))
-    return rng.choice([x, x, x, 2.0 ** math.frexp(x)[1], math.nextafter(2.0 ** math.frexp(x)[1], 0)])
+    ends = rng.choice([2.0**low, 2.0**high])
+    return rng.choice([x, x, x, 2.0 ** math.frexp(x)[1], math.nextafter(2.0 ** math.frexp(x)[1], 0), ends])
 
 
 def nearby(rng, x):
@@ -249,7 +250,10 @@ def calls(points, searches):
                 q = further_in(cone, primal, q)
             dq = [rng.uniform(-2, 2) * max(abs(x), 2.0**-490) for x in q]
             step = rng.choice([0.5, 0.8, 0.99])
-            write("search", cone, primal, [*dq, *q, rng.choice([1.0, 1.0, 3.0, 2.0**-20]), step, rng.choice([1e-4, 2.0**-40])])
+            how = [rng.choice([1.0, 1.0, 3.0, 2.0**-20]), step, rng.choice([1e-4, 2.0**-40])]
+            write("search", cone, primal, [*dq, *q, *how])
+            if i % 4 == 1:  # the same point on both sides
+                write("round", cone, primal, [*dq, *dq, *q, *q, *how])
 
 
 def read(line):
@@ -260,6 +264,28 @@ def read(line):
 
 
 # ---- the judgement
+
+STEPS = ("search's point inside", "step_length's point inside", "common_step's point inside", "plan_step's point inside")
+
+
+def steps_of(job, primal, numbers):
+    """What was stepped by which call, on which side, and to which point: of an answer's numbers behind its code."""
+    if job == "search":
+        return [(STEPS[0], primal, numbers[0], tuple(numbers[1:]))]
+    dual_step, primal_step, common, plan, *coordinates = numbers
+    n = len(coordinates) // 6
+    points = [tuple(coordinates[i * n: i * n + n]) for i in range(6)]
+    steps = [(STEPS[1], False, dual_step), (STEPS[1], True, primal_step), (STEPS[2], primal, common), (STEPS[2], primal, common),
+             (STEPS[3], False, plan), (STEPS[3], True, plan)]
+    return [(*step, point) for step, point in zip(steps, points)]
+
+
+def heads(cone, primal, point):
+    """The coordinates that a sign test asks for, without their signs."""
+    if cone.kind == EXPONENTIAL:
+        return [abs(point[1 if primal else 0]), point[2]]
+    return point[: 2 if cone.kind == POWER else len(cone.exps)]
+
 
 def judge(calls_file, answers_file):
     names = {NO: "no on the residue", YES: "yes", UNDECIDED: "undecided"}
@@ -285,6 +311,8 @@ def judge(calls_file, answers_file):
             else:
                 sign = exact_sign(cone, primal, point)
                 counts[cone.kind, verdict, sign] += 1
+                for end in (1 / LARGEST, LARGEST):
+                    met[cone.kind, f"head at {end:.0e}", primal] += end in heads(cone, primal, point)
                 met[cone.kind, names.get(verdict), primal] += 1
                 failed |= verdict == YES and sign != 1 or verdict == NO and sign != -1
                 asked += 1
@@ -293,14 +321,14 @@ def judge(calls_file, answers_file):
                     told += by_decimal != 0
                     failed |= by_decimal not in (0, sign)
         else:
-            step, point = double(got[1]), tuple(map(double, got[2:]))
-            if step == 0:
-                other["step zero"] += 1
-            elif not in_range(point):
-                other["out of range"] += 1
-            else:
-                met[cone.kind, "point inside", primal] += 1
-                failed |= not signs(cone, primal, point) or exact_sign(cone, primal, point) != 1
+            for what, side, step, point in steps_of(job, primal, list(map(double, got[1:]))):
+                if step == 0:
+                    other["step zero"] += 1
+                elif not in_range(point):
+                    other["out of range"] += 1
+                else:
+                    met[cone.kind, what, side] += 1
+                    failed |= not signs(cone, side, point) or exact_sign(cone, side, point) != 1
         if failed:
             wrong += 1
             print("certain: WRONG:", KINDS[cone.kind], call.strip(), "->", answer.strip())
@@ -308,7 +336,7 @@ def judge(calls_file, answers_file):
     for kind, cone_name in KINDS.items():
         for verdict, name in names.items():
             print(f"{cone_name + ', ' + name:34}{counts[kind, verdict, 1]:16}{counts[kind, verdict, 0]:13}{counts[kind, verdict, -1]:10}")
-    inside = sum(count for (_, what, _), count in met.items() if what == "point inside")
+    inside = sum(met[kind, what, side] for kind in KINDS for what in STEPS for side in (False, True))
     print("; ".join(f"{name}: {count}" for name, count in other.items()) + f"; point of a step inside: {inside}; signs that Python's logarithm told, too: {told}")
     if not beyond:
         wrong += 1
@@ -317,7 +345,7 @@ def judge(calls_file, answers_file):
         if not (counts[kind, UNDECIDED, 1] and counts[kind, UNDECIDED, -1]):
             wrong += 1
             print(f"certain: {cone_name}: no undecided point on one of the sides: the points are not near enough to the wall")
-        for what in ("yes", "no on the residue", "point inside"):
+        for what in ("yes", "no on the residue", *STEPS, *(f"head at {end:.0e}" for end in (1 / LARGEST, LARGEST))):
             for primal in (False, True):
                 if not met[kind, what, primal]:
                     wrong += 1

@@ -1,5 +1,5 @@
-/* hash N: one line each for log and exp, a hash over the bits of N answers. See run. Only these two functions are asked for, so that it can be linked
-   with any version of the library. */
+/* hash N: one line each for log and exp, a hash over the bits of N answers. See run.
+   It calls these two functions alone, so that it can be linked with any version of the library. */
 #include "spindle.h"
 #include <inttypes.h>
 #include <stdio.h>
@@ -30,38 +30,38 @@ static double double_of(uint64_t b)
     memcpy(&x, &b, sizeof x);
     return x;
 }
-static double part(void) { return (double)(next() >> 11) * 0x1p-53; }
 
-/* every class: any pattern, NaNs and negative numbers among them; positive numbers; subnormals of every length; beside 1, a power of 2, an entry of the
-   logarithm's table; a mantissa with few bits or many */
+/* Every class: any pattern, NaNs and negative numbers among them; positive numbers; subnormals of every length; beside 1; beside a power of
+   2, from above and from below; beside an entry of the logarithm's table; near 1 in size. */
 static uint64_t log_pattern(long i)
 {
-    uint64_t r = next();
+    uint64_t r = next(), k = next(), field = (k % 2046 + 1) << 52;
     switch (i % 8) {
     case 0: return r;
     case 1: return r & ~SIGN;
-    case 2: return (r & DIGITS) >> next() % 52;
-    case 3: return ONE + (r & DIGITS) % (UINT64_C(1) << next() % 52) - (next() & 1) * (r >> 12 >> next() % 52);
-    case 4: return (next() % 2046 + 1) << 52 | (r & 7);
-    case 5: return (next() % 2046 + 1) << 52 | ((r >> 8 & 255) << 44) | (r & 15);
-    case 6: return (next() % 2046 + 1) << 52 | (DIGITS ^ (r & 31));
-    default: return (next() % 40 + 1003) << 52 | (r & DIGITS);
+    case 2: return (r & DIGITS) >> k % 52;
+    case 3: return k >> 63 ? ONE - (r >> 12 >> k % 52) : ONE + (r >> 12 >> k % 52);
+    case 4: return field | (r & 7);
+    case 5: return field | (DIGITS ^ (r & 31));
+    case 6: return field | (r >> 8 & 255) << 44 | (r & 15);
+    default: return (k % 40 + 1003) << 52 | (r & DIGITS);
     }
 }
 
-/* any pattern; each field up to the ends; between the ends; beside a multiple of log 2; beside the ends; small numbers */
+/* Any pattern; every field up to the ends; between the ends; beside a multiple of log 2; beside the ends; small numbers. */
 static uint64_t exp_pattern(long i)
 {
-    uint64_t r = next(), sign = next() & SIGN;
+    uint64_t r = next(), k = next(), sign = k & SIGN;
+    double part = (double)(r >> 11) * 0x1p-53;
     switch (i % 8) {
     case 0: return r;
-    case 1: return sign | (next() % 1034) << 52 | (r & DIGITS);
+    case 1: return sign | k % 1034 << 52 | (r & DIGITS);
     case 2:
-    case 3: return bits_of(-708.0 + 1417.0 * part());
-    case 4: return bits_of((double)((int64_t)(r % 2040) - 1020) * 0x1.62e42fefa39efp-1) + next() % 5 - 2;
-    case 5: return bits_of(next() & 1 ? 709.0 : -708.0) + r % 65 - 32;
-    case 6: return sign | (next() % 60 + 970) << 52 | (r & DIGITS);
-    default: return bits_of(8.0 * part() - 4.0);
+    case 3: return bits_of(-708.0 + 1417.0 * part);
+    case 4: return bits_of((double)((int64_t)(r % 2040) - 1020) * 0x1.62e42fefa39efp-1) + k % 5 - 2;
+    case 5: return bits_of(sign ? 709.0 : -708.0) + r % 65 - 32;
+    case 6: return sign | (k % 60 + 970) << 52 | (r & DIGITS);
+    default: return bits_of(8.0 * part - 4.0);
     }
 }
 

@@ -52,6 +52,8 @@ outside() {
     say "include/spindle.h as C99 and as C++"
     cc -std=c99 -pedantic -Wall -Wextra -Werror -fsyntax-only -x c include/spindle.h || die "include/spindle.h is not clean C99"
     if command -v c++ >/dev/null 2>&1; then c++ -std=c++11 -pedantic -Wall -Wextra -Werror -fsyntax-only -x c++ include/spindle.h || die "include/spindle.h is not clean C++"; fi
+    cc -ffreestanding -nostdinc -isystem "$(cc -print-file-name=include)" -std=c99 -fsyntax-only -x c include/spindle.h \
+        || die "include/spindle.h needs more than a freestanding compiler's headers"
 
     say "what the header refuses: another machine, 32 bits, the other order of bytes"
     for words in -U__x86_64__\ -U__aarch64__ -D__ILP32__ -U__BYTE_ORDER__\ -D__BYTE_ORDER__=__ORDER_BIG_ENDIAN__ -D_WIN32; do

@@ -193,7 +193,7 @@ EOF
     put bin/spindle tools/spindle 755
     for program in $programs show; do put "libexec/spindle/$program" "$native/$program" 755; done
     for page in man/*.[1-9]; do put "share/man/man${page##*.}/${page#man/}" "$page"; done
-    for paper in README.md LICENSE NOTICE CHANGELOG.md docs/PROMISES.md; do put "share/doc/spindle/${paper#docs/}" "$paper"; done
+    for paper in README.md LICENSE NOTICE CHANGELOG.md docs/01-scope.md docs/PROMISES.md docs/DIFFERENCES.md docs/FINDINGS.md docs/traces.md; do put "share/doc/spindle/${paper#docs/}" "$paper"; done
     put share/doc/spindle/files $list
 }
 

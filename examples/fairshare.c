@@ -8,8 +8,8 @@
    it takes the primal-dual scaling.
 
    The library has the cones, the step and the kernels. The rest of a solver is here: the embedding with tau and kappa, an orthant for the
-   capacities, and a dense L D L'. docs/loop.md explains it. No point is used that was not tested. A plan ends with the smooth problem's own
-   conditions, in which no cone occurs.
+   capacities, and a dense L D L'. docs/loop.md explains it. No point is used that was not tested. A plan ends only where the smooth
+   problem's own conditions hold, too, in which no cone occurs.
 
        cc -Iinclude examples/fairshare.c target/native/libspindle.a && ./a.out [TOLERANCE]     1e-6, if none is named */
 #include <spindle.h>
@@ -27,6 +27,8 @@ typedef struct {
 
 /* Minimise q'x so that Ax + s = b. The first `orthant` rows of s are not below 0, the others lie in the cones, one behind the other. */
 typedef struct {
+    const Machine *machines; /* the plan that it was made of */
+    bool general;
     int n, m, orthant, ncones, degree;
     double A[ROWS][VARIABLES], b[ROWS], q[VARIABLES];
     double factor[ROWS]; /* by which the row was multiplied */
@@ -57,7 +59,8 @@ typedef struct {
 } System;
 
 typedef struct {
-    unsigned long tests, used, yes;
+    unsigned long tests, used, yes, cuts; /* tests of a cone; parts of points that were used, and those that are a yes; steps cut in 7 */
+    double barriers[2];                   /* their sum at the start; the largest at the end of a step */
 } Counts;
 
 static void must(const char *call, uint32_t code)
@@ -68,7 +71,7 @@ static void must(const char *call, uint32_t code)
 }
 
 static double size(double v) { return v < 0 ? -v : v; }
-static double larger(double v, double w) { return v > w ? v : w; }
+static double larger(double v, double w) { return v > w || v != v ? v : w; } /* a NaN stays */
 
 static double dot(const double *v, const double *w, int n)
 {
@@ -117,6 +120,8 @@ static void lay_out_machines(Machine *machines)
 static void lay_out(Problem *p, const Machine *machines, bool general)
 {
     memset(p, 0, sizeof *p);
+    p->machines = machines;
+    p->general = general;
     p->n = MACHINES;
     p->m = p->orthant = p->degree = 2 * HOSTS;
     for (int h = 0; h < 2 * HOSTS; h++) p->b[h] = C;
@@ -283,8 +288,8 @@ static void affine_side(const Problem *p, const Point *at, double *c)
     }
 }
 
-/* 5: c = affine_ds + shift, the correction at this share of the affine direction. For kind 3 there is no call: its shift is sigma mu times the
-   record's gradient. */
+/* 5: c = affine_ds + shift, the correction at this share of the affine direction. For kind 3 there is no call: its shift is sigma mu times
+   the record's gradient. */
 static void combined_side(const Problem *p, const System *y, const Point *at, const Point *affine, double share, double sigma_mu, double *c)
 {
     affine_side(p, at, c);
@@ -333,8 +338,9 @@ static double search(const Problem *p, const Point *at, const Point *along, doub
     return found.step;
 }
 
-/* 7: how far off the central path the step leads; 0 is on it. */
-static double off_path(const Problem *p, const System *y, const Point *at, const Point *along, double step)
+/* 7: the barriers' sum at the step's end. On the central path it is minus the degrees of the library's cones, whose primal barriers end in
+   minus their degree; off it, it is larger. */
+static double barriers(const Problem *p, const System *y, const Point *at, const Point *along, double step)
 {
     double tau = at->tau + step * along->tau, kappa = at->kappa + step * along->kappa, product = tau * kappa;
     double sum = -spindle_log(tau) - spindle_log(kappa);
@@ -355,7 +361,15 @@ static double step_of(const Problem *p, const System *y, const Point *at, const 
 {
     double step = search(p, at, along, 0.99 * allowed(p, at, along), tested, counts);
     if (step > 0) step = search(p, at, along, 0.99 * step, tested, counts);
-    while (step > 0 && off_path(p, y, at, along, step) >= 1) step = search(p, at, along, 0.5 * step, tested, counts);
+    while (step > 0) {
+        double sum = barriers(p, y, at, along, step);
+        if (sum < 1) { /* clarabel's bound, and a wide one: docs/FINDINGS.md, 9 */
+            counts->barriers[1] = larger(counts->barriers[1], sum);
+            break;
+        }
+        counts->cuts++;
+        step = search(p, at, along, 0.5 * step, tested, counts);
+    }
     return step;
 }
 
@@ -398,7 +412,7 @@ static void count_used(const Problem *p, const Point *at, Counts *counts)
     }
 }
 
-/* ---- the loop */
+/* ---- where the plan begins, and how far it has come */
 
 static void begin(const Problem *p, System *y, Point *at)
 {
@@ -442,16 +456,61 @@ static double gap_of(const Problem *p, const Point *at)
     return gap / larger(1, primal < dual ? primal : dual);
 }
 
+/* ---- the smooth problem's own conditions */
+
+static double host_slope(const Machine *machine, const double *in, const double *out, bool general)
+{
+    if (general) return 2 * (in[machine->to] + out[machine->from]) / C / C;
+    return 2.5 * spindle_powf(in[machine->to] / C, 1.5) / C;
+}
+
+/* Of each machine's share the slope of the utility is the price of its two capacities; no host is above its capacity; prices are not below
+   0, and 0 where room is left. Hands back by how much the worst of these fails. */
+static double conditions(const Problem *p, const Point *at)
+{
+    double share[MACHINES], price[2 * HOSTS], in[HOSTS] = {0}, out[HOSTS] = {0}, most = 0;
+    for (int h = 0; h < 2 * HOSTS; h++) price[h] = at->z[h] * p->factor[h] / at->tau;
+    for (int i = 0; i < MACHINES; i++) {
+        share[i] = at->x[i] / at->tau;
+        in[p->machines[i].to] += share[i];
+        out[p->machines[i].from] += share[i];
+    }
+    for (int i = 0; i < MACHINES; i++) {
+        const Machine *machine = p->machines + i;
+        double slope = machine->weight / share[i] - host_slope(machine, in, out, p->general);
+        slope -= machine->cost * machine->power * spindle_powf(share[i], machine->power - 1);
+        most = larger(most, size(slope - price[machine->from] - price[HOSTS + machine->to]));
+    }
+    for (int h = 0; h < HOSTS; h++) {
+        double room_out = C - out[h], room_in = C - in[h];
+        most = larger(most, larger(-room_out, -room_in));
+        most = larger(most, larger(-price[h], -price[HOSTS + h]));
+        most = larger(most, larger(size(price[h] * room_out), size(price[HOSTS + h] * room_in)));
+    }
+    return most;
+}
+
+/* ---- the loop */
+
+/* Gap and residuals are below the tolerance, and the conditions hold within its root: a share that is off by d changes the utility, and so
+   the gap, by some d*d alone. */
+static bool ends(const Problem *p, const Point *at, const Residual *r, double tolerance)
+{
+    return gap_of(p, at) < tolerance && worst(p, at, r) < tolerance && conditions(p, at) < spindle_sqrt(tolerance);
+}
+
 /* Whether the plan was solved; `at` is where it ended. */
 static bool run(const Problem *p, uint32_t strategy, double tolerance, Point *at, Counts *counts)
 {
     static System system;
     static Round r;
     begin(p, &system, at);
+    count_used(p, at, counts);
+    counts->barriers[0] = counts->barriers[1] = barriers(p, &system, at, at, 0);
     for (int round = 0, still = 0; round < 60; round++) {
         r.residual = residual_of(p, at);
         double gap = gap_of(p, at), c[ROWS];
-        if (gap < tolerance && worst(p, at, &r.residual) < tolerance) {
+        if (ends(p, at, &r.residual, tolerance)) {
             printf("solved after %d rounds, gap %.9f\n", round, gap);
             return true;
         }
@@ -483,42 +542,6 @@ static bool run(const Problem *p, uint32_t strategy, double tolerance, Point *at
     return false;
 }
 
-/* ---- the smooth problem's own conditions */
-
-static double host_slope(const Machine *machine, const double *in, const double *out, bool general)
-{
-    if (general) return 2 * (in[machine->to] + out[machine->from]) / C / C;
-    return 2.5 * spindle_powf(in[machine->to] / C, 1.5) / C;
-}
-
-/* Of each machine's share the slope of the utility is the price of its two capacities; no host is above its capacity; prices are not below
-   0, and 0 where room is left. Hands back by how much the worst of these fails: about the root of the gap at most, since a share that is
-   off by d costs some d*d. */
-static double conditions(const Problem *p, const Machine *machines, const Point *at, bool general)
-{
-    double share[MACHINES], price[2 * HOSTS], in[HOSTS] = {0}, out[HOSTS] = {0}, most = 0;
-    for (int h = 0; h < 2 * HOSTS; h++) price[h] = at->z[h] * p->factor[h] / at->tau;
-    for (int i = 0; i < MACHINES; i++) {
-        share[i] = at->x[i] / at->tau;
-        in[machines[i].to] += share[i];
-        out[machines[i].from] += share[i];
-    }
-    for (int i = 0; i < MACHINES; i++) {
-        const Machine *machine = machines + i;
-        double slope = machine->weight / share[i] - host_slope(machine, in, out, general);
-        slope -= machine->cost * machine->power * spindle_powf(share[i], machine->power - 1);
-        most = larger(most, size(slope - price[machine->from] - price[HOSTS + machine->to]));
-        printf("machine %2d, host %d to %d: %.5f\n", i, machine->from, machine->to, share[i]);
-    }
-    for (int h = 0; h < HOSTS; h++) {
-        double room_out = C - out[h], room_in = C - in[h];
-        most = larger(most, larger(-room_out, -room_in));
-        most = larger(most, larger(-price[h], -price[HOSTS + h]));
-        most = larger(most, larger(size(price[h] * room_out), size(price[HOSTS + h] * room_in)));
-    }
-    return most;
-}
-
 /* One plan, from machines to conditions. Whether all held. */
 static bool plan(const char *name, bool general, uint32_t strategy, double tolerance)
 {
@@ -532,15 +555,26 @@ static bool plan(const char *name, bool general, uint32_t strategy, double toler
     printf("%s: %d machines, %d hosts, %d cones\n", name, MACHINES, HOSTS, problem.ncones);
     bool solved = run(&problem, strategy, tolerance, &at, &counts);
     printf("%lu tests of a cone; %lu parts of points used, %lu of them a yes\n", counts.tests, counts.used, counts.yes);
-    double off = conditions(&problem, machines, &at, general);
-    printf("the smooth problem's conditions hold within %.6f\n", off);
-    return solved && off < spindle_sqrt(tolerance) && counts.yes == counts.used;
+    printf("barriers: their sum is %.3f at the start, at most %.3f at a step's end; %lu steps cut\n", counts.barriers[0],
+           counts.barriers[1], counts.cuts);
+    for (int i = 0; i < MACHINES; i++) printf("machine %2d, host %d to %d: %.5f\n", i, machines[i].from, machines[i].to, at.x[i] / at.tau);
+    printf("the smooth problem's conditions hold within %.6f\n", conditions(&problem, &at));
+    return solved && counts.yes == counts.used;
 }
 
 #ifndef FAIRSHARE_WITHOUT_MAIN
+static double tolerance_of(const char *word)
+{
+    char *end;
+    double tolerance = strtod(word, &end);
+    if (end != word && *end == 0 && tolerance > 0 && tolerance < 1) return tolerance;
+    fprintf(stderr, "fairshare: the tolerance is a number above 0 and below 1: %s\n", word);
+    exit(2);
+}
+
 int main(int words, char **word)
 {
-    double tolerance = words > 1 ? strtod(word[1], NULL) : 1e-6;
+    double tolerance = words > 1 ? tolerance_of(word[1]) : 1e-6;
     bool first = plan("All three kinds", true, SPINDLE_DUAL, tolerance);
     bool second = plan("Exponential and power cones", false, SPINDLE_PRIMAL_DUAL, tolerance);
     return first && second ? 0 : 1;

@@ -18,6 +18,8 @@ struct Machine {
 
 /// Minimise q'x so that Ax + s = b. The first `orthant` rows of s are not below 0, the others lie in the cones, one behind the other.
 struct Problem {
+    machines: Vec<Machine>, // the plan that it was made of
+    general: bool,
     a: Vec<Vec<f64>>,
     b: Vec<f64>,
     q: Vec<f64>,
@@ -63,9 +65,11 @@ struct Round {
 
 #[derive(Default)]
 struct Counts {
-    tests: u64,
-    used: u64,
-    yes: u64,
+    tests: u64,         // of a cone
+    used: u64,          // parts of points
+    yes: u64,           // those among them that are a yes
+    cuts: u64,          // steps cut in 7
+    barriers: [f64; 2], // their sum at the start; the largest at the end of a step
 }
 
 fn dot(v: &[f64], w: &[f64]) -> f64 {
@@ -76,8 +80,17 @@ fn dot(v: &[f64], w: &[f64]) -> f64 {
     sum
 }
 
+/// A NaN stays, as f64::max would not have it.
+fn larger(v: f64, w: f64) -> f64 {
+    if v > w || v.is_nan() {
+        v
+    } else {
+        w
+    }
+}
+
 fn largest(v: &[f64]) -> f64 {
-    v.iter().fold(0.0, |most, v| v.abs().max(most))
+    v.iter().fold(0.0, |most, v| larger(most, v.abs()))
 }
 
 // ---- the plan as a problem over cones
@@ -120,8 +133,10 @@ impl Problem {
         first + 2
     }
 
-    fn of(machines: &[Machine], general: bool) -> Result<Problem, Refusal> {
+    fn of(machines: Vec<Machine>, general: bool) -> Result<Problem, Refusal> {
         let mut p = Problem {
+            machines: vec![],
+            general,
             a: vec![vec![0.0; MACHINES]; 2 * HOSTS],
             b: vec![C; 2 * HOSTS],
             q: vec![0.0; MACHINES],
@@ -156,6 +171,7 @@ impl Problem {
                 }
             }
         }
+        p.machines = machines;
         p.even_out()?;
         Ok(p)
     }
@@ -339,8 +355,9 @@ impl System {
         Ok(c)
     }
 
-    /// 7: how far off the central path the step leads; 0 is on it.
-    fn off_path(&self, p: &Problem, at: &Point, along: &Point, step: f64) -> Result<f64, Refusal> {
+    /// 7: the barriers' sum at the step's end. On the central path it is minus the degrees of the library's cones, whose primal barriers
+    /// end in minus their degree; off it, it is larger.
+    fn barriers(&self, p: &Problem, at: &Point, along: &Point, step: f64) -> Result<f64, Refusal> {
         let (tau, kappa) = (at.tau + step * along.tau, at.kappa + step * along.kappa);
         let mut product = tau * kappa;
         let mut sum = -log(tau) - log(kappa);
@@ -407,7 +424,13 @@ fn step_of(p: &Problem, y: &System, at: &Point, along: &Point, tested: &mut Poin
     if step > 0.0 {
         step = search(p, at, along, 0.99 * step, tested, counts)?;
     }
-    while step > 0.0 && y.off_path(p, at, along, step)? >= 1.0 {
+    while step > 0.0 {
+        let sum = y.barriers(p, at, along, step)?;
+        if sum < 1.0 {
+            counts.barriers[1] = larger(counts.barriers[1], sum); // clarabel's bound, and a wide one: docs/FINDINGS.md, 9
+            break;
+        }
+        counts.cuts += 1;
         step = search(p, at, along, 0.5 * step, tested, counts)?;
     }
     Ok(step)
@@ -450,7 +473,7 @@ fn count_used(p: &Problem, at: &Point, counts: &mut Counts) -> Result<(), Refusa
     Ok(())
 }
 
-// ---- the loop
+// ---- where the plan begins, and how far it has come
 
 fn begin(p: &Problem) -> Result<(System, Point), Refusal> {
     let (n, m) = (p.variables(), p.b.len());
@@ -475,19 +498,67 @@ fn residual_of(p: &Problem, at: &Point) -> Residual {
 }
 
 fn gap_of(p: &Problem, at: &Point) -> f64 {
-    let (primal, dual) = (dot(&p.q, &at.x), dot(&p.b, &at.z));
-    (primal + dual).abs() / at.tau / (primal.abs() / at.tau).min(dual.abs() / at.tau).max(1.0)
+    let (q_x, b_z) = (dot(&p.q, &at.x), dot(&p.b, &at.z));
+    let (primal, dual) = (q_x.abs() / at.tau, b_z.abs() / at.tau);
+    (q_x + b_z).abs() / at.tau / larger(1.0, if primal < dual { primal } else { dual })
+}
+
+fn worst(at: &Point, r: &Residual) -> f64 {
+    larger(largest(&r.x), largest(&r.z)) / at.tau
+}
+
+// ---- the smooth problem's own conditions
+
+fn host_slope(machine: &Machine, load_in: &[f64], load_out: &[f64], general: bool) -> f64 {
+    if general {
+        2.0 * (load_in[machine.to] + load_out[machine.from]) / C / C
+    } else {
+        2.5 * powf(load_in[machine.to] / C, 1.5) / C
+    }
+}
+
+/// Of each machine's share the slope of the utility is the price of its two capacities; no host is above its capacity; prices are not below
+/// 0, and 0 where room is left. Hands back by how much the worst of these fails.
+fn conditions(p: &Problem, at: &Point) -> f64 {
+    let price: Vec<f64> = (0..2 * HOSTS).map(|h| at.z[h] * p.factor[h] / at.tau).collect();
+    let (mut load_in, mut load_out, mut most) = ([0.0; HOSTS], [0.0; HOSTS], 0.0);
+    for (machine, x) in p.machines.iter().zip(&at.x) {
+        load_in[machine.to] += x / at.tau;
+        load_out[machine.from] += x / at.tau;
+    }
+    for (machine, x) in p.machines.iter().zip(&at.x) {
+        let share = x / at.tau;
+        let mut slope = machine.weight / share - host_slope(machine, &load_in, &load_out, p.general);
+        slope -= machine.cost * machine.power * powf(share, machine.power - 1.0);
+        most = larger(most, (slope - price[machine.from] - price[HOSTS + machine.to]).abs());
+    }
+    for (price, load) in price.iter().zip(load_out.iter().chain(&load_in)) {
+        for fails in [load - C, -price, (price * (C - load)).abs()] {
+            most = larger(most, fails);
+        }
+    }
+    most
+}
+
+// ---- the loop
+
+/// Gap and residuals are below the tolerance, and the conditions hold within its root: a share that is off by d changes the utility, and so
+/// the gap, by some d*d alone.
+fn ends(p: &Problem, at: &Point, r: &Residual, tolerance: f64) -> bool {
+    gap_of(p, at) < tolerance && worst(at, r) < tolerance && conditions(p, at) < sqrt(tolerance)
 }
 
 /// Whether the plan was solved, and where it ended.
 fn run(p: &Problem, mut strategy: Strategy, tolerance: f64, counts: &mut Counts) -> Result<(bool, Point), Refusal> {
     let (mut system, mut at) = begin(p)?;
+    count_used(p, &at, counts)?;
+    counts.barriers = [system.barriers(p, &at, &at, 0.0)?; 2];
     let mut tested = at.clone();
     let mut still = 0;
     for round in 0..60 {
         let residual = residual_of(p, &at);
         let gap = gap_of(p, &at);
-        if gap < tolerance && largest(&residual.x).max(largest(&residual.z)) / at.tau < tolerance {
+        if ends(p, &at, &residual, tolerance) {
             println!("solved after {round} rounds, gap {gap:.9}");
             return Ok((true, at));
         }
@@ -522,54 +593,33 @@ fn run(p: &Problem, mut strategy: Strategy, tolerance: f64, counts: &mut Counts)
     Ok((false, at))
 }
 
-// ---- the smooth problem's own conditions
-
-fn host_slope(machine: &Machine, load_in: &[f64], load_out: &[f64], general: bool) -> f64 {
-    if general {
-        2.0 * (load_in[machine.to] + load_out[machine.from]) / C / C
-    } else {
-        2.5 * powf(load_in[machine.to] / C, 1.5) / C
-    }
-}
-
-/// Of each machine's share the slope of the utility is the price of its two capacities; no host is above its capacity; prices are not below
-/// 0, and 0 where room is left. Hands back by how much the worst of these fails: about the root of the gap at most, since a share that is
-/// off by d costs some d*d.
-fn conditions(p: &Problem, machines: &[Machine], at: &Point, general: bool) -> f64 {
-    let price: Vec<f64> = (0..2 * HOSTS).map(|h| at.z[h] * p.factor[h] / at.tau).collect();
-    let (mut load_in, mut load_out, mut most) = ([0.0; HOSTS], [0.0; HOSTS], 0.0f64);
-    for (machine, x) in machines.iter().zip(&at.x) {
-        load_in[machine.to] += x / at.tau;
-        load_out[machine.from] += x / at.tau;
-    }
-    for (i, machine) in machines.iter().enumerate() {
-        let share = at.x[i] / at.tau;
-        let mut slope = machine.weight / share - host_slope(machine, &load_in, &load_out, general);
-        slope -= machine.cost * machine.power * powf(share, machine.power - 1.0);
-        most = most.max((slope - price[machine.from] - price[HOSTS + machine.to]).abs());
-        println!("machine {i:2}, host {} to {}: {share:.5}", machine.from, machine.to);
-    }
-    for (price, load) in price.iter().zip(load_out.iter().chain(&load_in)) {
-        most = most.max(load - C).max(-price).max((price * (C - load)).abs());
-    }
-    most
-}
-
 /// One plan, from machines to conditions. Whether all held.
 fn plan(name: &str, general: bool, strategy: Strategy, tolerance: f64) -> Result<bool, Refusal> {
-    let machines = machines();
-    let problem = Problem::of(&machines, general)?;
+    let problem = Problem::of(machines(), general)?;
     let mut counts = Counts::default();
     println!("{name}: {MACHINES} machines, {HOSTS} hosts, {} cones", problem.cones.len());
     let (solved, at) = run(&problem, strategy, tolerance, &mut counts)?;
     println!("{} tests of a cone; {} parts of points used, {} of them a yes", counts.tests, counts.used, counts.yes);
-    let off = conditions(&problem, &machines, &at, general);
-    println!("the smooth problem's conditions hold within {off:.6}");
-    Ok(solved && off < sqrt(tolerance) && counts.yes == counts.used)
+    let [start, most] = counts.barriers;
+    println!("barriers: their sum is {start:.3} at the start, at most {most:.3} at a step's end; {} steps cut", counts.cuts);
+    for (i, machine) in problem.machines.iter().enumerate() {
+        println!("machine {i:2}, host {} to {}: {:.5}", machine.from, machine.to, at.x[i] / at.tau);
+    }
+    println!("the smooth problem's conditions hold within {:.6}", conditions(&problem, &at));
+    Ok(solved && counts.yes == counts.used)
+}
+
+fn tolerance_of(word: &str) -> f64 {
+    let tolerance = word.parse().unwrap_or(0.0);
+    if tolerance > 0.0 && tolerance < 1.0 {
+        return tolerance;
+    }
+    eprintln!("fairshare: the tolerance is a number above 0 and below 1: {word}");
+    std::process::exit(2)
 }
 
 fn main() -> Result<(), Box<dyn std::error::Error>> {
-    let tolerance = std::env::args().nth(1).map_or(Ok(1e-6), |word| word.parse())?;
+    let tolerance = std::env::args().nth(1).map_or(1e-6, |word| tolerance_of(&word));
     let first = plan("All three kinds", true, Strategy::Dual, tolerance)?;
     let second = plan("Exponential and power cones", false, Strategy::PrimalDual, tolerance)?;
     if first && second {

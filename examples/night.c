@@ -1,12 +1,12 @@
-/* A host's night, from C: the first plan of examples/fairshare.c is solved, every search is kept as it is made, and the files become traces that `replay`
-   can run again.
+/* A host's night, from C: the first plan of examples/fairshare.c is solved, every search is kept as it is made, and the files become
+   traces that `replay` can run again.
 
        night FILE          plan, and record; where a file would be larger than 65,536 bytes the next one, FILE.2, FILE.3 .., goes on
        night FILE RECORD   change one byte of the file: the lowest of the primal step of that record, counted from 0
 
-   A trace has searches of single cones: for each search of the plan every cone's own search over its part is made and kept. Each record goes into the file
-   when its search is made, so that a night that ends early leaves what `rescue` mends. examples/night.sh builds and runs it, replays the files, changes a
-   byte, and replays again. */
+   A trace has searches of single cones: for each search of the plan every cone's own search over its part is made and kept. Each record
+   goes into the file when its search is made, so that a night that ends early leaves what `rescue` mends. examples/night.sh builds and runs
+   it, replays the files, changes a byte, and replays again. */
 #define FAIRSHARE_WITHOUT_MAIN
 #include "fairshare.c"
 
@@ -58,7 +58,8 @@ static void seal(void)
     printf("file %u: %u records, %u bytes\n", recording.number, (unsigned)recording.records, (unsigned)trace.length);
 }
 
-/* One cone's search, and its record. List and trailer keep their room: where the record has none before them, the file is sealed and the next one begins. */
+/* One cone's search, and its record. List and trailer keep their room: where the record has none before them, the file is sealed and the
+   next one begins. */
 static void keep(SpindleCone cone, size_t n, const double *dz, const double *ds, const double *z, const double *s, SpindleSettings settings)
 {
     double dual_point[64], primal_point[64];

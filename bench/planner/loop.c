@@ -280,7 +280,7 @@ static bool direct(Work *w, double by, double t, Point *to)
     return true;
 }
 
-/* 5, the correction at this share of the affine direction; affine_ds is s, and ds_from_dz_offset hands it on: their copies are left out here */
+/* 5, the correction at this share of the affine direction; affine_ds is s, and ds_from_dz_offset hands it on: their copies are left out */
 static bool combined_side(Work *w, double share, double sigma_mu)
 {
     double began = seconds(), shift[64], step_z[64];
@@ -359,7 +359,7 @@ static double search(Work *w, const Point *along, double start)
     return found.step;
 }
 
-/* 7 */
+/* 7, with the degrees of the library's cones added: 0 on the path */
 static double off_path(Work *w, double step)
 {
     const Point *now = &w->now, *along = &w->along;
@@ -375,7 +375,7 @@ static double off_path(Work *w, double step)
         sum += barrier.code == SPINDLE_DONE ? barrier.value : INFINITY;
     }
     w->out.by_call[BARRIER] += seconds() - began;
-    return sum + (w->degree + 1) * log(product / (w->degree + 1));
+    return sum + (w->degree + 1) * log(product / (w->degree + 1)) + (w->degree - w->l);
 }
 
 /* 6 and 7; -1 at a refusal */
@@ -385,7 +385,13 @@ static double step_of(Work *w)
     if (step <= 0) return step;
     if (w->o.search == LEAST) return 0.99 * step;
     step = search(w, &w->along, 0.99 * step);
-    while (step > 0 && w->o.barrier && off_path(w, step) >= 1) {
+    int bound = 1 + (w->o.barrier == CLARABEL ? w->degree - w->l : 0);
+    while (step > 0 && w->o.barrier != NONE) {
+        double off = off_path(w, step);
+        if (off < bound) {
+            w->out.off_path = fmax(w->out.off_path, off);
+            break;
+        }
         w->out.cuts++;
         step = search(w, &w->along, 0.5 * step);
     }
@@ -525,6 +531,7 @@ Outcome loop_run(const Problem *p, Options options)
     Work work = {.p = p, .o = options, .out = {.end = "too many rounds"}}, *w = &work;
     double began = seconds();
     bool going = begin(w);
+    if (going) count_used(w);
     uint32_t strategy = first_strategy(w);
     for (int still = 0; going; w->out.rounds++) {
         residuals(w);

@@ -19,15 +19,16 @@ enum {
     DUAL,
     PRIMAL_DUAL,
     CHANGED
-};                      /* CHANGED: primal-dual until a step is below 0.1, and dual from then on; dual with a generalized cone */
-enum { TESTED, LEAST }; /* LEAST: the least of both sides' own steps, and 0.99 of it, which nobody tested: as clarabel does */
+};                             /* CHANGED: primal-dual until a step is below 0.1, and dual from then on; dual with a generalized cone */
+enum { CLARABEL, PATH, NONE }; /* barriers' sum below 1, as clarabel has it; below 1 with the cones' degrees added: 0 on the path; no cut */
+enum { TESTED, LEAST };        /* LEAST: the least of both sides' own steps, and 0.99 of it, which nobody tested: as clarabel does */
 
 typedef struct {
     double tolerance, shrink, smallest;
     int rounds, strategy, search;
-    bool whole; /* the third-order correction at the affine direction's end, not at its step */
-    bool barrier, margins,
-        verbose; /* barrier: steps are cut where they lead off the path. margins: counts what the trials of searches answer */
+    bool whole;            /* the third-order correction at the affine direction's end, not at its step */
+    int barrier;           /* where steps are cut that lead off the path */
+    bool margins, verbose; /* margins: counts what the trials of searches answer */
     void (*searched)(void *to, const SpindleCone *cone, SpindleSettings settings, const double *dz, const double *ds, const double *z,
                      const double *s, size_t n); /* each cone's part of a search; may be null */
     void *to;
@@ -40,6 +41,7 @@ typedef struct {
     bool solved;
     int rounds, rows, fill, refinements, cuts, fallbacks;
     double gap, residual, optimum;
+    double off_path;        /* the largest barriers' sum at a step's end, with the cones' degrees added */
     long tests, used, yes;  /* tests of a cone; parts of points that were used, and those among them that are a yes */
     long trials, undecided; /* with margins */
     double factorising, solving, total, by_call[CALLS]; /* seconds */

@@ -11,11 +11,13 @@
 
        plan [WORDS..]     families: log power general, all three if none is named
        machines=600 hosts=48 delays=240 gangs=12 seed=1 seeds=1     the plan; seeds=10: that many of them
-       tol=1e-6 rounds=60 shrink=0.5 smallest=0.0001                the loop; shrink is a search's factor from trial to trial, the house's is 0.5
+       tol=1e-6 rounds=60 shrink=0.5 smallest=0.0001                the loop; shrink: a search's factor from trial to trial, the house's 0.5
        strategy=dual|primal-dual|changed search=tested|least        loop.h
-       correction=step|whole barrier=1                              the third-order correction at the affine step, or at the direction's end; 0: no barrier
+       correction=step|whole                                        the third-order correction at the affine step, or at the direction's end
+       barrier=clarabel|path|none                                   loop.h
        runs=5                                                       least time of so many runs
-       margins verbose trace=PREFIX                                 counts undecided trials; a line for each round; searches kept as PREFIX-FAMILY-SEED-0001.trace .. */
+       margins verbose                                              counts undecided trials; a line for each round
+       trace=PREFIX                                                 searches kept as PREFIX-FAMILY-SEED-0001.trace .. */
 #include "loop.h"
 #include "sparse.h"
 #include <math.h>
@@ -119,7 +121,8 @@ static void into_columns(Problem *p, const Entries *a)
     free(next);
 }
 
-/* One cone more, and its first row. A cone (variable, 1, ..) has its variable in the first row; a gang's variable is its tail, `tail` rows behind. */
+/* One cone more, and its first row. A cone (variable, 1, ..) has its variable in the first row; a gang's variable is its tail, `tail` rows
+   behind. */
 static int add_cone(Problem *p, Entries *a, SpindleCone cone, double price, int tail)
 {
     int first = p->m, variable = p->n++;
@@ -203,7 +206,8 @@ static double gang_slope(const Plan *p, const double *x, int i)
     return slope;
 }
 
-/* By how much the worst condition fails: a share's slope against its prices, relative to its weight; a capacity or a limit; a price where room is left. */
+/* By how much the worst condition fails: a share's slope against its prices, relative to its weight; a capacity or a limit; a price where
+   room is left. */
 static double conditions(const Plan *p, const double *x, const double *price)
 {
     int H = p->hosts;
@@ -228,7 +232,8 @@ static double conditions(const Plan *p, const double *x, const double *price)
     return worst;
 }
 
-/* What Order 5's margin of 2^-30 leaves of the gap: degree * 2^-30 * (the largest <s,z> of a power cone's tail) / max(1, |optimum|). docs/FINDINGS.md, 1 */
+/* What Order 5's margin of 2^-30 leaves of the gap: degree * 2^-30 * (the largest <s,z> of a power cone's tail) / max(1, |optimum|).
+   docs/FINDINGS.md, 1 */
 static double margin_floor(const Problem *p, const Outcome *r)
 {
     double stake = 0;
@@ -386,6 +391,7 @@ static Options options_of_words(void)
 {
     static const char *const strategies[] = {"dual", "primal-dual", "changed", NULL};
     static const char *const searches[] = {"tested", "least", NULL}, *const corrections[] = {"step", "whole", NULL};
+    static const char *const barriers[] = {"clarabel", "path", "none", NULL};
     SpindleSettings house = spindle_house_settings(1);
     return (Options){.tolerance = number("tol", "1e-6"),
                      .shrink = has("shrink") ? number("shrink", "") : house.step,
@@ -394,7 +400,7 @@ static Options options_of_words(void)
                      .strategy = choice("strategy", strategies),
                      .search = choice("search", searches),
                      .whole = choice("correction", corrections),
-                     .barrier = number("barrier", "1") > 0,
+                     .barrier = choice("barrier", barriers),
                      .margins = has("margins"),
                      .verbose = has("verbose")};
 }
@@ -435,6 +441,8 @@ int main(int count, char **list)
     Options o = options_of_words();
     bool every = !has("log") && !has("power") && !has("general"), good = true, shown[3] = {false};
     int first = (int)number("seed", "1"), seeds = (int)number("seeds", "1");
+    int cuts = 0;
+    double off_path = 0;
     Outcome last[3];
 
     printf("| Family | seed | cones | end | rounds | tests of a cone | ms | in the library | outside | used parts that are a yes | gap | "
@@ -447,6 +455,8 @@ int main(int count, char **list)
             if (shown[f]) free_outcome(last + f);
             last[f] = one_plan(families[f], seed, o);
             good = good && last[f].solved && last[f].yes == last[f].used;
+            cuts += last[f].cuts;
+            off_path = fmax(off_path, last[f].off_path);
             shown[f] = true;
         }
     }
@@ -455,5 +465,6 @@ int main(int count, char **list)
     for (int f = 0; f < 3; f++) {
         if (shown[f]) show_times(families[f], last + f);
     }
+    printf("\nSteps cut in all: %d. Barriers' sum above the path's, at most: %.1f.\n", cuts, off_path);
     return good ? 0 : 1;
 }

@@ -383,7 +383,8 @@ pub extern "C" fn spindle_trace_record(trace: &[u8], i: u32) -> Recorded
     trace::value::record(trace, i)
 }
 
-// ---- the same record by record, as searches are made: each call judges only what it touches
+// ---- the same record by record, as searches are made: each call judges only what it touches. Put's contract says beside the equation what
+// append's does
 
 #[no_mangle]
 pub extern "C" fn spindle_record_put(
@@ -399,9 +400,11 @@ pub extern "C" fn spindle_record_put(
     s: &[f64],
     steps: Steps,
 ) -> Written
-    ensures { λ r. ⌜ record { answer = r; bytes = now (bytes .exit) }
+    ensures { λ r. ⌜ (record { answer = r; bytes = now (bytes .exit) }
         ≡ recordPutOf (now (bytes .entry)) at edition cone flag settings
-        (now (dz .entry)) (now (ds .entry)) (now (z .entry)) (now (s .entry)) steps ⌝ }
+        (now (dz .entry)) (now (ds .entry)) (now (z .entry)) (now (s .entry)) steps)
+        × AllBelow 256 (now (bytes .entry))
+        × Passed cone flag settings (now (dz .entry)) (now (ds .entry)) (now (z .entry)) (now (s .entry)) steps ⌝ }
 {
     trace::recording::put(
         bytes,

@@ -160,7 +160,7 @@ pub trace-record-agrees : OneAnswer trace-record.Post
 trace-record-agrees κs a x y s t p q = p ∙ sym q
 
 pub record-put-agrees : OneOutcome record-put.Post {A = List ℕ} (λ κs s. now (s .0))
-record-put-agrees κs a x y s t p q = left (p ∙ sym q)
+record-put-agrees κs a x y s t p q = left (p .0 ∙ sym (q .0))
 
 pub record-at-agrees : OneAnswer record-at.Post
 record-at-agrees κs a x y s t p q = p ∙ sym q

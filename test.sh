@@ -140,7 +140,7 @@ listed=$(tools/edits --list) || die "an edit is not in its form:
 $(printf '%s\n' "$listed" | grep WRONG)"
 printf '%s\n' "$listed" | tail -n 1
 
-say "docs/PROMISES.md and the header have the proved table of numbers"
+say "docs/PROMISES.md and the header's comments name the numbers of the proved table"
 tools/numbers --check || die "docs/PROMISES.md or include/spindle.h differs from the proved table of numbers"
 
 say "every edit and every name of the code that the papers cite is there"

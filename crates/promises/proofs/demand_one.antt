@@ -1,6 +1,6 @@
--- A refusal is the literal one of specs/demand_one/Refusals (Refusals); the unit start is finite (UnitStart); the numbers that a call can
--- give are those of its row (Numbers); and of these, numbers that are given (Cases).
+-- A refusal is the literal one of specs/Refusals (Refusals); the unit start is finite (UnitStart); the numbers that a call can give are
+-- those of its row (Numbers), and each of these but 6 and 7 is given (Given).
 pub mod Refusals
 pub mod UnitStart
 pub mod Numbers
-pub mod Cases
+pub mod Given

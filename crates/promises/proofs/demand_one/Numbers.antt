@@ -2,13 +2,14 @@
 -- again. Assumes nothing.
 use Prim.Native.Nat.{ℕ, zero, suc}
 use mathlib.Core.Path.{_≡_, refl, sym, ap, _∙_, subst}
-use mathlib.Core.Bool.{Bool, true, false, cond, not, _&&_}
+use mathlib.Core.Bool.{Bool, true, false, cond, not, _&&_, _||_}
 use mathlib.Core.List.{List, [], _∷_}
 use lib.Dec.{eqb, ltb}
 use lib.Ieee.{Float}
 use lib.Ieee.Scale.{finite}
 use lib.ListN.{length, drop}
-use Rattle.arith.proofs.Branches.{false-not-true}
+use borrow.Author.Tests.{eqb-true}
+use Rattle.arith.proofs.Branches.{false-not-true, and-left, and-right}
 use Rattle.cone.specs.declared.Cone.{Cone}
 use Rattle.cone.specs.declared.verdict.Verdict.{Verdict}
 use Rattle.cone.specs.declared.Updated.{Updated}
@@ -57,16 +58,25 @@ use Rattle.trace_sheet.specs.counts.Sheet.{sheetOf}
 use Rattle.trace_sheet.specs.rows.Rows as rows
 use Rattle.trace_sheet.proofs.rows.Named.{sheet-named}
 use Rattle.trace_sheet.specs.text.Printed as text
-use Rattle.promises.specs.rules.Entries.{Entry, call, codeOf, withCone, fresh, isPrimalFeasible, isDualFeasible, barrierDual, dualGradH}
-use Rattle.promises.specs.rules.Entries.{unitInitialization, rectifyEquilibration, affineDs, dsFromDzOffset, backtrackSearch, stepLength}
+use Rattle.promises.specs.rules.Entries.{Entry, call, codeOf, withCone, fresh, isPrimalFeasible, isDualFeasible, barrierDual}
+use Rattle.promises.specs.rules.Entries.{dualGradH}
+use Rattle.promises.specs.rules.Entries.{unitInitialization, rectifyEquilibration, affineDs, dsFromDzOffset, backtrackSearch}
+use Rattle.promises.specs.rules.Entries.{stepLength}
 use Rattle.promises.specs.rules.Entries.{updateScaling, gradientPrimal, barrierPrimal, computeBarrier}
 use Rattle.promises.specs.rules.Entries.{getHs, mulHs, higherCorrection, combinedDsShift}
-use Rattle.promises.specs.demand_one.Calls.{made, numberIn, entry, commonStep, planStep, traceCreate, traceAppend, traceOpen}
-use Rattle.promises.specs.demand_one.Calls.{traceRecord, recordPut, recordAt, traceSeal, replay, rescue, thin, thinInPlace, sheetAdd, sheetJoin, sheetText}
-use Rattle.promises.specs.demand_one.Numbers.{ofEntry, numbersOf, among, OnlyThese}
+use Rattle.promises.specs.demand_one.Calls.{made, numberIn, numberOf, entry, commonStep, planStep, traceCreate, traceAppend}
+use Rattle.promises.specs.demand_one.Calls.{traceOpen}
+use Rattle.promises.specs.demand_one.Calls.{traceRecord, recordPut, recordAt, traceSeal, replay, rescue, thin, thinInPlace}
+use Rattle.promises.specs.demand_one.Calls.{sheetAdd, sheetJoin, sheetText}
+use Rattle.promises.specs.demand_one.Numbers.{ofEntry, numbersOf, among, OnlyThese, NotFiveSixSeven, TestsAndSearches}
 use Rattle.promises.proofs.demand_one.UnitStart.{unit-done}
 
 -- ---- a row of numbers
+
+-- a number of a row is its first, or one of the others
+pub first-or : (P : ℕ → Type 0) (k n : ℕ) (b rest : Bool) → eqb k n ≡ b → (b || rest) ≡ true → P n → (rest ≡ true → P k) → P k
+first-or P k n true rest e h here later = subst P (sym (eqb-true k n e)) here
+first-or P k n false rest e h here later = later h
 
 module _ (ns : List ℕ) where
   abbrev In : ℕ → Type 0
@@ -150,207 +160,226 @@ module _ (ns : List ℕ) where
     unfolding lastRows
     last-rows six a = row (a .panics) 6 _ (λ e. six) (either (λ (k : ℕ). k) (recordFinite (a .scaling)) 0 7 zero-in seven)
 
--- ---- the rows of the entries, with 0
-
-abbrev read : List ℕ
-read = 0 ∷ 1 ∷ 2 ∷ 3 ∷ []
-
-abbrev searched : List ℕ
-searched = 0 ∷ 1 ∷ 2 ∷ 3 ∷ 4 ∷ []
-
-abbrev valued : List ℕ
-valued = 0 ∷ 1 ∷ 2 ∷ 3 ∷ 7 ∷ []
-
-abbrev ranged : List ℕ
-ranged = 0 ∷ 1 ∷ 2 ∷ 3 ∷ 6 ∷ 7 ∷ []
-
-abbrev scaled : List ℕ
-scaled = 0 ∷ 1 ∷ 2 ∷ 3 ∷ 5 ∷ 10 ∷ 7 ∷ []
-
-abbrev changed : List ℕ
-changed = 0 ∷ 1 ∷ 2 ∷ 3 ∷ 4 ∷ 11 ∷ 6 ∷ 7 ∷ []
-
-abbrev unit : List ℕ
-unit = 0 ∷ 1 ∷ 2 ∷ []
+-- ---- the entries, each by its row with 0
 
 of-entry : (e : Entry) (c : Cone) → among (codeOf (call e c)) (0 ∷ ofEntry e) ≡ true
-unfolding among call codeOf ofEntry freshFaults readFaults unitFaults copyFaults offsetFaults searchFaults stepFaults gradientRows barrierRows
-    computeRows blockRows productRows correctionRows cones.freshOf cones.isPrimalFeasibleOf cones.isDualFeasibleOf cones.barrierDualOf
-    cones.dualGradHOf cones.refuseGrad cones.unitInitializationOf cones.rectifyOf cones.rectifyEquilibrationOf cones.affineDsOf
-    cones.dsFromDzOffsetOf searches.backtrackSearchOf searches.stepLengthOf updates.updateRows updates.updateScalingOf
+unfolding among call codeOf ofEntry freshFaults readFaults unitFaults copyFaults offsetFaults searchFaults stepFaults gradientRows
+    barrierRows computeRows blockRows productRows correctionRows cones.freshOf cones.isPrimalFeasibleOf cones.isDualFeasibleOf
+    cones.barrierDualOf cones.dualGradHOf cones.refuseGrad cones.unitInitializationOf cones.rectifyOf cones.rectifyEquilibrationOf
+    cones.affineDsOf cones.dsFromDzOffsetOf searches.backtrackSearchOf searches.stepLengthOf updates.updateRows updates.updateScalingOf
     records.gradientPrimalOf records.barrierPrimalOf records.computeBarrierOf records.getHsOf records.mulHsOf records.higherCorrectionOf
     records.combinedDsShiftOf
 of-entry fresh c =
-    let ns : List ℕ = 0 ∷ 1 ∷ [] in
+    let ns : List ℕ = 0 ∷ ofEntry fresh in
     settled ns (λ (u : Updated). u .code) (λ k. record { code = k; scaling = made-fresh.freshOf emptyCone }) (λ k. refl) _ _
     (first-row ns (freshFaults c) (λ e. refl) (none ns 2) (none ns 3) (none ns 4) (none ns 11) (none ns 5) (none ns 10) refl) refl
 of-entry (isPrimalFeasible s) c =
-    settled read (λ (v : Verdict). v .code) cones.refuseVerdict (λ k. refl) _ _
-    (first-row read (readFaults c s) (λ e. refl) (λ e. refl) (λ e. refl) (none read 4) (none read 11) (none read 5) (none read 10) refl) refl
+    let ns : List ℕ = 0 ∷ ofEntry (isPrimalFeasible s) in
+    settled ns (λ (v : Verdict). v .code) cones.refuseVerdict (λ k. refl) _ _
+    (first-row ns (readFaults c s) (λ e. refl) (λ e. refl) (λ e. refl) (none ns 4) (none ns 11) (none ns 5) (none ns 10) refl) refl
 of-entry (isDualFeasible z) c =
-    settled read (λ (v : Verdict). v .code) cones.refuseVerdict (λ k. refl) _ _
-    (first-row read (readFaults c z) (λ e. refl) (λ e. refl) (λ e. refl) (none read 4) (none read 11) (none read 5) (none read 10) refl) refl
+    let ns : List ℕ = 0 ∷ ofEntry (isDualFeasible z) in
+    settled ns (λ (v : Verdict). v .code) cones.refuseVerdict (λ k. refl) _ _
+    (first-row ns (readFaults c z) (λ e. refl) (λ e. refl) (λ e. refl) (none ns 4) (none ns 11) (none ns 5) (none ns 10) refl) refl
 of-entry (barrierDual z) c =
-    let ns = valued in
+    let ns : List ℕ = 0 ∷ ofEntry (barrierDual z) in
     settled ns (λ (n : Number). n .code) refuseNumber (λ k. refl) _ _
     (first-row ns (readFaults c z) (λ e. refl) (λ e. refl) (λ e. refl) (none ns 4) (none ns 11) (none ns 5) (none ns 10) refl)
     (a-number ns refl refl _)
 of-entry (dualGradH z) c =
-    let ns = ranged in
+    let ns : List ℕ = 0 ∷ ofEntry (dualGradH z) in
     settled ns (λ (g : DualGrad). g .code) cones.refuseGrad (λ k. refl) _ _
     (first-row ns (readFaults c z) (λ e. refl) (λ e. refl) (λ e. refl) (none ns 4) (none ns 11) (none ns 5) (none ns 10) refl)
     (settled ns (λ (g : DualGrad). g .code) cones.refuseGrad (λ k. refl) _ _ (last-rows ns refl refl refl _) refl)
 of-entry (unitInitialization z s) c =
-    let ns = unit in
+    let ns : List ℕ = 0 ∷ ofEntry (unitInitialization z s) in
     settled-if ns (λ (l : LentTwo ℕ). l .answer) (refuseTwo z s) (λ k. refl) _ _
     (first-row ns (unitFaults c (length z) (length s)) (λ e. refl) (λ e. refl) (none ns 3) (none ns 4) (none ns 11) (none ns 5) (none ns 10)
     refl)
     (λ e. subst (In ns) (sym (unit-done c z s (cone-is-ok c (no-fault (unitFaults c (length z) (length s)) e .cone)))) refl)
 of-entry (rectifyEquilibration δ e) c =
-    let ns = valued in
+    let ns : List ℕ = 0 ∷ ofEntry (rectifyEquilibration δ e) in
     settled ns (λ (l : Lent ℕ). l .answer) (refuse δ) (λ k. refl) _ _
     (first-row ns (copyFaults c (length δ) e) (λ e. refl) (λ e. refl) (λ e. refl) (none ns 4) (none ns 11) (none ns 5) (none ns 10) refl)
     (published ns refl refl δ _)
 of-entry (affineDs ds s) c =
-    settled read (λ (l : Lent ℕ). l .answer) (refuse ds) (λ k. refl) _ _
-    (first-row read (copyFaults c (length ds) s) (λ e. refl) (λ e. refl) (λ e. refl) (none read 4) (none read 11) (none read 5) (none read 10)
+    let ns : List ℕ = 0 ∷ ofEntry (affineDs ds s) in
+    settled ns (λ (l : Lent ℕ). l .answer) (refuse ds) (λ k. refl) _ _
+    (first-row ns (copyFaults c (length ds) s) (λ e. refl) (λ e. refl) (λ e. refl) (none ns 4) (none ns 11) (none ns 5) (none ns 10)
     refl)
     refl
 of-entry (dsFromDzOffset out ds z) c =
-    settled read (λ (l : Lent ℕ). l .answer) (refuse out) (λ k. refl) _ _
-    (first-row read (offsetFaults c (length out) ds z) (λ e. refl) (λ e. refl) (λ e. refl) (none read 4) (none read 11) (none read 5)
-    (none read 10) refl)
+    let ns : List ℕ = 0 ∷ ofEntry (dsFromDzOffset out ds z) in
+    settled ns (λ (l : Lent ℕ). l .answer) (refuse out) (λ k. refl) _ _
+    (first-row ns (offsetFaults c (length out) ds z) (λ e. refl) (λ e. refl) (λ e. refl) (none ns 4) (none ns 11) (none ns 5)
+    (none ns 10) refl)
     refl
 of-entry (backtrackSearch primal dq q point how) c =
-    let ns = searched in
+    let ns : List ℕ = 0 ∷ ofEntry (backtrackSearch primal dq q point how) in
     settled ns (λ (l : Lent Found). l .answer .code) (searches.refuseFound point) (λ k. refl) _ _
     (first-row ns (searchFaults c dq q (length point) how) (λ e. refl) (λ e. refl) (λ e. refl) (λ e. refl) (none ns 11) (none ns 5)
     (none ns 10) refl)
     refl
 of-entry (stepLength dz ds z s dualPoint primalPoint how) c =
-    let ns = searched in
+    let ns : List ℕ = 0 ∷ ofEntry (stepLength dz ds z s dualPoint primalPoint how) in
     settled ns (λ (l : LentTwo Steps). l .answer .code) (searches.refuseSteps dualPoint primalPoint) (λ k. refl) _ _
     (first-row ns (stepFaults c dz ds z s (length dualPoint) (length primalPoint) how) (λ e. refl) (λ e. refl) (λ e. refl) (λ e. refl)
     (none ns 11) (none ns 5) (none ns 10) refl)
     refl
 of-entry (updateScaling r s z μ strategy) c =
-    let ns = changed in
+    let ns : List ℕ = 0 ∷ ofEntry (updateScaling r s z μ strategy) in
     settled ns (λ (u : Updated). u .code) (refuseUpdate (withCone c r)) (λ k. refl) _ _
     (first-row ns _ (λ e. refl) (λ e. refl) (λ e. refl) (λ e. refl) (λ e. refl) (none ns 5) (none ns 10) refl)
     (settled ns (λ (u : Updated). u .code) (refuseUpdate (withCone c r)) (λ k. refl) _ _ (last-rows ns refl refl refl _) refl)
 of-entry (gradientPrimal r g s) c =
-    let ns = ranged in
+    let ns : List ℕ = 0 ∷ ofEntry (gradientPrimal r g s) in
     settled ns (λ (l : Lent Rounds). l .answer .code) (refuseRounds g) (λ k. refl) _ _
     (first-row ns _ (λ e. refl) (λ e. refl) (λ e. refl) (none ns 4) (none ns 11) (none ns 5) (none ns 10) refl)
     (either ns (λ (l : Lent Rounds). l .answer .code) (eqb (c .kind) 3) _ _ (with-rounds ns refl refl _ g _)
     (by-panics ns refl refl refl g (three.gradientPrimalOf (c .kind) (alphaOf c) (threeOf s))))
 of-entry (barrierPrimal r s) c =
-    let ns = ranged in
+    let ns : List ℕ = 0 ∷ ofEntry (barrierPrimal r s) in
     settled ns (λ (n : Number). n .code) refuseNumber (λ k. refl) _ _
     (first-row ns _ (λ e. refl) (λ e. refl) (λ e. refl) (none ns 4) (none ns 11) (none ns 5) (none ns 10) refl)
     (judged ns refl refl refl _ _)
 of-entry (computeBarrier r z s dz ds step) c =
-    let ns = ranged in
+    let ns : List ℕ = 0 ∷ ofEntry (computeBarrier r z s dz ds step) in
     settled ns (λ (n : Number). n .code) refuseNumber (λ k. refl) _ _
     (first-row ns _ (λ e. refl) (λ e. refl) (λ e. refl) (none ns 4) (none ns 11) (none ns 5) (none ns 10) refl)
     (judged ns refl refl refl _ _)
 of-entry (getHs r serial block) c =
-    let ns = scaled in
+    let ns : List ℕ = 0 ∷ ofEntry (getHs r serial block) in
     settled ns (λ (l : Lent ℕ). l .answer) (refuse block) (λ k. refl) _ _
     (first-row ns _ (λ e. refl) (λ e. refl) (λ e. refl) (none ns 4) (none ns 11) (λ e. refl) (λ e. refl) refl)
     (either ns (λ (l : Lent ℕ). l .answer) (eqb (c .kind) 3) _ _ (published ns refl refl block _) (published ns refl refl block _))
 of-entry (mulHs r serial y x) c =
-    let ns = scaled in
+    let ns : List ℕ = 0 ∷ ofEntry (mulHs r serial y x) in
     settled ns (λ (l : Lent ℕ). l .answer) (refuse y) (λ k. refl) _ _
     (first-row ns _ (λ e. refl) (λ e. refl) (λ e. refl) (none ns 4) (none ns 11) (λ e. refl) (λ e. refl) refl)
     (either ns (λ (l : Lent ℕ). l .answer) (eqb (c .kind) 3) _ _ (published ns refl refl y _) (published ns refl refl y _))
 of-entry (higherCorrection r serial η ds v) c =
-    let ns = scaled in
+    let ns : List ℕ = 0 ∷ ofEntry (higherCorrection r serial η ds v) in
     settled ns (λ (l : Lent ℕ). l .answer) (refuse η) (λ k. refl) _ _
     (first-row ns _ (λ e. refl) (λ e. refl) (λ e. refl) (none ns 4) (none ns 11) (λ e. refl) (λ e. refl) refl)
     (published ns refl refl η _)
 of-entry (combinedDsShift r serial out stepz steps σμ) c =
-    let ns = scaled in
+    let ns : List ℕ = 0 ∷ ofEntry (combinedDsShift r serial out stepz steps σμ) in
     settled ns (λ (l : Lent ℕ). l .answer) (refuse out) (λ k. refl) _ _
     (first-row ns _ (λ e. refl) (λ e. refl) (λ e. refl) (none ns 4) (none ns 11) (λ e. refl) (λ e. refl) refl)
     (published ns refl refl out _)
 
 -- ---- the others
 
-abbrev kept : List ℕ
-kept = 0 ∷ 9 ∷ 8 ∷ []
-
-abbrev judged-only : List ℕ
-judged-only = 0 ∷ 9 ∷ []
-
-abbrev joined : List ℕ
-joined = 0 ∷ 2 ∷ 9 ∷ 8 ∷ []
-
-abbrev added : List ℕ
-added = 0 ∷ 2 ∷ 8 ∷ []
-
 -- the sheet of one file names no file but its own
-no-nine : (bs : List ℕ)
+no-nine : (bs : List ℕ) (P : Type 0)
     → let h = rows.held (sheetOf (bs ∷ [])) in
-    not (rows.namesOk (h .totals .files) (h .totals .dual) (h .totals .primal)) ≡ true → among 9 added ≡ true
+    not (rows.namesOk (h .totals .files) (h .totals .dual) (h .totals .primal)) ≡ true → P
 unfolding rows.held
-no-nine bs e = absurd (false-not-true (sym (ap not (sheet-named (bs ∷ []))) ∙ e))
+no-nine bs P e = absurd (false-not-true (sym (ap not (sheet-named (bs ∷ []))) ∙ e))
 
-opening : (bs : List ℕ) (b : Bool) → goodTrace bs ≡ b → among (openedOf bs .code) judged-only ≡ true
-unfolding openedOf openOf among
+opening : (bs : List ℕ) (b : Bool) → goodTrace bs ≡ b → among (openedOf bs .code) (0 ∷ numbersOf (traceOpen bs)) ≡ true
+unfolding openedOf openOf among numbersOf
 opening bs true e = rw e
 opening bs false e = rw e
 
 pub only-these : OnlyThese
 unfolding among made numberIn numbersOf planFaults sidesFaults plans.commonStepOf plans.planStepOf writing.createOf writing.appendRows
-    writing.appendOf recording.putRows recording.recordPutOf recording.recordAtOf recording.sealRows recording.traceSealOf value.recordedIn value.recordedOf value.refusedRecord replays.replayOf rescues.rescueOf thins.thinOf
-    thins.thinInPlaceOf rows.joinCode rows.joinOf rows.addOf rows.holding rows.totalsOf text.printOf
+    writing.appendOf recording.putRows recording.recordPutOf recording.recordAtOf recording.sealRows recording.traceSealOf
+    value.recordedIn value.recordedOf value.refusedRecord replays.replayOf rescues.rescueOf thins.thinOf thins.thinInPlaceOf rows.joinCode
+    rows.joinOf rows.addOf rows.holding rows.totalsOf text.printOf
 only-these (entry e c) = of-entry e c
 only-these (commonStep cs primal dq q point s) =
-    let ns = searched in
+    let ns : List ℕ = 0 ∷ numbersOf (commonStep cs primal dq q point s) in
     settled ns (λ (l : Lent Found). l .answer .code) (searches.refuseFound point) (λ k. refl) _ _
-    (first-row ns (planFaults cs dq q (length point) s) (λ e. refl) (λ e. refl) (λ e. refl) (λ e. refl) (none ns 11) (none ns 5) (none ns 10)
-    refl)
+    (first-row ns (planFaults cs dq q (length point) s) (λ e. refl) (λ e. refl) (λ e. refl) (λ e. refl) (none ns 11) (none ns 5)
+    (none ns 10) refl)
     refl
 only-these (planStep cs dz ds z s dualPoint primalPoint how) =
-    let ns = searched in
+    let ns : List ℕ = 0 ∷ numbersOf (planStep cs dz ds z s dualPoint primalPoint how) in
     settled ns (λ (l : LentTwo Found). l .answer .code) (plans.refuseSides dualPoint primalPoint) (λ k. refl) _ _
     (first-row ns (sidesFaults cs dz ds z s (length dualPoint) (length primalPoint) how) (λ e. refl) (λ e. refl) (λ e. refl) (λ e. refl)
     (none ns 11) (none ns 5) (none ns 10) refl)
     refl
-only-these (traceCreate bytes) = either (0 ∷ 8 ∷ []) (λ (l : writing.Left). l .answer .code) (ltb (length bytes) 20) _ _ refl refl
+only-these (traceCreate bytes) =
+    let ns : List ℕ = 0 ∷ numbersOf (traceCreate bytes) in
+    either ns (λ (l : writing.Left). l .answer .code) (ltb (length bytes) 20) _ _ refl refl
 only-these (traceAppend bytes used a) =
-    settled kept (λ (l : writing.Left). l .answer .code) (writing.refuse bytes) (λ k. refl) _ _
-    (trace-row kept _ _ (λ e. refl) (λ e. refl) refl) refl
+    let ns : List ℕ = 0 ∷ numbersOf (traceAppend bytes used a) in
+    settled ns (λ (l : writing.Left). l .answer .code) (writing.refuse bytes) (λ k. refl) _ _
+    (trace-row ns _ _ (λ e. refl) (λ e. refl) refl) refl
 only-these (traceOpen bytes) = opening bytes (goodTrace bytes) refl
 only-these (traceRecord bytes i) =
-    either judged-only (λ (r : Recorded). r .code) (goodTrace bytes && ltb i (countAt bytes)) _ _ refl refl
+    let ns : List ℕ = 0 ∷ numbersOf (traceRecord bytes i) in
+    either ns (λ (r : Recorded). r .code) (goodTrace bytes && ltb i (countAt bytes)) _ _ refl refl
 only-these (recordPut bytes at edition a) =
-    settled kept (λ (l : writing.Left). l .answer .code) (writing.refuse bytes) (λ k. refl) _ _
-    (trace-row kept _ _ (λ e. refl) (λ e. refl) refl) refl
+    let ns : List ℕ = 0 ∷ numbersOf (recordPut bytes at edition a) in
+    settled ns (λ (l : writing.Left). l .answer .code) (writing.refuse bytes) (λ k. refl) _ _
+    (trace-row ns _ _ (λ e. refl) (λ e. refl) refl) refl
 only-these (recordAt bytes edition at) =
-    either judged-only (λ (r : Recorded). r .code) (known edition && laidAt edition (drop at bytes)) _ _ refl refl
+    let ns : List ℕ = 0 ∷ numbersOf (recordAt bytes edition at) in
+    either ns (λ (r : Recorded). r .code) (known edition && laidAt edition (drop at bytes)) _ _ refl refl
 only-these (traceSeal bytes used edition) =
-    settled kept (λ (l : writing.Left). l .answer .code) (writing.refuse bytes) (λ k. refl) _ _
-    (trace-row kept _ _ (λ e. refl) (λ e. refl) refl) refl
+    let ns : List ℕ = 0 ∷ numbersOf (traceSeal bytes used edition) in
+    settled ns (λ (l : writing.Left). l .answer .code) (writing.refuse bytes) (λ k. refl) _ _
+    (trace-row ns _ _ (λ e. refl) (λ e. refl) refl) refl
 only-these (replay bytes offsets) =
-    settled kept (λ (l : replays.Noted). l .answer .code) (replays.refuse offsets) (λ k. refl) _ _
-    (trace-row kept _ _ (λ e. refl) (λ e. refl) refl) refl
+    let ns : List ℕ = 0 ∷ numbersOf (replay bytes offsets) in
+    settled ns (λ (l : replays.Noted). l .answer .code) (replays.refuse offsets) (λ k. refl) _ _
+    (trace-row ns _ _ (λ e. refl) (λ e. refl) refl) refl
 only-these (rescue input output edition) =
-    settled kept (λ (l : rescues.Saved). l .answer .code) (rescues.refuse output) (λ k. refl) _ _
-    (trace-row kept _ _ (λ e. refl) (λ e. refl) refl) refl
+    let ns : List ℕ = 0 ∷ numbersOf (rescue input output edition) in
+    settled ns (λ (l : rescues.Saved). l .answer .code) (rescues.refuse output) (λ k. refl) _ _
+    (trace-row ns _ _ (λ e. refl) (λ e. refl) refl) refl
 only-these (thin bytes output) =
-    settled kept (λ (l : thins.Left). l .answer .code) (thins.refuse output) (λ k. refl) _ _
-    (trace-row kept _ _ (λ e. refl) (λ e. refl) refl) refl
+    let ns : List ℕ = 0 ∷ numbersOf (thin bytes output) in
+    settled ns (λ (l : thins.Left). l .answer .code) (thins.refuse output) (λ k. refl) _ _
+    (trace-row ns _ _ (λ e. refl) (λ e. refl) refl) refl
 only-these (thinInPlace bytes) =
-    settled judged-only (λ (l : thins.Left). l .answer .code) (thins.refuse bytes) (λ k. refl) _ _
-    (trace-row judged-only _ _ (λ e. refl) (none judged-only 8) refl) refl
+    let ns : List ℕ = 0 ∷ numbersOf (thinInPlace bytes) in
+    settled ns (λ (l : thins.Left). l .answer .code) (thins.refuse bytes) (λ k. refl) _ _
+    (trace-row ns _ _ (λ e. refl) (none ns 8) refl) refl
 only-these (sheetAdd h file) =
-    settled added (λ (l : rows.Held). l .totals .code) (rows.refuse h) (λ k. refl) _ _
-    (sheet-row added _ _ _ refl (no-nine file) refl refl) refl
+    let ns : List ℕ = 0 ∷ numbersOf (sheetAdd h file) in
+    settled ns (λ (l : rows.Held). l .totals .code) (rows.refuse h) (λ k. refl) _ _
+    (sheet-row ns _ _ _ refl (no-nine file _) refl refl) refl
 only-these (sheetJoin h second) =
-    settled joined (λ (l : rows.Held). l .totals .code) (rows.refuse h) (λ k. refl) _ _
-    (sheet-row joined _ _ _ refl (λ e. refl) refl refl) refl
+    let ns : List ℕ = 0 ∷ numbersOf (sheetJoin h second) in
+    settled ns (λ (l : rows.Held). l .totals .code) (rows.refuse h) (λ k. refl) _ _
+    (sheet-row ns _ _ _ refl (λ e. refl) refl refl) refl
 only-these (sheetText bytes h) =
-    settled joined (λ (l : text.Told). l .answer .code) (text.refuse bytes) (λ k. refl) _ _
-    (sheet-row joined _ _ _ refl (λ e. refl) refl refl) refl
+    let ns : List ℕ = 0 ∷ numbersOf (sheetText bytes h) in
+    settled ns (λ (l : text.Told). l .answer .code) (text.refuse bytes) (λ k. refl) _ _
+    (sheet-row ns _ _ _ refl (λ e. refl) refl refl) refl
+
+-- ---- rows without 5, 6 and 7
+
+unfoldable none-late : List ℕ → Bool
+none-late [] = true
+none-late (n ∷ ns) = not (among n (5 ∷ 6 ∷ 7 ∷ [])) && none-late ns
+
+of-not : (b : Bool) → not b ≡ true → b ≡ false
+of-not true h = sym h
+of-not false h = refl
+
+not-late : (ns : List ℕ) → none-late ns ≡ true → (k : ℕ) → among k ns ≡ true → NotFiveSixSeven k
+unfolding none-late among
+not-late [] n k h = absurd (false-not-true h)
+not-late (m ∷ ns) n k h =
+    let late = among m (5 ∷ 6 ∷ 7 ∷ []) in
+    first-or NotFiveSixSeven k m (eqb k m) (among k ns) refl h (of-not late (and-left (not late) (none-late ns) n))
+    (λ rest. not-late ns (and-right (not late) (none-late ns) n) k rest)
+
+pub tests-and-searches : TestsAndSearches
+unfolding none-late among ofEntry numbersOf
+tests-and-searches = record {
+  primal-test = λ c s. let a = entry (isPrimalFeasible s) c in not-late (0 ∷ numbersOf a) refl (numberOf a) (only-these a);
+  dual-test = λ c z. let a = entry (isDualFeasible z) c in not-late (0 ∷ numbersOf a) refl (numberOf a) (only-these a);
+  backtrack-search = λ c primal dq q point how.
+      let a = entry (backtrackSearch primal dq q point how) c in not-late (0 ∷ numbersOf a) refl (numberOf a) (only-these a);
+  step-length = λ c dz ds z s dualPoint primalPoint how.
+      let a = entry (stepLength dz ds z s dualPoint primalPoint how) c in not-late (0 ∷ numbersOf a) refl (numberOf a) (only-these a);
+  common-step = λ cs primal dq q point how.
+      let a = commonStep cs primal dq q point how in not-late (0 ∷ numbersOf a) refl (numberOf a) (only-these a);
+  plan-step = λ cs dz ds z s dualPoint primalPoint how.
+      let a = planStep cs dz ds z s dualPoint primalPoint how in not-late (0 ∷ numbersOf a) refl (numberOf a) (only-these a);
+}

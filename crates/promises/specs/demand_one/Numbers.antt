@@ -1,18 +1,23 @@
--- Which numbers each call can give at all, a row for each call, 0 aside. 01, "Numbers handed back". Definitions, and the statement;
--- proofs/demand_one/Numbers proves it.
+-- Which numbers each call can give at all, a row for each call, 0 aside. 01, "Numbers handed back". Definitions and statements;
+-- proofs/Numbers and proofs/Given prove them.
 use Prim.Native.Nat.{ℕ}
 use mathlib.Core.Path.{_≡_}
-use mathlib.Core.Bool.{Bool, true, false, _||_}
+use mathlib.Core.Bool.{Bool, true, false, cond, _||_}
 use mathlib.Core.List.{List, [], _∷_}
 use lib.Dec.{eqb}
+use lib.Ieee.{Float}
+use Rattle.cone.specs.declared.Cone.{Cone}
+use Rattle.cone.specs.declared.Settings.{Settings}
 use Rattle.promises.specs.rules.Entries.{Entry, fresh, isPrimalFeasible, isDualFeasible, barrierDual, dualGradH}
-use Rattle.promises.specs.rules.Entries.{unitInitialization, rectifyEquilibration, affineDs, dsFromDzOffset, backtrackSearch, stepLength}
+use Rattle.promises.specs.rules.Entries.{unitInitialization, rectifyEquilibration, affineDs, dsFromDzOffset, backtrackSearch}
+use Rattle.promises.specs.rules.Entries.{stepLength}
 use Rattle.promises.specs.rules.Entries.{updateScaling, gradientPrimal, barrierPrimal, computeBarrier}
 use Rattle.promises.specs.rules.Entries.{getHs, mulHs, higherCorrection, combinedDsShift}
 use Rattle.promises.specs.demand_one.Calls.{Call, numberOf, entry, commonStep, planStep, traceCreate, traceAppend, traceOpen}
-use Rattle.promises.specs.demand_one.Calls.{traceRecord, recordPut, recordAt, traceSeal, replay, rescue, thin, thinInPlace, sheetAdd, sheetJoin, sheetText}
+use Rattle.promises.specs.demand_one.Calls.{traceRecord, recordPut, recordAt, traceSeal, replay, rescue, thin, thinInPlace}
+use Rattle.promises.specs.demand_one.Calls.{sheetAdd, sheetJoin, sheetText}
 
--- 01: "Feasibility and step search take a cone and no record, and never give 5, 6 or 7". The numbers stand in the table's order
+-- the numbers stand in the order of 01's table
 unfoldable pub ofEntry : Entry → List ℕ
 ofEntry fresh = 1 ∷ []
 ofEntry (isPrimalFeasible s) = 1 ∷ 2 ∷ 3 ∷ []
@@ -58,6 +63,75 @@ unfoldable pub among : ℕ → List ℕ → Bool
 among k [] = false
 among k (n ∷ ns) = eqb k n || among k ns
 
--- the statement
+-- a call gives no other number than those of its row
 abbrev pub OnlyThese : Type 0
 OnlyThese = (a : Call) → among (numberOf a) (0 ∷ numbersOf a) ≡ true
+
+-- ---- no row lists a number for nothing
+
+-- which call it is, whatever its arguments: the place of its row
+unfoldable pub placeOf : Entry → ℕ
+placeOf fresh = 0
+placeOf (isPrimalFeasible s) = 1
+placeOf (isDualFeasible z) = 2
+placeOf (barrierDual z) = 3
+placeOf (dualGradH z) = 4
+placeOf (unitInitialization z s) = 5
+placeOf (rectifyEquilibration δ e) = 6
+placeOf (affineDs ds s) = 7
+placeOf (dsFromDzOffset out ds z) = 8
+placeOf (backtrackSearch primal dq q point how) = 9
+placeOf (stepLength dz ds z s dualPoint primalPoint how) = 10
+placeOf (updateScaling r s z μ strategy) = 11
+placeOf (gradientPrimal r g s) = 12
+placeOf (barrierPrimal r s) = 13
+placeOf (computeBarrier r z s dz ds step) = 14
+placeOf (getHs r serial block) = 15
+placeOf (mulHs r serial y x) = 16
+placeOf (higherCorrection r serial η ds v) = 17
+placeOf (combinedDsShift r serial out stepz steps σμ) = 18
+
+unfoldable pub rowOf : Call → ℕ
+rowOf (entry e c) = placeOf e
+rowOf (commonStep cs primal dq q point s) = 19
+rowOf (planStep cs dz ds z s dualPoint primalPoint how) = 20
+rowOf (traceCreate bytes) = 21
+rowOf (traceAppend bytes used a) = 22
+rowOf (traceOpen bytes) = 23
+rowOf (traceRecord bytes i) = 24
+rowOf (recordPut bytes at edition a) = 25
+rowOf (recordAt bytes edition at) = 26
+rowOf (traceSeal bytes used edition) = 27
+rowOf (replay bytes offsets) = 28
+rowOf (rescue input output edition) = 29
+rowOf (thin bytes output) = 30
+rowOf (thinInPlace bytes) = 31
+rowOf (sheetAdd h file) = 32
+rowOf (sheetJoin h second) = 33
+rowOf (sheetText bytes h) = 34
+
+-- the numbers of a row that the arguments alone decide. 6 and 7 are found where an answer is computed
+unfoldable pub decided : List ℕ → List ℕ
+decided [] = []
+decided (k ∷ ks) = cond (eqb k 6 || eqb k 7) (decided ks) (k ∷ decided ks)
+
+-- each of them is given by some call of that row
+abbrev pub AllGiven : Type 0
+AllGiven = (a : Call) (k : ℕ) → among k (decided (numbersOf a)) ≡ true → (b : Call) × (rowOf b ≡ rowOf a) × (numberOf b ≡ k)
+
+-- ---- 01: "Feasibility and step search take a cone and no record, and never give 5, 6 or 7"
+
+abbrev pub NotFiveSixSeven : ℕ → Type 0
+NotFiveSixSeven k = among k (5 ∷ 6 ∷ 7 ∷ []) ≡ false
+
+pub record TestsAndSearches : Type 0 where
+  pub primal-test : (c : Cone) (s : List Float) → NotFiveSixSeven (numberOf (entry (isPrimalFeasible s) c))
+  pub dual-test : (c : Cone) (z : List Float) → NotFiveSixSeven (numberOf (entry (isDualFeasible z) c))
+  pub backtrack-search : (c : Cone) (primal : Bool) (dq q point : List Float) (how : Settings)
+      → NotFiveSixSeven (numberOf (entry (backtrackSearch primal dq q point how) c))
+  pub step-length : (c : Cone) (dz ds z s dualPoint primalPoint : List Float) (how : Settings)
+      → NotFiveSixSeven (numberOf (entry (stepLength dz ds z s dualPoint primalPoint how) c))
+  pub common-step : (cs : List Cone) (primal : Bool) (dq q point : List Float) (how : Settings)
+      → NotFiveSixSeven (numberOf (commonStep cs primal dq q point how))
+  pub plan-step : (cs : List Cone) (dz ds z s dualPoint primalPoint : List Float) (how : Settings)
+      → NotFiveSixSeven (numberOf (planStep cs dz ds z s dualPoint primalPoint how))

@@ -63,7 +63,8 @@ module _ (cs : List Cone) (dual primal : List Float) where
       record {
         both-if-each = λ h. both-pass (d .all-if-each (λ i l. h i l .0)) (p .all-if-each (λ i l. h i l .1));
         each-if-both = λ e i l. (d .each-if-all (dual-passed cs dual primal e) i l, p .each-if-all (primal-passed cs dual primal e) i l);
-        tests-of-both = λ e. tests-on (dual-passed cs dual primal e) _ (p .tests-of-all (primal-passed cs dual primal e)) ∙ twice (length cs);
+        tests-of-both =
+            λ e. tests-on (dual-passed cs dual primal e) _ (p .tests-of-all (primal-passed cs dual primal e)) ∙ twice (length cs);
         tests-to-dual = tests-end;
         tests-to-primal = λ i e f. tests-on e _ (p .tests-to-first i f);
       }
@@ -72,7 +73,7 @@ module _ (cs : List Cone) (dual primal : List Float) where
       twice n = omega arith
 
 module _ (cs : List Cone) (dz ds z s : List Float) (how : Settings) (ok : Usable how) where
-  -- "Single tests are counted, at most 2 · cones · the bound of one search"
+  -- 01: "Single tests are counted, at most 2 · cones · the bound of one search"
   pub sides-at-most : costedOf (sidesOf cs dz ds z s how) .count ≤ 2 * length cs * bound how
   sides-at-most =
       largest-passing (sidesOf cs dz ds z s how) ok .tests-bounded (2 * length cs) (λ p. both-most cs _ _)

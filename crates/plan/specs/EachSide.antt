@@ -23,11 +23,11 @@ abbrev pub PassesBoth : List Cone → List Float → List Float → ℕ → Type
 PassesBoth cs dual primal i = (partPasses cs false dual i ≡ true) × (partPasses cs true primal i ≡ true)
 
 pub record BothInOrder (cs : List Cone) (dual primal : List Float) : Type 0 where
-  -- "at which every cone passes on both sides"
+  -- 01: "at which every cone passes on both sides"
   pub both-if-each : ((i : ℕ) → i < length cs → PassesBoth cs dual primal i) → bothPass cs dual primal ≡ true
   pub each-if-both : bothPass cs dual primal ≡ true → (i : ℕ) → i < length cs → PassesBoth cs dual primal i
-  -- "in list order on the dual side, then in list order on the primal side, and it ends at the first test that fails": the position of that
-  -- test, from 1, is the number of tests
+  -- 01: "in list order on the dual side, then in list order on the primal side, and it ends at the first test that fails": the position
+  -- of that test, from 1, is the number of tests
   pub tests-of-both : bothPass cs dual primal ≡ true → bothTests cs dual primal ≡ 2 * length cs
   pub tests-to-dual : (i : ℕ) → FirstFailing cs false dual i → bothTests cs dual primal ≡ suc i
   pub tests-to-primal : (i : ℕ) → allPass cs false dual ≡ true → FirstFailing cs true primal i

@@ -15,12 +15,12 @@ use Rattle.search.specs.Points.{trialPoint}
 use Rattle.plan.specs.declared.Tested.{Tested}
 use Rattle.plan.specs.Plans.{totalOf, allPass, testsOf}
 
--- every cone passes on its part of the dual point and on its part of the primal one
+-- 01: "at which every cone passes on both sides": on its part of the dual point and on its part of the primal one
 unfoldable pub bothPass : List Cone → List Float → List Float → Bool
 bothPass cs dual primal = cond (allPass cs false dual) (allPass cs true primal) false
 
--- "At a trial the cones are tested in list order on the dual side, then in list order on the primal side, and it ends at the first test
--- that fails." How many single tests that are
+-- 01: "At a trial the cones are tested in list order on the dual side, then in list order on the primal side, and it ends at the first
+-- test that fails." How many single tests that are
 unfoldable pub bothTests : List Cone → List Float → List Float → ℕ
 bothTests cs dual primal = testsOf cs false dual + cond (allPass cs false dual) (testsOf cs true primal) 0
 
@@ -57,7 +57,7 @@ sidesProblem cs dz ds z s how = record {
   how = how;
 }
 
--- single tests are counted
+-- 01: "Single tests are counted"
 abbrev pub sidesOf : List Cone → List Float → List Float → List Float → List Float → Settings → Costed
 sidesOf cs dz ds z s how =
     record { problem = sidesProblem cs dz ds z s how; cost = λ (p : List Float). bothTests cs (dualSide cs p) (primalSide cs p) }

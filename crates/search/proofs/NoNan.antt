@@ -28,7 +28,7 @@ finite-number nan e = e
 finite-number (inf s) e = refl
 finite-number (fin s m k) e = refl
 
-finite-numbers : (q : List Float) → allFinite q ≡ true → allNumbers q ≡ true
+pub finite-numbers : (q : List Float) → allFinite q ≡ true → allNumbers q ≡ true
 unfolding allOf
 finite-numbers [] f = refl
 finite-numbers (x ∷ q) f =

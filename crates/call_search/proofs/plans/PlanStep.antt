@@ -2,23 +2,21 @@
 -- are usable. Assumes nothing.
 use mathlib.Core.Path.{_≡_, refl, sym, ap, subst, _∙_}
 use mathlib.Core.Logic.{_⊎_, inl, inr}
-use mathlib.Core.Bool.{true, false, not}
+use mathlib.Core.Bool.{true, false}
 use mathlib.Core.List.{List, [], _∷_}
 use Prim.Native.Nat.{ℕ, zero, suc}
-use lib.Ieee.{Float, nan, inf, fin, isNan}
-use lib.Ieee.Scale.{finite}
+use lib.Ieee.{Float}
 use lib.Ieee.Positive.{positive-finite}
 use lib.ListN.{length, take-append-drop}
 use denote.Ref.{now}
 use denote.Triple.Clauses.{AtExit}
 use contract.Lifetimes.{Lfts}
 use borrow.Fn.Kinds.{Dens, GoodsP, resT, endedOf}
-use Rattle.arith.proofs.Branches.{and-left, and-right, and-both}
 use Rattle.cone.specs.declared.Cone.{Cone}
 use Rattle.cone.specs.declared.Settings.{Settings}
 use Rattle.cone.specs.declared.Found.{Found}
 use Rattle.cone.specs.declared.Steps.{Steps}
-use Rattle.judges.specs.Judges.{allOf, allFinite}
+use Rattle.judges.specs.Judges.{allFinite}
 use Rattle.judges.specs.Refusals.{LentTwo}
 use Rattle.cone.specs.table.Table.{settle}
 use Rattle.cone.proofs.table.Settled.{done}
@@ -35,7 +33,7 @@ use Rattle.search.specs.Points.{trialPoint, allNumbers}
 use Rattle.search.specs.Problems.{problemOf}
 use Rattle.search.proofs.Points.{length-point}
 use Rattle.search.proofs.Settings.{of-true, usable-of}
-use Rattle.search.proofs.NoNan.{searched-step, point-numbers}
+use Rattle.search.proofs.NoNan.{finite-numbers, searched-step, point-numbers}
 use Rattle.call_search.specs.single.Rows.{stepFaults, stepRows}
 use Rattle.call_search.specs.single.Entries.{found, refuseFound, bothFound, refuseSteps, stepLengthOf}
 use Rattle.call_search.specs.single.Demand3.{Doubles}
@@ -53,18 +51,6 @@ use Rattle.call_search.proofs.plans.LetThrough.{finite-slices, each-sid
 use Rattle.call_search.proofs.plans.OneCone.{ok-one, total-one}
 use Rattle.call_search.proofs.plans.plan_step.Kinds as kinds
 use Rattle.call_search.proofs.plans.plan_step.Reads as step
-
-finite-number : (x : Float) → finite x ≡ true → not (isNan x) ≡ true
-unfolding isNan
-finite-number nan e = e
-finite-number (inf s) e = refl
-finite-number (fin s m k) e = refl
-
-finite-numbers : (q : List Float) → allFinite q ≡ true → allNumbers q ≡ true
-unfolding allOf
-finite-numbers [] f = refl
-finite-numbers (x ∷ q) f =
-    and-both _ _ (finite-number x (and-left (finite x) (allFinite q) f)) (finite-numbers q (and-right (finite x) (allFinite q) f))
 
 -- ---- how the search ends
 
@@ -143,7 +129,8 @@ module _ (cs : List Cone) (dz ds z s dualPoint primalPoint : List Float) (settin
       }
 
   -- the searches of both sides, and of each
-  searched-beside : Beside (costedOf C .step) (costedOf (planOf cs false dz z settings) .step) (costedOf (planOf cs true ds s settings) .step)
+  searched-beside :
+      Beside (costedOf C .step) (costedOf (planOf cs false dz z settings) .step) (costedOf (planOf cs true ds s settings) .step)
   searched-beside =
       let ready = both-plannable cs dz ds z s dualPoint primalPoint settings e .0 in
       beside-two cs dz ds z s settings usable (ready .searchable .dq-length) (ready .lengths-add-up)

@@ -34,11 +34,12 @@ foundOnSides l = record {
   second = l .second;
 }
 
--- 01: "A refusal returns zeros for all numbers"
+-- 01: "A refusal returns zeros for all numbers", "changes no lent buffer"
 abbrev pub refuseSides : List Float → List Float → ℕ → LentTwo Found
 refuseSides dualPoint primalPoint k =
     record { answer = record { code = k; count = 0; step = #0 }; first = dualPoint; second = primalPoint }
 
+-- 01: "One step for both sides of a plan"
 unfoldable pub planStepOf
     : List Cone → List Float → List Float → List Float → List Float → List Float → List Float → Settings → LentTwo Found
 planStepOf cs dz ds z s dualPoint primalPoint settings =

@@ -24,13 +24,13 @@ use Rattle.plan.specs.EachSide.{PassesBoth, Beside}
 use Rattle.call_search.specs.plans.Entries.{commonStepOf, planStepOf}
 
 module _ (cs : List Cone) (dz ds z s : List Float) (settings : Settings) where
-  -- "Both lent points hold what was tested": the two points of the step, and each cone passes on both of its parts
+  -- 01: "Both lent points hold what was tested": the two points of the step, and each cone passes on both of its parts
   pub record HoldsTested (l : LentTwo Found) : Type 0 where
     pub dual-point : l .first ≡ trialPoint z dz (l .answer .step)
     pub primal-point : l .second ≡ trialPoint s ds (l .answer .step)
     pub each-passes : (i : ℕ) → i < length cs → PassesBoth cs (l .first) (l .second) i
 
-  -- "or z and s for zero": at no allowed trial do all pass on both sides
+  -- 01: "or z and s for zero": at no allowed trial do all pass on both sides
   pub record HoldsStart (l : LentTwo Found) : Type 0 where
     pub step-zero : l .answer .step ≡ #0
     pub dual-point : l .first ≡ z
@@ -38,13 +38,13 @@ module _ (cs : List Cone) (dz ds z s : List Float) (settings : Settings) where
     pub none-passes : NonePasses (sidesProblem cs dz ds z s settings)
 
   pub record BothAsOrdered (l : LentTwo Found) : Type 0 where
-    -- "the largest trial, in the same sequence as for one cone, at which every cone passes on both sides; zero exactly if there is none":
-    -- of the search whose point is the dual one and the primal one behind it
+    -- 01: "the largest trial, in the same sequence as for one cone, at which every cone passes on both sides; zero exactly if there is
+    -- none": of the search whose point is the dual one and the primal one behind it
     pub largest-passing : LargestPassing (sidesOf cs dz ds z s settings) (outcomeOf (l .answer) (l .first ++ l .second))
     -- a trial passes there as both sides' points of that trial pass
     pub trial-passes : (α : Float) → passesAt (sidesProblem cs dz ds z s settings) α ≡ bothPass cs (trialPoint z dz α) (trialPoint s ds α)
     pub tested-or-start : HoldsTested l ⊎ HoldsStart l
-    -- "Single tests are counted, at most 2 · cones · the bound of one search"
+    -- 01: "Single tests are counted, at most 2 · cones · the bound of one search"
     pub tests-at-most : l .answer .count ≤ 2 * length cs * bound settings
     -- none of the numbers is a NaN, so that their bits are determined
     pub step-number : not (isNan (l .answer .step)) ≡ true

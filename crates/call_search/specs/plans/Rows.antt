@@ -30,7 +30,7 @@ planFaults cs dq q point s =
 abbrev pub planRows : List Cone → List Float → List Float → ℕ → Settings → ℕ
 planRows cs dq q point s = firstRow (planFaults cs dq q point s)
 
--- the same for both sides of a plan with one step: every one of the six lengths is judged, and what is wrong on one side refuses both
+-- 01: "It is refused as the common step is, with every one of the six lengths judged": what is wrong on one side refuses both
 unfoldable pub sidesFaults : List Cone → List Float → List Float → List Float → List Float → ℕ → ℕ → Settings → Faults
 sidesFaults cs dz ds z s dualPoint primalPoint settings =
     let n = totalOf cs in

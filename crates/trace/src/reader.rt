@@ -1,6 +1,6 @@
 // The reader of records, for bytes of any origin: what record of an edition stands at a place, and where the next one begins. 02, Order 2:
-// "The reader keeps hold of the trace and its place between records; the engineers want the same reader for later tools". Judge, replay,
-// rescue, seal and the readers of one record run over it.
+// "The reader keeps hold of the trace and its place between records; the engineers want the same reader for later tools". The judge, replay,
+// the sheet and the readers of one record run over it, and so does the walk of `whole`, by which rescue, seal and thin find their records.
 //
 // The borrow checker covers no function over a struct that holds a slice: each of these is a thin walk proved by hand and leaves the work
 // to a covered function over the slice, the place and the edition. `current_in` and `place_in` make a Reader for one call, so that a loop

@@ -1,10 +1,10 @@
--- Laws of `firsts` (Thinning), of pieces (Pieces) and of the places of those that are chosen (Places); the loops that look for a piece
--- (Seeking), choose (Choosing), move (Moving, Sliding); and that any two outcomes agree (Agree).
+-- Laws of `firsts` (Thinning), of pieces (Pieces) and of records as pieces (Pieced); the loops that look for a piece (Seeking), move (Moving,
+-- Sliding), choose (Choosing); and that any two outcomes agree (Agree).
 pub mod Thinning
 pub mod Pieces
-pub mod Places
+pub mod Pieced
 pub mod Seeking
-pub mod Choosing
 pub mod Moving
+pub mod Choosing
 pub mod Sliding
 pub mod Agree

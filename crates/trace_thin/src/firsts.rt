@@ -1,6 +1,6 @@
-// Pieces are rows of bytes that lie end to end and say their own lengths, as the records of a trace do. The first of each kind is chosen,
-// then they are moved to the front, of another slice or of the same. 02, Order 13. Each function is over any bytes: a piece that says more
-// than there is ends where the bytes do.
+// Pieces are rows of bytes that say their own lengths, as the records of a trace do. The walk over the reader finds the places of a trace's
+// records, the first of each kind is chosen, then they are moved to the front, of another slice or of the same. 02, Order 13. A piece that
+// says more than there is ends where the bytes do.
 ghost use mathlib.Core.Path.{_≡_};
 ghost use mathlib.Core.Bool.{cond, not};
 ghost use mathlib.Core.List.{map};
@@ -8,14 +8,15 @@ ghost use Prim.Native.Nat.{_+_, _-_, _≤_, _<_};
 ghost use lib.ListN.{length, take, drop, set, replicate};
 ghost use lib.Seq.{sets};
 ghost use Rattle.octets.specs.equal_bytes.Equal.{equalBytes, among, numberOf};
-ghost use Rattle.trace_thin.specs.firsts.Pieces.{pieceAt, piecesAt, piecesIn, firstAt, joined, offsets, Ahead};
-ghost use Rattle.trace_thin.specs.firsts.Firsts.{firstPieces, placesOf, chosenOf};
+ghost use Rattle.trace_thin.specs.firsts.Pieces.{pieceAt, piecesAt, firstAt, joined, offsets, Ahead};
+ghost use Rattle.trace_thin.specs.firsts.Firsts.{startsIn, firstsIn, numbersAt, chosenOf};
 use octets::equal_bytes::number_of;
 use octets::equal_bytes::same;
 use octets::words::behind;
 use octets::words::front;
 use octets::words::u32_at;
 use trace::seal::copy;
+use trace::whole::walk;
 
 // How many pieces are chosen, and how many bytes they have.
 pub struct Chosen {
@@ -91,22 +92,32 @@ fn plus(n: usize, k: usize, so: bool) -> usize
     if so { n + k } else { n }
 }
 
-// The first of each kind among the first count pieces. Their places are left in the one row and their numbers in the other.
-pub fn choose(bytes: &[u8], count: usize, places: &mut [u64], numbers: &mut [u64]) -> Chosen
-    requires { ⌜ (count ≤ length (now places)) × (count ≤ length (now numbers)) ⌝ }
-    ensures { λ r. ⌜ (r ≡ chosenOf (piecesIn count (now (bytes .entry))))
-        × (now (places .exit) ≡ sets (now (places .entry)) 0 (placesOf (piecesIn count (now (bytes .entry)))))
-        × (now (numbers .exit) ≡ sets (now (numbers .entry)) 0 (map numberOf (firstPieces (piecesIn count (now (bytes .entry)))))) ⌝ }
+// The first of each kind among the records before the list. The walk leaves their places in the one row, the chosen ones come to its front,
+// and their numbers go to the other.
+pub fn choose(
+    bytes: &[u8],
+    list: u64,
+    edition: u32,
+    places: &mut [u64],
+    numbers: &mut [u64],
+) -> Chosen
+    requires { ⌜ (4096 ≤ length (now places)) × (4096 ≤ length (now numbers)) ⌝ }
+    ensures { λ r. ⌜ (r ≡ chosenOf (now (bytes .entry)) (firstsIn (now (bytes .entry)) list edition))
+        × (now (places .exit) ≡ sets (sets (now (places .entry)) 0 (startsIn (now (bytes .entry)) list edition)) 0
+        (firstsIn (now (bytes .entry)) list edition))
+        × (now (numbers .exit)
+        ≡ sets (now (numbers .entry)) 0 (numbersAt (now (bytes .entry)) (firstsIn (now (bytes .entry)) list edition))) ⌝ }
 {
-    let mut at = 0;
+    let walked = walk(edition, front(bytes, list as usize), places);
+    let count = walked.count;
     let mut kept = 0;
     let mut size = 0;
     for i in 0..count {
-        let n = size_at(bytes, at);
-        let new = keep(bytes, at, places, numbers, kept);
+        let place = places[i] as usize;
+        let n = size_at(bytes, place);
+        let new = keep(bytes, place, places, numbers, kept);
         kept = plus(kept, 1, new);
         size = plus(size, n, new);
-        at += n;
     }
     Chosen { kept, size }
 }

@@ -49,7 +49,13 @@ pub fn thin(trace: &[u8], output: &mut [u8]) -> Thinned
     let opened = open(trace);
     let mut places = row();
     let mut numbers = row();
-    let chosen = choose(trace, opened.count as usize, &mut places, &mut numbers);
+    let chosen = choose(
+        trace,
+        opened.list,
+        opened.edition,
+        &mut places,
+        &mut numbers,
+    );
     let kept = chosen.kept;
     let size = chosen.size;
     let length = size + 8 * kept + 20;
@@ -79,7 +85,13 @@ pub fn thin_in_place(trace: &mut [u8]) -> Thinned
     }
     let mut places = row();
     let mut numbers = row();
-    let chosen = choose(trace, opened.count as usize, &mut places, &mut numbers);
+    let chosen = choose(
+        trace,
+        opened.list,
+        opened.edition,
+        &mut places,
+        &mut numbers,
+    );
     let kept = chosen.kept;
     let size = chosen.size;
     let length = size + 8 * kept + 20;

@@ -9,7 +9,7 @@ use Rattle.trace_thin.proofs.firsts.gather.Reads as gathering
 use Rattle.trace_thin.proofs.firsts.move_down.Reads as moving
 use Rattle.trace_thin.proofs.firsts.clear.Reads as clearing
 
-pub choose-agrees : OneOutcome choosing.Post {A = List ℕ × List ℕ} (λ κs s. (now (s .1 .1 .0), now (s .1 .1 .1 .0)))
+pub choose-agrees : OneOutcome choosing.Post {A = List ℕ × List ℕ} (λ κs s. (now (s .1 .1 .1 .0), now (s .1 .1 .1 .1 .0)))
 choose-agrees κs a x y s t p q = (p .0 ∙ sym (q .0), (cc))
 
 pub gather-agrees : OneOutcome gathering.Post {A = List ℕ × List ℕ} (λ κs s. (now (s .0), now (s .1 .1 .0)))

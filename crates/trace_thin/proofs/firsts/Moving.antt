@@ -33,6 +33,14 @@ same-at xs ys i k e h =
 abbrev pub unmoved : List ℕ → ℕ → ℕ → List ℕ
 unmoved places kept j = drop j (take kept places)
 
+module _ (places : List ℕ) (kept j : ℕ) (fits : kept ≤ length places) where
+  pub next-place : j < kept → unmoved places kept j ≡ getD places j 0 ∷ unmoved places kept (j + 1)
+  next-place more =
+      drop-cons (take kept places) j 0 (omega (arith, length-take-le kept places fits)) ∙ rw (getD-take kept places j 0 more, add-one j)
+
+  pub no-place : kept ≤ j → unmoved places kept j ≡ []
+  no-place late = drop-of-length-le (take kept places) {i = j} (omega (arith, length-take-le kept places fits))
+
 pub record Moved (b places₀ places base out : List ℕ) (kept j to : ℕ) : Type 0 where
   pub done : j ≤ kept
   pub fits : kept ≤ length places₀
@@ -71,13 +79,8 @@ module _ (b places₀ places base out : List ℕ) (kept j to : ℕ) (m : Moved b
     pub place-read : getD places j 0 ≡ s
     place-read = same-at places places₀ j j (m .unread) (omega arith)
 
-    pub next-place : unmoved places₀ kept j ≡ s ∷ unmoved places₀ kept (j + 1)
-    next-place =
-        drop-cons (take kept places₀) j 0 (omega (arith, length-take-le kept places₀ (m .fits)))
-        ∙ rw (getD-take kept places₀ j 0 more, add-one j)
-
     next-piece : piecesAt b (unmoved places₀ kept j) ≡ p ∷ rest
-    next-piece = ap (piecesAt b) next-place
+    next-piece = ap (piecesAt b) (next-place places₀ kept j (m .fits) more)
 
     size-left : length (joined (piecesAt b (unmoved places₀ kept j))) ≡ length p + length (joined rest)
     size-left = ap (λ (l : List (List ℕ)). length (joined l)) next-piece ∙ length-joined p rest
@@ -110,7 +113,7 @@ module _ (b places₀ places base out : List ℕ) (kept j to : ℕ) (m : Moved b
   -- the end: nothing is left
   module _ (late : kept ≤ j) where
     nothing-left : unmoved places₀ kept j ≡ []
-    nothing-left = drop-of-length-le (take kept places₀) {i = j} (omega (arith, length-take-le kept places₀ (m .fits)))
+    nothing-left = no-place places₀ kept j (m .fits) late
 
     pub all-moved : out ≡ sets base 0 (joined (piecesAt b (take kept places₀)))
     unfolding joined
@@ -134,7 +137,7 @@ module _ (places₀ places base out : List ℕ) (kept j to : ℕ) (m : MovedDown
 
   next-ahead : (to ≤ from) × (from ≤ length base) × Ahead base (to + length (pieceAt base from)) (unmoved places₀ kept (j + 1))
   unfolding Ahead
-  next-ahead = rw (next-place base places₀ places base out kept j to (m .moved) more) at (m .ahead)
+  next-ahead = rw (next-place places₀ kept j (m .moved .fits) more) at (m .ahead)
 
   pub downwards : to ≤ from
   downwards = next-ahead .0

@@ -6,7 +6,7 @@ use native.Mathlib.Omega.{arith}
 use lib.ListN.{length, take, drop, length-append, length-take, length-drop}
 use lib.Seq.{drop-drop, take-all, take-take}
 use Rattle.octets.specs.words.Words.{wordAt}
-use Rattle.trace_thin.specs.firsts.Pieces.{pieceOf, pieceAt, piecesIn, joined, offsets}
+use Rattle.trace_thin.specs.firsts.Pieces.{pieceOf, pieceAt, joined, offsets}
 
 pub size-inside : (b : List ℕ) (place : ℕ) → place ≤ length b → place + length (pieceAt b place) ≤ length b
 unfolding pieceOf
@@ -22,15 +22,6 @@ own-bytes t = own (wordAt 4 t 4) t
     own zero x = refl
     own (suc n) [] = refl
     own (suc n) (y ∷ x) = ap (λ (l : List ℕ). y ∷ l) (own n x)
-
-pub one-more : (n at : ℕ) (b : List ℕ) → piecesIn (suc n) (drop at b) ≡ pieceAt b at ∷ piecesIn n (drop (at + length (pieceAt b at)) b)
-unfolding piecesIn
-one-more n at b =
-    ap (λ (x : List ℕ). pieceAt b at ∷ piecesIn n x) (drop-drop (length (pieceAt b at)) at b)
-
-pub none-left : (t : List ℕ) → piecesIn 0 t ≡ []
-unfolding piecesIn
-none-left t = refl
 
 pub length-joined : (p : List ℕ) (ps : List (List ℕ)) → length (joined (p ∷ ps)) ≡ length p + length (joined ps)
 unfolding joined

@@ -8,7 +8,7 @@ use native.Mathlib.Omega.{arith}
 use lib.ListN.{length}
 use Rattle.octets.specs.equal_bytes.Equal.{equalBytes, among}
 use Rattle.octets.proofs.equal_bytes.Equality.{equal-true}
-use Rattle.trace_thin.specs.firsts.Firsts.{firstsBehind, itself, newBehind}
+use Rattle.trace_thin.specs.firsts.Firsts.{firstsBehind, newBehind}
 
 -- ---- a row among several
 
@@ -123,6 +123,9 @@ module _ {A : Type 0} (bytes : A → List ℕ) where
 
 -- ---- the same for records and for their bytes
 
+abbrev itself : List ℕ → List ℕ
+itself p = p
+
 rows-by : {A : Type 0} (bytes : A → List ℕ) (ks : List (List ℕ)) (r : A) (rs : List A) (b : Bool) → among (bytes r) ks ≡ b
     → map bytes (firstsBehind bytes ks rs) ≡ firstsBehind itself ks (map bytes rs)
     → (let more = ks ++ (bytes r ∷ []) in map bytes (firstsBehind bytes more rs) ≡ firstsBehind itself more (map bytes rs))
@@ -133,8 +136,13 @@ rows-by bytes ks r rs false e d k =
     ap (map bytes) (firsts-kept bytes ks r rs e) ∙ ap (λ (l : List (List ℕ)). bytes r ∷ l) k
     ∙ sym (firsts-kept itself ks (bytes r) (map bytes rs) e)
 
-pub rows-of-firsts : {A : Type 0} (bytes : A → List ℕ) (ks : List (List ℕ)) (rs : List A)
+rows-of-firsts : {A : Type 0} (bytes : A → List ℕ) (ks : List (List ℕ)) (rs : List A)
     → map bytes (firstsBehind bytes ks rs) ≡ firstsBehind itself ks (map bytes rs)
 rows-of-firsts bytes ks [] = ap (map bytes) (firsts-none bytes ks) ∙ sym (firsts-none itself ks)
 rows-of-firsts bytes ks (r ∷ rs) =
     rows-by bytes ks r rs (among (bytes r) ks) refl (rows-of-firsts bytes ks rs) (rows-of-firsts bytes (ks ++ (bytes r ∷ [])) rs)
+
+-- so two lists of the same bytes have the same bytes kept
+pub same-firsts : {A B : Type 0} (f : A → List ℕ) (g : B → List ℕ) (xs : List A) (ys : List B) → map f xs ≡ map g ys
+    → map f (firstsBehind f [] xs) ≡ map g (firstsBehind g [] ys)
+same-firsts f g xs ys h = rows-of-firsts f [] xs ∙ ap (firstsBehind itself []) h ∙ sym (rows-of-firsts g [] ys)

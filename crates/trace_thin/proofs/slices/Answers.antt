@@ -17,15 +17,16 @@ use Rattle.trace.specs.judge.Opening.{openOf}
 use Rattle.trace_layout.specs.Records.{Record, bytesOf}
 use Rattle.trace_layout.specs.Traces.{recordsBytes, offsetsFrom, countAt, editionAt, listAt, goodTrace, recordsOf}
 use Rattle.trace_layout.proofs.Traces.{length-offsets, good-count}
+use Rattle.trace.specs.whole.Whole.{wholeRecords}
 use Rattle.trace.specs.seal.Seal.{sealOf}
 use Rattle.trace.proofs.seal.Sealing.{put-and-sealed}
 use Rattle.trace_thin.specs.declared.firsts.Chosen.{Chosen}
-use Rattle.trace_thin.specs.firsts.Pieces.{piecesAt, piecesIn, joined, offsets, Ahead}
-use Rattle.trace_thin.specs.firsts.Firsts.{firstsBehind, placesOf, chosenOf}
-use Rattle.trace_thin.proofs.firsts.Places.{pieces-at-places, places-ahead, length-places}
+use Rattle.trace_thin.specs.firsts.Pieces.{pieceAt, piecesAt, joined, offsets, Ahead}
+use Rattle.trace_thin.specs.firsts.Firsts.{firstsIn, startsIn, chosenOf}
 use Rattle.trace_thin.specs.slices.Thin.{keptOf, thinTrace, Left, refuse, apart, within, thinOf, thinInPlaceOf}
-use Rattle.trace_thin.proofs.slices.Pieced.{joined-records, offsets-records}
-use Rattle.trace_thin.proofs.slices.Keeping.{pieces-kept, fewer-kept, few-old, makes, new-length, has-room}
+use Rattle.trace_thin.proofs.firsts.Thinning.{fewer}
+use Rattle.trace_thin.proofs.firsts.Pieced.{joined-records, offsets-records, few-records, firsts-inside, firsts-ahead}
+use Rattle.trace_thin.proofs.slices.Keeping.{pieces-kept, fewer-kept, makes, new-length, has-room}
 
 -- ---- the judging
 
@@ -38,10 +39,6 @@ opened-bad : (bs : List ℕ) → goodTrace bs ≡ false → openOf bs ≡ record
 unfolding openOf
 opened-bad bs g = rw g
 
-nothing-chosen : (bs : List ℕ) → chosenOf (piecesIn 0 bs) ≡ record { kept = 0; size = 0 }
-unfolding chosenOf piecesIn joined firstsBehind
-nothing-chosen bs = refl
-
 module _ (bs : List ℕ) (bytes : AllBelow 256 bs) (o : Judged) (judged : o ≡ openOf bs) where
   code-by : (g : Bool) → goodTrace bs ≡ g → eqb (o .code) 0 ≡ g
   code-by true g = ap (λ (x : Judged). eqb (x .code) 0) (judged ∙ opened-good bs g)
@@ -50,17 +47,9 @@ module _ (bs : List ℕ) (bytes : AllBelow 256 bs) (o : Judged) (judged : o ≡ 
   code-is : eqb (o .code) 0 ≡ goodTrace bs
   code-is = code-by (goodTrace bs) refl
 
-  few-by : (g : Bool) → goodTrace bs ≡ g → o .count ≤ 4096
-  few-by true g =
-      omega (arith, ap (λ (x : Judged). x .count) (judged ∙ opened-good bs g), good-count bs bytes g, few-old bs bytes g)
-  few-by false g = omega (arith, ap (λ (x : Judged). x .count) (judged ∙ opened-bad bs g))
-
-  pub few-opened : o .count ≤ 4096
-  few-opened = few-by (goodTrace bs) refl
-
   -- ---- the choice
 
-  module _ (c : Chosen) (told : c ≡ chosenOf (piecesIn (o .count) bs)) where
+  module _ (c : Chosen) (told : c ≡ chosenOf bs (firstsIn bs (o .list) (o .edition))) where
     abbrev n : ℕ
     n = c .size + 8 * c .kept + 20
 
@@ -72,8 +61,8 @@ module _ (bs : List ℕ) (bytes : AllBelow 256 bs) (o : Judged) (judged : o ≡ 
       abbrev ks : List Record
       ks = keptOf bs
 
-      abbrev ps : List (List ℕ)
-      ps = piecesIn (countAt bs) bs
+      abbrev ss : List ℕ
+      ss = firstsIn bs (listAt bs) e
 
       pub edition-is : o .edition ≡ e
       edition-is = ap (λ (x : Judged). x .edition) (judged ∙ opened-good bs good)
@@ -81,12 +70,18 @@ module _ (bs : List ℕ) (bytes : AllBelow 256 bs) (o : Judged) (judged : o ≡ 
       count-is : o .count ≡ countAt bs
       count-is = ap (λ (x : Judged). x .count) (judged ∙ opened-good bs good)
 
-      chosen : c ≡ chosenOf ps
-      chosen = told ∙ ap (λ (k : ℕ). chosenOf (piecesIn k bs)) count-is
+      places-are : firstsIn bs (o .list) (o .edition) ≡ ss
+      places-are = ap (λ (x : Judged). firstsIn bs (x .list) (x .edition)) (judged ∙ opened-good bs good)
+
+      chosen : c ≡ chosenOf bs ss
+      chosen = told ∙ ap (chosenOf bs) places-are
+
+      many : length ss ≡ length ks
+      many = sym (length-map ss (pieceAt bs)) ∙ ap length (pieces-kept bs bytes good) ∙ length-map ks (bytesOf e)
 
       kept-is : c .kept ≡ length ks
       unfolding chosenOf
-      kept-is = ap (λ (x : Chosen). x .kept) chosen ∙ ap length (pieces-kept bs bytes good) ∙ length-map ks (bytesOf e)
+      kept-is = ap (λ (x : Chosen). x .kept) chosen ∙ many
 
       size-is : c .size ≡ length (recordsBytes e ks)
       unfolding chosenOf
@@ -108,26 +103,31 @@ module _ (bs : List ℕ) (bytes : AllBelow 256 bs) (o : Judged) (judged : o ≡ 
 
       -- ---- the places of what is kept
 
-      module _ (row places : List ℕ) (long : length row ≡ 4096) (placed : places ≡ sets row 0 (placesOf (piecesIn (o .count) bs))) where
-        many : length (placesOf ps) ≡ length ks
-        many = length-places bs (countAt bs) ∙ ap length (pieces-kept bs bytes good) ∙ length-map ks (bytesOf e)
+      module _ (row places : List ℕ) (long : length row ≡ 4096)
+          (placed : places
+          ≡ sets (sets row 0 (startsIn bs (o .list) (o .edition))) 0 (firstsIn bs (o .list) (o .edition))) where
+        abbrev found : List ℕ
+        found = sets row 0 (startsIn bs (o .list) (o .edition))
 
         few : length ks ≤ 4096
         few = makes bs bytes good .few
 
-        pub row-length : length places ≡ 4096
-        row-length = ap length placed ∙ length-sets row 0 (placesOf (piecesIn (o .count) bs)) ∙ long
+        found-length : length found ≡ 4096
+        found-length = length-sets row 0 (startsIn bs (o .list) (o .edition)) ∙ long
 
-        first-places : take (c .kept) places ≡ placesOf ps
+        pub row-length : length places ≡ 4096
+        row-length = ap length placed ∙ length-sets found 0 (firstsIn bs (o .list) (o .edition)) ∙ found-length
+
+        first-places : take (c .kept) places ≡ ss
         first-places =
-            cut-is row (placesOf ps) places (c .kept) (placed ∙ ap (λ (k : ℕ). sets row 0 (placesOf (piecesIn k bs))) count-is)
-            (kept-is ∙ sym many) (omega (arith, many, few, long))
+            cut-is found ss places (c .kept) (placed ∙ ap (sets found 0) places-are) (kept-is ∙ sym many)
+            (omega (arith, many, few, found-length))
 
         pub ahead : Ahead bs 0 (take (c .kept) places)
-        ahead = rw first-places (places-ahead bs (countAt bs))
+        ahead = rw first-places (firsts-ahead bs bytes (listAt bs) e)
 
         there : piecesAt bs (take (c .kept) places) ≡ map (bytesOf e) ks
-        there = ap (piecesAt bs) first-places ∙ pieces-at-places bs (countAt bs) ∙ pieces-kept bs bytes good
+        there = ap (piecesAt bs) first-places ∙ pieces-kept bs bytes good
 
         body : joined (piecesAt bs (take (c .kept) places)) ≡ recordsBytes e ks
         body = ap joined there ∙ joined-records e ks
@@ -198,15 +198,19 @@ module _ (bs : List ℕ) (bytes : AllBelow 256 bs) (o : Judged) (judged : o ≡ 
             within-is = rw (dropped-is, length-is, output-is, kept-is)
 
     -- whatever the trace, the sum does not wrap
-    sum-by : (g : Bool) → goodTrace bs ≡ g → (c .kept ≤ 4096) × (c .size ≤ length bs)
-    sum-by true g = (omega (arith, kept-few g, few-opened), omega (arith, inside g))
-    sum-by false g =
-        let none : c ≡ record { kept = 0; size = 0 } =
-        told ∙ ap (λ (x : Judged). chosenOf (piecesIn (x .count) bs)) (judged ∙ opened-bad bs g) ∙ nothing-chosen bs in
-        (omega (arith, ap (λ (x : Chosen). x .kept) none), omega (arith, ap (λ (x : Chosen). x .size) none))
-
     pub bounded : (c .kept ≤ 4096) × (c .size ≤ length bs)
-    bounded = sum-by (goodTrace bs) refl
+    unfolding chosenOf
+    bounded =
+        let starts = startsIn bs (o .list) (o .edition) in (
+          omega (
+            arith,
+            ap (λ (x : Chosen). x .kept) told,
+            fewer (pieceAt bs) [] starts,
+            length-offsets (o .edition) 0 (wholeRecords (o .edition) (take (o .list) bs)),
+            few-records bs bytes (o .list) (o .edition),
+          ),
+          omega (arith, ap (λ (x : Chosen). x .size) told, firsts-inside bs bytes (o .list) (o .edition)),
+        )
 
     -- ---- the rows of a separate output
 

@@ -1,21 +1,24 @@
 -- What is kept of a good trace makes one, which has room where the old one stood. Assumes nothing.
-use mathlib.Core.Path.{_≡_, sym, ap, _∙_}
+use mathlib.Core.Path.{_≡_, refl, ap, _∙_}
 use mathlib.Core.Bool.{true}
 use mathlib.Core.List.{List, [], _++_, map}
 use Prim.Native.Nat.{ℕ, _+_, _*_, _≤_}
 use native.Mathlib.Omega.{arith}
-use lib.ListN.{length}
+use lib.ListN.{length, take}
+use lib.Seq.{take-at}
 use Rattle.octets.specs.words.Words.{rowBytes, AllBelow}
 use Rattle.trace_layout.specs.Records.{Record, bytesOf}
-use Rattle.trace_layout.specs.Traces.{recordsBytes, offsetsFrom, trailerOf, traceOf, countAt, editionAt, goodTrace, recordsOf}
+use Rattle.trace_layout.specs.Traces.{recordsBytes, offsetsFrom, trailerOf, traceOf, listAt, editionAt, goodTrace, recordsOf}
 use Rattle.trace_layout.specs.Inverses.{Makes}
-use Rattle.trace_layout.proofs.Traces.{good-ends, good-laid, good-count, good-is-written}
+use Rattle.trace_layout.proofs.Traces.{good-ends, good-laid, good-count, good-is-written, list-written}
+use Rattle.trace.specs.whole.Whole.{wholeRecords}
+use Rattle.trace.proofs.whole.Longest.{whole-of-records}
 use Rattle.trace.proofs.seal.Sealing.{length-trace}
-use Rattle.trace_thin.specs.firsts.Pieces.{piecesIn}
-use Rattle.trace_thin.specs.firsts.Firsts.{firstPieces}
-use Rattle.trace_thin.proofs.firsts.Thinning.{fewer, rows-of-firsts}
+use Rattle.trace_thin.specs.firsts.Pieces.{piecesAt}
+use Rattle.trace_thin.specs.firsts.Firsts.{firsts, firstsIn, startsIn}
+use Rattle.trace_thin.proofs.firsts.Thinning.{fewer}
 use Rattle.trace_thin.specs.slices.Thin.{keptOf, thinTrace}
-use Rattle.trace_thin.proofs.slices.Pieced.{pieces-written, laid-kept, shorter-kept}
+use Rattle.trace_thin.proofs.firsts.Pieced.{firsts-are, laid-kept, shorter-kept}
 
 module _ (bs : List ℕ) (bytes : AllBelow 256 bs) (good : goodTrace bs ≡ true) where
   abbrev e : ℕ
@@ -24,16 +27,23 @@ module _ (bs : List ℕ) (bytes : AllBelow 256 bs) (good : goodTrace bs ≡ true
   abbrev rs : List Record
   rs = recordsOf bs
 
-  pub pieces-of : piecesIn (countAt bs) bs ≡ map (bytesOf e) rs
+  -- the walk over the bytes before the list finds the records
+  whole-is : wholeRecords e (take (listAt bs) bs) ≡ rs
   unfolding traceOf
-  pieces-of =
+  whole-is =
+      let laid = good-laid bs bytes good in
+      let ends = good-ends bs bytes good in
+      let few : length rs ≤ 4096 = omega (arith, good-count bs bytes good, ends .few) in
       let tail = rowBytes 8 (offsetsFrom e 0 rs) ++ trailerOf (length (recordsBytes e rs)) (length rs) e in
-      ap (λ (n : ℕ). piecesIn n bs) (sym (good-count bs bytes good)) ∙ ap (piecesIn (length rs)) (good-is-written bs bytes good)
-      ∙ pieces-written e rs tail (good-laid bs bytes good)
+      ap (wholeRecords e)
+      (ap (λ (x : List ℕ). take (listAt x) x) (good-is-written bs bytes good)
+      ∙ ap (λ (k : ℕ). take k (traceOf e rs)) (list-written e rs (ends .edition) few laid)
+      ∙ take-at (recordsBytes e rs) tail (length (recordsBytes e rs)) refl)
+      ∙ whole-of-records e rs laid few
 
   -- the chosen pieces are the kept records' bytes
-  pub pieces-kept : firstPieces (piecesIn (countAt bs) bs) ≡ map (bytesOf e) (keptOf bs)
-  pieces-kept = ap firstPieces pieces-of ∙ sym (rows-of-firsts (bytesOf e) [] rs)
+  pub pieces-kept : piecesAt bs (firstsIn bs (listAt bs) e) ≡ map (bytesOf e) (keptOf bs)
+  pieces-kept = firsts-are bs bytes (listAt bs) e ∙ ap (λ (l : List Record). map (bytesOf e) (firsts (bytesOf e) l)) whole-is
 
   pub fewer-kept : length (keptOf bs) ≤ length rs
   fewer-kept = fewer (bytesOf e) [] rs

@@ -1,5 +1,5 @@
--- Pieces: rows of bytes that lie end to end and say their own lengths. Definitions only.
-use Prim.Native.Nat.{ℕ, zero, suc, _+_, _≤_}
+-- Pieces: rows of bytes that say their own lengths. Definitions only.
+use Prim.Native.Nat.{ℕ, _+_, _≤_}
 use mathlib.Core.List.{List, [], _∷_, _++_, map}
 use lib.ListN.{length, take, drop}
 use Rattle.octets.specs.words.Words.{wordAt}
@@ -17,11 +17,6 @@ piecesAt b places = map (pieceAt b) places
 -- .. at the first n of the places
 abbrev pub firstAt : List ℕ → ℕ → List ℕ → List (List ℕ)
 firstAt b n places = piecesAt b (take n places)
-
--- n pieces, the first at the front of t
-unfoldable pub piecesIn : ℕ → List ℕ → List (List ℕ)
-piecesIn zero t = []
-piecesIn (suc n) t = pieceOf t ∷ piecesIn n (drop (length (pieceOf t)) t)
 
 -- pieces end to end
 unfoldable pub joined : List (List ℕ) → List ℕ

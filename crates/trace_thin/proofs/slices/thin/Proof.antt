@@ -14,11 +14,10 @@ use Rattle.trace.specs.declared.judge.Judged.{Judged}
 use Rattle.trace.specs.judge.Opening.{openOf}
 use Rattle.trace_layout.specs.Traces.{goodTrace}
 use Rattle.trace_thin.specs.declared.firsts.Chosen.{Chosen}
-use Rattle.trace_thin.specs.firsts.Pieces.{piecesIn}
-use Rattle.trace_thin.specs.firsts.Firsts.{chosenOf}
+use Rattle.trace_thin.specs.firsts.Firsts.{firstsIn, chosenOf}
 use Rattle.trace_thin.specs.declared.slices.Thinned.{Thinned}
 use Rattle.trace_thin.specs.slices.Thin.{Left}
-use Rattle.trace_thin.proofs.slices.Answers.{few-opened, bounded, kept-few, row-length, body-length, apart-is}
+use Rattle.trace_thin.proofs.slices.Answers.{bounded, kept-few, row-length, body-length, apart-is}
 use Rattle.trace_thin.proofs.slices.Answers.{refused-row, is-good, room, done}
 use Rattle.trace_thin.proofs.slices.thin.Statement.{statement}
 use Rattle.trace_thin.proofs.slices.thin.Tie as tie
@@ -28,7 +27,7 @@ left-with output answer = record { answer = answer; output = output }
 
 -- the places of the code, from the choice back to the start
 abbrev rowed : tie.After-choose → tie.After-row
-rowed c = c .before .before .before .before .before
+rowed c = c .before .before .before .before
 
 abbrev opening : tie.After-choose → tie.After-open
 opening c = rowed c .before
@@ -50,14 +49,9 @@ module _ (c : tie.After-open) where
   is-bytes : AllBelow 256 bs
   is-bytes = below-of-places 256 bs (λ i h. omega (arith, c .before .before .shared-slice-known .given i))
 
-  few : o .count ≤ 4096
-  few = few-opened bs is-bytes o judged
-
 choose-requires : tie.Need-choose-requires
 choose-requires c κs =
-    let second = c .before .before .before in
-    let first = second .before in
-    (omega (arith, few (first .before), first .row .ensures), omega (arith, few (first .before), second .row2 .ensures))
+    let second = c .before .before in (omega (arith, second .before .row .ensures), omega (arith, second .row2 .ensures))
 
 -- .. and where the choice was made
 module _ (c : tie.After-choose) where
@@ -68,9 +62,9 @@ module _ (c : tie.After-choose) where
   ch = c .choose .result
 
   abbrev places : List ℕ
-  places = c .choose .last .1 .1 .0
+  places = c .choose .last .1 .1 .1 .0
 
-  told : ch ≡ chosenOf (piecesIn (o k .count) (bs k))
+  told : ch ≡ chosenOf (bs k) (firstsIn (bs k) (o k .list) (o k .edition))
   told = c .choose .ensures .0
 
   small : (ch .kept ≤ 4096) × (ch .size ≤ length (bs k))
@@ -201,7 +195,7 @@ pub thin-spec : {M : Type 1} → statement M
 thin-spec =
     tie.close
     (tie.spec
-    (λ c κs. search needs) (λ c κs. search needs) (λ c κs. search needs) (λ c. search needs) (λ c. search needs) (λ c. search needs)
+    (λ c κs. search needs) (λ c κs. search needs) (λ c κs. search needs) (λ c. search needs) (λ c. search needs)
     choose-requires
     mul-length
     add-length

@@ -14,11 +14,10 @@ use Rattle.trace.specs.declared.judge.Judged.{Judged}
 use Rattle.trace.specs.judge.Opening.{openOf}
 use Rattle.trace_layout.specs.Traces.{goodTrace}
 use Rattle.trace_thin.specs.declared.firsts.Chosen.{Chosen}
-use Rattle.trace_thin.specs.firsts.Pieces.{piecesIn}
-use Rattle.trace_thin.specs.firsts.Firsts.{chosenOf}
+use Rattle.trace_thin.specs.firsts.Firsts.{firstsIn, chosenOf}
 use Rattle.trace_thin.specs.declared.slices.Thinned.{Thinned}
 use Rattle.trace_thin.specs.slices.Thin.{Left}
-use Rattle.trace_thin.proofs.slices.Answers.{few-opened, bounded, inside, kept-few, row-length, ahead, within-is}
+use Rattle.trace_thin.proofs.slices.Answers.{bounded, inside, kept-few, row-length, ahead, within-is}
 use Rattle.trace_thin.proofs.slices.Answers.{refused-within, good-within, done-within}
 use Rattle.trace_thin.proofs.slices.thin_in_place.Statement.{statement}
 use Rattle.trace_thin.proofs.slices.thin_in_place.Tie as tie
@@ -46,9 +45,6 @@ module _ (r : tie.After-trace-row) where
   is-bytes : AllBelow 256 bs
   is-bytes = below-of-places 256 bs (λ i h. omega (arith, opening .before .before .slice-known .given i))
 
-  few : o .count ≤ 4096
-  few = few-opened bs is-bytes o judged
-
 returns : tie.Need-returns
 returns c =
     let r = c .before .before in (
@@ -59,7 +55,7 @@ returns c =
 
 -- the places of the code, from the choice back to the judging
 abbrev second-row : tie.After-places → tie.After-row2
-second-row c = c .before .before .before
+second-row c = c .before .before
 
 abbrev rowed : tie.After-choose → tie.After-row
 rowed c = second-row (c .before .before) .before
@@ -69,10 +65,7 @@ no-row c = rowed c .before
 
 choose-requires : tie.Need-choose-requires
 choose-requires c κs =
-    let second = second-row (c .before) in
-    let first = second .before in
-    let r = first .before .before in
-    (omega (arith, few r, first .row .ensures), omega (arith, few r, second .row2 .ensures))
+    let second = second-row (c .before) in (omega (arith, second .before .row .ensures), omega (arith, second .row2 .ensures))
 
 -- what is known where the choice was made
 module _ (c : tie.After-choose) where
@@ -83,9 +76,9 @@ module _ (c : tie.After-choose) where
   ch = c .choose .result
 
   abbrev places : List ℕ
-  places = c .choose .last .1 .1 .0
+  places = c .choose .last .1 .1 .1 .0
 
-  told : ch ≡ chosenOf (piecesIn (o k .count) (bs k))
+  told : ch ≡ chosenOf (bs k) (firstsIn (bs k) (o k .list) (o k .edition))
   told = c .choose .ensures .0
 
   good : goodTrace (bs k) ≡ true
@@ -190,7 +183,7 @@ thin-in-place-spec =
     (tie.spec
     (λ c κs. search needs) (λ c κs. search needs) (λ c κs. search needs) (λ c. search needs)
     returns
-    (λ c κs. search needs) (λ c κs. search needs) (λ c. search needs) (λ c. search needs) (λ c. search needs)
+    (λ c κs. search needs) (λ c κs. search needs) (λ c. search needs) (λ c. search needs)
     choose-requires
     mul-length
     add-length

@@ -11,10 +11,10 @@ pub fn put_decimal(bytes: &mut [u8], place: usize, n: u64) -> usize
     ensures { λ r. ⌜ (r ≡ place + length (decimalOf n)) × (now (bytes .exit) ≡ sets (now (bytes .entry)) place (decimalOf n)) ⌝ }
 {
     if n < 10 {
-        bytes[place] = (48 + n) as u8;
+        bytes[place] = (b'0' as u64 + n) as u8;
         return place + 1;
     }
     let next = put_decimal(bytes, place, n / 10);
-    bytes[next] = (48 + n % 10) as u8;
+    bytes[next] = (b'0' as u64 + n % 10) as u8;
     next + 1
 }

@@ -91,6 +91,16 @@ pub fn u32_at(bytes: &[u8], place: usize) -> u32
     word_of(rest, 4) as u32
 }
 
+// Writes the bytes of another slice at a place.
+pub fn copy(out: &mut [u8], place: usize, bytes: &[u8])
+    requires { ⌜ place + length (now bytes) ≤ length (now out) ⌝ }
+    ensures { λ _. ⌜ now (out .exit) ≡ sets (now (out .entry)) place (now (bytes .entry)) ⌝ }
+{
+    for i in 0..bytes.len() {
+        out[place + i] = bytes[i];
+    }
+}
+
 // Writes the n bytes of x at a place.
 pub fn put(bytes: &mut [u8], place: usize, n: usize, x: u64)
     requires { ⌜ place + n ≤ length (now bytes) ⌝ }

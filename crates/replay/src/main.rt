@@ -5,16 +5,10 @@ ghost use lib.ListN.{length};
 use libc::STDERR_FILENO;
 use program_files::print_text;
 use program_files::read_argument;
+use trace_layout::rooms::file_room;
 use trace_replay::file::put_replay;
 
-// One byte more than a file may have, so that a larger one shows. The `ensures` gives the length alone, which lending the array needs.
-fn file_room() -> [u8; 65537]
-    ensures { λ r. ⌜ length r ≡ 65537 ⌝ }
-{
-    [0; 65537]
-}
-
-// Room for every text.
+// Room for every text. The `ensures` gives the length alone, which lending the array needs.
 fn text_room() -> [u8; 98391]
     ensures { λ r. ⌜ length r ≡ 98391 ⌝ }
 {

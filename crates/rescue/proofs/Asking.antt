@@ -3,9 +3,8 @@ use mathlib.Core.Path.{_≡_, refl}
 use mathlib.Core.Bool.{false}
 use mathlib.Core.List.{List}
 use Prim.Native.Nat.{ℕ}
-use Rattle.trace_layout.specs.Traces.{known}
+use Rattle.trace_layout.specs.Traces.{tooLarge, known}
 use Rattle.trace_rescue.specs.slices.Rescue.{endsKnown, rescueOf}
-use Rattle.trace_rescue.specs.file.Printed.{tooLarge}
 use Rattle.trace_rescue.proofs.slices.Rescues.{editions}
 use Rattle.rescue.specs.Deeds.{ask, editionNamed, deedBy, deedOf}
 

@@ -13,6 +13,8 @@ use program_files::read_argument;
 use program_files::write_argument;
 use trace::whole::walk;
 use trace_layout::pieces::MOST_BYTES;
+use trace_layout::rooms::file_room;
+use trace_layout::rooms::row;
 use trace_rescue::file::edition_of;
 use trace_rescue::file::put_rescue;
 use trace_rescue::slices::Rescued;
@@ -25,14 +27,7 @@ const ASK: u32 = 1;
 
 const LEAVE: u32 = 2;
 
-// One byte more than a file may have, so that a larger one shows. The `ensures` gives the length alone, which lending the array needs.
-fn file_room() -> [u8; 65537]
-    ensures { λ r. ⌜ length r ≡ 65537 ⌝ }
-{
-    [0; 65537]
-}
-
-// Room for every text.
+// Room for every text. The `ensures` gives the length alone, which lending the array needs.
 fn text_room() -> [u8; 63]
     ensures { λ r. ⌜ length r ≡ 63 ⌝ }
 {
@@ -44,13 +39,6 @@ fn output_room() -> [u8; 74916]
     ensures { λ r. ⌜ length r ≡ 74916 ⌝ }
 {
     [0; 74916]
-}
-
-// Room for an offset of each record that a trace may have.
-fn row() -> [u64; 4096]
-    ensures { λ r. ⌜ length r ≡ 4096 ⌝ }
-{
-    [0; 4096]
 }
 
 // The edition that the caller's word names. Without a word it is 0, which is none.

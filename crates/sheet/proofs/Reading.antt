@@ -6,6 +6,7 @@ use Prim.Native.Nat.{ℕ, _+_, _≤_}
 use native.Mathlib.Omega.{arith}
 use lib.ListN.{length, length-append}
 use Rattle.octets.specs.words.Words.{AllBelow}
+use Rattle.trace_layout.specs.Traces.{mostFiles}
 use Rattle.trace_sheet.specs.counts.Laws.{AllBytes}
 use Rattle.trace_sheet.specs.declared.rows.Totals.{Totals}
 use Rattle.trace_sheet.specs.rows.Rows.{Held, addOf}
@@ -49,8 +50,8 @@ pub unread : (m n : ℕ) → false ≡ true → m ≡ n
 unread m n e = let z : _≡_ {A = ℕ} 0 1 = cc in absurd (omega arith)
 
 -- every file was read: what is printed is the text of their sheet
-module _ (asked : ℕ) (old new : List ℕ) (before after : Held) (few : asked ≤ 1000) (room : textRoom ≤ length old) (begun : Begun before)
-    (flags : length (before .skipped) ≡ 1000) where
+module _ (asked : ℕ) (old new : List ℕ) (before after : Held) (few : asked ≤ mostFiles) (room : textRoom ≤ length old)
+    (begun : Begun before) (flags : length (before .skipped) ≡ mostFiles) where
   pub sheet-printed : (done : Bool) → done ≡ true → FilesCounted asked done before after → (answer : Printed)
       → record { answer = answer; text = new } ≡ printOf old after → SheetPrinted asked (answer .length) old new
   sheet-printed done is counted answer told =

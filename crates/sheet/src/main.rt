@@ -6,6 +6,7 @@ ghost use mathlib.Core.Path.{_≡_};
 ghost use mathlib.Core.List.{[]};
 ghost use Prim.Native.Nat.{_≤_};
 ghost use lib.ListN.{length};
+ghost use Rattle.trace_layout.specs.Traces.{mostFiles};
 ghost use Rattle.trace_sheet.specs.counts.Counts.{Fresh};
 ghost use Rattle.trace_sheet.specs.counts.Sheet.{sheetOf};
 ghost use Rattle.trace_sheet.specs.rows.Rows.{totalsOf};
@@ -15,20 +16,12 @@ use libc::STDERR_FILENO;
 use octets::words::front;
 use program_files::print_text;
 use program_files::read_argument;
+use trace_layout::pieces::MOST_FILES;
+use trace_layout::rooms::file_room;
 use trace_sheet::counts::Largest;
 use trace_sheet::rows::Totals;
 use trace_sheet::rows::add;
 use trace_sheet::text::put_sheet;
-
-// 02, Order 14: "At most 1,000 files"
-const MOST_FILES: usize = 1000;
-
-// One byte more than a file may have, so that a larger one shows. The `ensures` gives the length alone, which lending the array needs.
-fn file_room() -> [u8; 65537]
-    ensures { λ r. ⌜ length r ≡ 65537 ⌝ }
-{
-    [0; 65537]
-}
 
 fn count_room() -> [u64; 2048]
     ensures { λ r. ⌜ Fresh r ⌝ }
@@ -36,10 +29,10 @@ fn count_room() -> [u64; 2048]
     [0; 2048]
 }
 
-fn flag_room() -> [u8; 1000]
-    ensures { λ r. ⌜ length r ≡ 1000 ⌝ }
+fn flag_room() -> [u8; MOST_FILES]
+    ensures { λ r. ⌜ length r ≡ mostFiles ⌝ }
 {
-    [0; 1000]
+    [0; MOST_FILES]
 }
 
 // Room for every text.
@@ -102,7 +95,7 @@ fn count_files(
 
 // The text of their sheet, and its length; 0 where one could not be read.
 fn put_files(files: usize, text: &mut [u8]) -> usize
-    requires { ⌜ (files ≤ 1000) × (textRoom ≤ length (now text)) ⌝ }
+    requires { ⌜ (files ≤ mostFiles) × (textRoom ≤ length (now text)) ⌝ }
     ensures { λ r. ⌜ FilesPrinted files r (now (text .entry)) (now (text .exit)) ⌝ }
 {
     let mut file = file_room();

@@ -3,21 +3,17 @@
 // leaves it alone. The file, its text and the output lie on the stack.
 ghost use mathlib.Core.Path.{_≡_};
 ghost use lib.ListN.{length};
+ghost use Rattle.trace_layout.specs.Traces.{mostBytes};
 use libc::STDERR_FILENO;
 use octets::words::front;
 use program_files::print_text;
 use program_files::read_argument;
 use program_files::write_argument;
+use trace_layout::pieces::MOST_BYTES;
+use trace_layout::rooms::file_room;
 use trace_thin::file::put_thin;
 
-// One byte more than a file may have, so that a larger one shows. The `ensures` gives the length alone, which lending the array needs.
-fn file_room() -> [u8; 65537]
-    ensures { λ r. ⌜ length r ≡ 65537 ⌝ }
-{
-    [0; 65537]
-}
-
-// Room for every text.
+// Room for every text. The `ensures` gives the length alone, which lending the array needs.
 fn text_room() -> [u8; 83]
     ensures { λ r. ⌜ length r ≡ 83 ⌝ }
 {
@@ -25,10 +21,10 @@ fn text_room() -> [u8; 83]
 }
 
 // Room for every trace that comes of a file that is taken.
-fn output_room() -> [u8; 65536]
-    ensures { λ r. ⌜ length r ≡ 65536 ⌝ }
+fn output_room() -> [u8; MOST_BYTES]
+    ensures { λ r. ⌜ length r ≡ mostBytes ⌝ }
 {
-    [0; 65536]
+    [0; MOST_BYTES]
 }
 
 fn save(file: &[u8]) {

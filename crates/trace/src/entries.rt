@@ -6,7 +6,6 @@ ghost use Rattle.octets.specs.words.Words.{AllBelow};
 ghost use Rattle.trace.specs.entries.Values.{Passed};
 ghost use Rattle.trace.specs.entries.Opened.{openedOf};
 ghost use Rattle.trace.specs.entries.Writing.{createOf, appendOf};
-use crate::judge::NEWEST_EDITION;
 use crate::places::entry_of;
 use crate::places::place_for;
 use crate::writer::write::insert;
@@ -15,6 +14,8 @@ use algebra::vector::head;
 use cone::Cone;
 use cone::Settings;
 use cone::Steps;
+use trace_layout::pieces::NEWEST_EDITION;
+use trace_layout::pieces::TRAILER_SIZE;
 use trace_layout::pieces::layout::exponents;
 
 // What a call that writes answers: its number, and the trace's length as it stands now.
@@ -47,13 +48,13 @@ pub fn open(trace: &[u8]) -> Opened
 pub fn create(trace: &mut [u8]) -> Written
     ensures { λ r. ⌜ record { answer = r; bytes = now (trace .exit) } ≡ createOf (now (trace .entry)) ⌝ }
 {
-    if trace.len() < 20 {
+    if trace.len() < TRAILER_SIZE {
         return Written { code: 8, length: 0 };
     }
     put_trailer(trace, 0, 0, 0, NEWEST_EDITION);
     Written {
         code: 0,
-        length: 20,
+        length: TRAILER_SIZE as u64,
     }
 }
 

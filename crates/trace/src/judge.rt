@@ -2,7 +2,7 @@
 ghost use mathlib.Core.Path.{_≡_};
 ghost use Prim.Native.Nat.{_+_, _*_, _-_, _≤_};
 ghost use lib.Dec.{eqb};
-ghost use Rattle.trace_layout.specs.Traces.{known, walks};
+ghost use Rattle.trace_layout.specs.Traces.{mostRecords, trailerSize, known, walks};
 ghost use Rattle.trace.specs.judge.Opening.{trailerAt, trailerOkWith, goodWith, openOf};
 use crate::reader::current_in;
 use octets::words::behind;
@@ -10,15 +10,15 @@ use octets::words::front;
 use octets::words::u32_at;
 use octets::words::u64_at;
 use trace_layout::pieces::BACK_MARK;
+use trace_layout::pieces::MOST_RECORDS;
+use trace_layout::pieces::NEWEST_EDITION;
 use trace_layout::pieces::Piece;
+use trace_layout::pieces::TRAILER_SIZE;
 
-// 02, Order 9: "New traces are edition 3"
-pub const NEWEST_EDITION: u32 = 3;
+// As many records as a trace may have, as its trailer counts them.
+pub(crate) const MOST_COUNT: u32 = MOST_RECORDS as u32;
 
-// 02: "At most 4,096 records"
-pub const MOST_RECORDS: u32 = 4096;
-
-// What the last twenty bytes say.
+// What a trailer says.
 pub struct Trailer {
     pub list: u64,
     pub count: u32,
@@ -47,12 +47,12 @@ fn less(n: usize, k: usize) -> usize
     if k <= n { n - k } else { 0 }
 }
 
-// The last twenty bytes, whatever they are.
+// The last bytes as a trailer, whatever they are.
 pub fn trailer_at(bytes: &[u8]) -> Trailer
     ensures { λ r. ⌜ r ≡ trailerAt (now (bytes .entry)) ⌝ }
 {
     let n = bytes.len();
-    let list = u64_at(bytes, less(n, 20));
+    let list = u64_at(bytes, less(n, TRAILER_SIZE));
     let count = u32_at(bytes, less(n, 12));
     let edition = u32_at(bytes, less(n, 8));
     let mark = u32_at(bytes, less(n, 4));
@@ -66,9 +66,9 @@ pub fn trailer_at(bytes: &[u8]) -> Trailer
 
 // Whether list, entries and trailer fill n bytes. The list's offset may be any number of 64 bits, so it is not added to.
 fn fills(list: u64, count: u32, n: usize) -> bool
-    ensures { λ r. ⌜ r ≡ eqb (list + 8 * count + 20) n ⌝ }
+    ensures { λ r. ⌜ r ≡ eqb (list + 8 * count + trailerSize) n ⌝ }
 {
-    let after = 8 * (count as usize) + 20;
+    let after = 8 * (count as usize) + TRAILER_SIZE;
     if n < after {
         return false;
     }
@@ -78,16 +78,16 @@ fn fills(list: u64, count: u32, n: usize) -> bool
 fn trailer_ok(n: usize, trailer: Trailer) -> bool
     ensures { λ r. ⌜ r ≡ trailerOkWith n trailer ⌝ }
 {
-    (20 <= n)
+    (TRAILER_SIZE <= n)
         & (trailer.mark == BACK_MARK)
         & known(trailer.edition)
-        & (trailer.count <= MOST_RECORDS)
+        & (trailer.count <= MOST_COUNT)
         & fills(trailer.list, trailer.count, n)
 }
 
 // Whether count records lie end to end in the body and their offsets are the entries.
 fn walk(edition: u32, body: &[u8], entries: &[u8], count: usize) -> bool
-    requires { ⌜ count ≤ 4096 ⌝ }
+    requires { ⌜ count ≤ mostRecords ⌝ }
     ensures { λ r. ⌜ r ≡ walks edition count 0 (now (body .entry)) (now (entries .entry)) ⌝ }
 {
     let mut at = 0;

@@ -6,7 +6,7 @@ ghost use mathlib.Core.Bool.{cond};
 ghost use lib.Dec.{eqb};
 ghost use Rattle.trace.specs.places.Given.{entryOf};
 ghost use Rattle.trace.specs.places.Places.{openFront, entryOk, placeFor, hasRoom};
-use crate::judge::MOST_RECORDS;
+use crate::judge::MOST_COUNT;
 use cone::Cone;
 use cone::Settings;
 use cone::Steps;
@@ -95,7 +95,7 @@ fn has_room(room: usize, used: usize, count: u32, size: usize) -> bool
     if left < 8 {
         return false;
     }
-    (count < MOST_RECORDS) & (size <= left - 8)
+    (count < MOST_COUNT) & (size <= left - 8)
 }
 
 // Where the record goes, or which number refuses it.

@@ -4,13 +4,14 @@ ghost use Prim.Native.Nat.{_+_, _*_, _≤_};
 ghost use lib.ListN.{length};
 ghost use lib.Seq.{sets};
 ghost use Rattle.octets.specs.words.Words.{rowBytes};
-ghost use Rattle.trace_layout.specs.Records.{rulesIn, settingsIn};
+ghost use Rattle.trace_layout.specs.Records.{headSize, dualStepBack, rulesIn, settingsIn};
 ghost use Rattle.trace_layout.specs.pieces.Entries.{bitsOf};
 ghost use Rattle.trace.specs.record_writer.Parts.{headRow, ruleRow, searchBytes, answerBytes, resultBytes, vectorBytes, entryBytes};
 use double::to_bits;
 use octets::words::put;
 use octets::words::put_words;
 use trace_layout::pieces::Entry;
+use trace_layout::pieces::HEAD_SIZE;
 use trace_layout::pieces::STEP_MARK;
 use trace_layout::pieces::layout::rules_in;
 use trace_layout::pieces::layout::settings_in;
@@ -26,7 +27,7 @@ fn put_row(bytes: &mut [u8], place: usize, row: &[f64])
 }
 
 fn put_head(bytes: &mut [u8], place: usize, size: usize, x: Entry)
-    requires { ⌜ place + 20 ≤ length (now bytes) ⌝ }
+    requires { ⌜ place + headSize ≤ length (now bytes) ⌝ }
     ensures { λ _. ⌜ now (bytes .exit) ≡ sets (now (bytes .entry)) place (rowBytes 4 (headRow size x)) ⌝ }
 {
     let row = [
@@ -72,7 +73,7 @@ fn put_answer(bytes: &mut [u8], place: usize, step: u64, count: u32)
 
 // Both answers: dual step, dual count, primal step, primal count.
 fn put_results(bytes: &mut [u8], place: usize, x: Entry)
-    requires { ⌜ place + 24 ≤ length (now bytes) ⌝ }
+    requires { ⌜ place + dualStepBack ≤ length (now bytes) ⌝ }
     ensures { λ _. ⌜ now (bytes .exit) ≡ sets (now (bytes .entry)) place (resultBytes x) ⌝ }
 {
     put_answer(bytes, place, x.dualstep, x.dualcount);
@@ -111,7 +112,7 @@ pub fn put_record(
         (entryBytes edition x (now (exps .entry)) (now (dz .entry)) (now (ds .entry)) (now (z .entry)) (now (s .entry))) ⌝ }
 {
     let size = size_for(edition, x.kind, x.dim1, x.dim2, x.flag);
-    let second = place + 20;
+    let second = place + HEAD_SIZE;
     let third = second + 4 * rules_in(edition);
     let fourth = third + 8 * exps.len();
     let fifth = fourth + 12 + 8 * settings_in(x.flag);

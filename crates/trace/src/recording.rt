@@ -3,7 +3,6 @@
 ghost use mathlib.Core.Path.{_≡_};
 ghost use lib.Dec.{ltb};
 ghost use Prim.Native.Nat.{_+_};
-ghost use lib.ListN.{length};
 ghost use Rattle.octets.specs.words.Words.{AllBelow};
 ghost use Rattle.trace.specs.entries.Values.{Passed};
 ghost use Rattle.trace.specs.recording.Recording.{recordPutOf, recordAtOf, traceSealOf};
@@ -25,8 +24,10 @@ use cone::table::trace_row;
 use octets::words::behind;
 use octets::words::front;
 use trace_layout::pieces::Piece;
+use trace_layout::pieces::TRAILER_SIZE;
 use trace_layout::pieces::layout::exponents;
 use trace_layout::pieces::layout::size_for;
+use trace_layout::rooms::row;
 
 // Whether n bytes from a place on do not lie in the slice. No sum is made that could wrap.
 fn short(room: usize, at: usize, n: usize) -> bool
@@ -88,20 +89,13 @@ pub fn record_at(bytes: &[u8], edition: u32, at: usize) -> Recorded
     recorded_at(edition, behind(bytes, at), shape, at as u64)
 }
 
-// Room for an offset of each record that a trace may have; it is written before it is read.
-fn row() -> [u64; 4096]
-    ensures { λ r. ⌜ length r ≡ 4096 ⌝ }
-{
-    [0; 4096]
-}
-
 // List and trailer behind the whole records that the first `used` bytes are.
 pub fn seal(bytes: &mut [u8], used: usize, edition: u32) -> Written
     ensures { λ r. ⌜ record { answer = r; bytes = now (bytes .exit) } ≡ traceSealOf (now (bytes .entry)) used edition ⌝ }
 {
     let mut starts = row();
     let walked = walk(edition, front(bytes, used), &mut starts);
-    let length = walked.end + 8 * walked.count + 20;
+    let length = walked.end + 8 * walked.count + TRAILER_SIZE;
     let whole = (used <= bytes.len()) & (walked.end == used);
     let code = trace_row(!(known(edition) & whole), bytes.len() < length);
     if code != 0 {

@@ -19,6 +19,11 @@ use octets::words::behind;
 use octets::words::front;
 use octets::words::u32_at;
 use octets::words::u64_at;
+use trace_layout::pieces::DUAL_COUNT_BACK;
+use trace_layout::pieces::DUAL_STEP_BACK;
+use trace_layout::pieces::HEAD_SIZE;
+use trace_layout::pieces::PRIMAL_COUNT_BACK;
+use trace_layout::pieces::PRIMAL_STEP_BACK;
 use trace_layout::pieces::Piece;
 use trace_layout::pieces::Shape;
 use trace_layout::pieces::layout::exponents;
@@ -80,7 +85,7 @@ fn rule_at(edition: u32, t: &[u8]) -> u32
     if rules_in(edition) == 0 {
         1
     } else {
-        u32_at(t, 20)
+        u32_at(t, HEAD_SIZE)
     }
 }
 
@@ -89,7 +94,7 @@ fn cone_at(edition: u32, t: &[u8], shape: Shape) -> Cone
     ensures { λ r. ⌜ r ≡ coneOf (recordAt edition (now (t .entry))) ⌝ }
 {
     let n = exponents(shape.kind, shape.dim1);
-    let place = 20 + 4 * rules_in(edition);
+    let place = HEAD_SIZE + 4 * rules_in(edition);
     let exps = row32(behind(t, place), n);
     let rule = rule_at(edition, t);
     Cone {
@@ -143,10 +148,10 @@ fn steps_at(edition: u32, t: &[u8], shape: Shape) -> Steps
     ensures { λ r. ⌜ r ≡ stepsOf (recordAt edition (now (t .entry))) ⌝ }
 {
     let size = shape.size;
-    let dualstep = f64_at(t, size - 24);
-    let dualcount = u32_at(t, size - 16);
-    let primalstep = f64_at(t, size - 12);
-    let primalcount = u32_at(t, size - 4);
+    let dualstep = f64_at(t, size - DUAL_STEP_BACK);
+    let dualcount = u32_at(t, size - DUAL_COUNT_BACK);
+    let primalstep = f64_at(t, size - PRIMAL_STEP_BACK);
+    let primalcount = u32_at(t, size - PRIMAL_COUNT_BACK);
     Steps {
         code: 0,
         dualcount,

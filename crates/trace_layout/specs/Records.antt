@@ -5,6 +5,7 @@ use mathlib.Core.Bool.{Bool, true, cond, _&&_}
 use mathlib.Core.List.{List, [], _∷_}
 use lib.Dec.{eqb, leb, ltb}
 use lib.ListN.{length, getD, replicate}
+use Rattle.octets.specs.lines.Lines.{mark}
 use Rattle.octets.specs.words.Words.{wordAt, AllBelow}
 use Rattle.octets.specs.words.Runs.{Run, runsSize, runsBytes, runsOf}
 
@@ -32,7 +33,29 @@ pub record Record : Type 0 where
 
 -- 02: "the four bytes `STEP`", as a number of four bytes
 abbrev pub stepMark : ℕ
-stepMark = 0x50455453
+stepMark = mark "STEP"
+
+-- "the four bytes `STEP`, whole record length, kind, dim1, dim2 (u32 each": the bytes of a record's head
+abbrev pub headSize : ℕ
+headSize = 20
+
+-- "dual step, dual count, primal step, primal count. Counts are u32, all else f64": how many bytes before a record's end each begins. The
+-- first is the size of the four
+abbrev pub dualStepBack : ℕ
+dualStepBack = 24
+
+abbrev pub dualCountBack : ℕ
+dualCountBack = 16
+
+abbrev pub primalStepBack : ℕ
+primalStepBack = 12
+
+abbrev pub primalCountBack : ℕ
+primalCountBack = 4
+
+-- the parts that every record has, whatever its numbers are: the head, "start", the flag and the four. No record is shorter
+abbrev pub fixedSize : ℕ
+fixedSize = 56
 
 -- 02, Order 9: "New traces are edition 3, with the rule (u32) after dim2": how many rules a record of the edition has
 unfoldable pub rulesIn : ℕ → ℕ
@@ -134,10 +157,11 @@ dim2At t = wordAt 4 t 16
 
 -- 02, Order 9: "with the rule (u32) after dim2"; "cones from editions 1 and 2 are under rule 1"
 unfoldable pub ruleAt : ℕ → List ℕ → ℕ
-ruleAt edition t = cond (eqb (rulesIn edition) 0) 1 (wordAt 4 t 20)
+ruleAt edition t = cond (eqb (rulesIn edition) 0) 1 (wordAt 4 t headSize)
 
+-- "start", of 8 bytes, stands before the flag
 unfoldable pub flagPlace : ℕ → ℕ → ℕ → ℕ
-flagPlace edition kind dim1 = 28 + 4 * rulesIn edition + 8 * exponents kind dim1
+flagPlace edition kind dim1 = headSize + 8 + 4 * rulesIn edition + 8 * exponents kind dim1
 
 abbrev pub flagAt : ℕ → List ℕ → ℕ
 flagAt edition t = wordAt 4 t (flagPlace edition (kindAt t) (dim1At t))
@@ -148,14 +172,14 @@ runsAt edition t = runsFor edition (kindAt t) (dim1At t) (dim2At t) (flagAt edit
 abbrev pub sizeAt : ℕ → List ℕ → ℕ
 sizeAt edition t = runsSize (runsAt edition t)
 
--- a well laid out record stands at the front. The steps stand 24 and 12 bytes before its end
+-- a well laid out record stands at the front
 unfoldable pub laidAt : ℕ → List ℕ → Bool
 laidAt edition t =
     eqb (wordAt 4 t 0) stepMark && eqb (wordAt 4 t 4) (sizeAt edition t)
     && shapeOk (kindAt t) (dim1At t) (dim2At t) (flagAt edition t)
     && leb (sizeAt edition t) (length t)
-    && stepOk (wordAt 8 t (sizeAt edition t - 24))
-    && stepOk (wordAt 8 t (sizeAt edition t - 12))
+    && stepOk (wordAt 8 t (sizeAt edition t - dualStepBack))
+    && stepOk (wordAt 8 t (sizeAt edition t - primalStepBack))
 
 -- the number that a row of one holds
 abbrev pub only : List (List ℕ) → ℕ → ℕ

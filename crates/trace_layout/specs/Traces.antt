@@ -2,8 +2,9 @@
 use Prim.Native.Nat.{ℕ, zero, suc, _+_, _*_, _-_}
 use mathlib.Core.Bool.{Bool, _&&_}
 use mathlib.Core.List.{List, [], _∷_, _++_}
-use lib.Dec.{eqb, leb}
+use lib.Dec.{eqb, leb, ltb}
 use lib.ListN.{length, take, drop}
+use Rattle.octets.specs.lines.Lines.{mark}
 use Rattle.octets.specs.words.Words.{wordAt, rowBytes}
 use Rattle.octets.specs.words.Runs.{Run, runsBytes}
 use Rattle.trace_layout.specs.Records.{Record, Laid, Sized, run, one, bytesOf, sizeIn, laidAt, sizeAt, recordAt}
@@ -12,11 +13,27 @@ use Rattle.trace_layout.specs.Records.{Record, Laid, Sized, run, one, by
 
 -- 02: "four bytes `BACK`", as a number of four bytes
 abbrev pub backMark : ℕ
-backMark = 0x4b434142
+backMark = mark "BACK"
 
 -- 02: "At most 4,096 records"
 abbrev pub mostRecords : ℕ
 mostRecords = 4096
+
+-- 02: "a 20-byte trailer that points back". A trace without records is its trailer
+abbrev pub trailerSize : ℕ
+trailerSize = 20
+
+-- 02, Order 2: "a file above 65,536 bytes prints only `refused 8`"
+abbrev pub mostBytes : ℕ
+mostBytes = 65536
+
+-- one byte more, so that a larger file shows
+abbrev pub fileRoom : ℕ
+fileRoom = mostBytes + 1
+
+-- 02, Order 14: "At most 1,000 files"
+abbrev pub mostFiles : ℕ
+mostFiles = 1000
 
 -- 02, Order 9: "New traces are edition 3"
 abbrev pub newestEdition : ℕ
@@ -57,7 +74,7 @@ AllLaid e (r ∷ rs) = Laid e r × Sized r × AllLaid e rs
 -- ---- when bytes are a trace
 
 abbrev pub listAt : List ℕ → ℕ
-listAt bs = wordAt 8 bs (length bs - 20)
+listAt bs = wordAt 8 bs (length bs - trailerSize)
 
 abbrev pub countAt : List ℕ → ℕ
 countAt bs = wordAt 4 bs (length bs - 12)
@@ -72,8 +89,12 @@ offsetAt bs i = wordAt 8 bs (listAt bs + 8 * i)
 -- the trailer: the bytes are enough for it, end in `BACK`, and it points back to a list that ends where the trailer begins
 unfoldable pub trailerOk : List ℕ → Bool
 trailerOk bs =
-    leb 20 (length bs) && eqb (wordAt 4 bs (length bs - 4)) backMark && known (editionAt bs) && leb (countAt bs) mostRecords
-    && eqb (listAt bs + 8 * countAt bs + 20) (length bs)
+    leb trailerSize (length bs) && eqb (wordAt 4 bs (length bs - 4)) backMark && known (editionAt bs) && leb (countAt bs) mostRecords
+    && eqb (listAt bs + 8 * countAt bs + trailerSize) (length bs)
+
+-- the files of Order 2 have at most so many bytes
+unfoldable pub tooLarge : List ℕ → Bool
+tooLarge bs = ltb mostBytes (length bs)
 
 -- n records lie end to end in t, the first of them at the offset `at`, and the entries are their offsets
 unfoldable pub walks : ℕ → ℕ → ℕ → List ℕ → List ℕ → Bool

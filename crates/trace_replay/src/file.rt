@@ -9,13 +9,7 @@ use crate::slices::replay;
 use crate::text::put_text;
 use octets::lines::put_refused;
 use trace_layout::pieces::MOST_BYTES;
-
-// Room for an offset of each record that a trace may have; it is written before it is read.
-fn row() -> [u64; 4096]
-    ensures { λ r. ⌜ length r ≡ 4096 ⌝ }
-{
-    [0; 4096]
-}
+use trace_layout::rooms::row;
 
 // The text, from the slice's first byte on; 98,391 bytes have room for every one. The answer is its length.
 pub fn put_replay(text: &mut [u8], file: &[u8]) -> usize

@@ -5,6 +5,7 @@ ghost use Prim.Native.Nat.{_+_, _≤_, _<_};
 ghost use lib.ListN.{length};
 ghost use lib.Seq.{sets};
 ghost use Rattle.trace_layout.specs.Records.{laidAt, recordAt};
+ghost use Rattle.trace_layout.specs.Traces.{mostRecords};
 ghost use Rattle.trace.specs.judge.Opening.{openOf};
 ghost use Rattle.trace_layout.specs.pieces.Shapes.{shapeAt};
 ghost use Rattle.trace_replay.specs.slices.Replay.{sameRecord, noted, differingIn, refusedWith, replayOf};
@@ -19,6 +20,7 @@ use trace::reader::place_in;
 use trace::value::recorded_at;
 use trace_layout::pieces::Piece;
 use trace_layout::pieces::Shape;
+use trace_layout::rooms::row;
 
 // What a replay answers: its number, how many records there are, and how many of them are the same and differ.
 #[repr(C)]
@@ -52,7 +54,7 @@ fn note(offsets: &mut [u64], n: usize, same: bool, at: u64) -> usize
 // The offsets of the records that differ, from the row's first place on. The answer is their count. A trace that was refused has no
 // records.
 fn note_all(trace: &[u8], opened: Judged, offsets: &mut [u64]) -> usize
-    requires { ⌜ (opened ≡ openOf (now trace)) × (4096 ≤ length (now offsets)) ⌝ }
+    requires { ⌜ (opened ≡ openOf (now trace)) × (mostRecords ≤ length (now offsets)) ⌝ }
     ensures { λ r. ⌜ (r ≡ length (differingIn (now (trace .entry)) opened))
         × (now (offsets .exit) ≡ sets (now (offsets .entry)) 0 (differingIn (now (trace .entry)) opened)) ⌝ }
 {
@@ -69,14 +71,6 @@ fn note_all(trace: &[u8], opened: Judged, offsets: &mut [u64]) -> usize
         at = place_in(body, at, opened.edition);
     }
     n
-}
-
-// Room for an offset of each record that a trace may have. What it holds is written before it is read: the length is all that is told of
-// it.
-fn row() -> [u64; 4096]
-    ensures { λ r. ⌜ length r ≡ 4096 ⌝ }
-{
-    [0; 4096]
 }
 
 // The slice begins with the row.

@@ -12,15 +12,6 @@ use octets::lines::put_refused;
 use octets::lines::put_word;
 use trace_layout::pieces::MOST_BYTES;
 
-// `kept `, `dropped `, `rebuilt` and `right`, as numbers of so many bytes.
-const KEPT: u64 = 0x20_7470_656b;
-
-const DROPPED: u64 = 0x2064_6570_706f_7264;
-
-const REBUILT: u64 = 0x74_6c69_7562_6572;
-
-const RIGHT: u64 = 0x74_6867_6972;
-
 // How many bytes of the text and of the output were written.
 pub struct Lengths {
     pub text: usize,
@@ -32,9 +23,9 @@ fn put_verdict(text: &mut [u8], place: usize, right: bool) -> usize
     ensures { λ r. ⌜ (r ≡ place + length (verdictLine right)) × (now (text .exit) ≡ sets (now (text .entry)) place (verdictLine right)) ⌝ }
 {
     if right {
-        return put_word(text, place, 5, RIGHT);
+        return put_word(text, place, b"right");
     }
-    put_word(text, place, 7, REBUILT)
+    put_word(text, place, b"rebuilt")
 }
 
 // The three lines, from the slice's first byte on. The answer is their length.
@@ -43,8 +34,8 @@ pub fn put_text(text: &mut [u8], kept: u32, dropped: u64, right: bool) -> usize
     ensures { λ r. ⌜ (r ≡ length (rescueText kept dropped right))
         × (now (text .exit) ≡ sets (now (text .entry)) 0 (rescueText kept dropped right)) ⌝ }
 {
-    let second = put_line(text, 0, 5, KEPT, kept as u64);
-    let third = put_line(text, second, 8, DROPPED, dropped);
+    let second = put_line(text, 0, b"kept ", kept as u64);
+    let third = put_line(text, second, b"dropped ", dropped);
     put_verdict(text, third, right)
 }
 
@@ -84,11 +75,11 @@ pub fn edition_of(word: &[u8]) -> u32
         return 0;
     }
     let digit = word[0];
-    if digit < 48 {
+    if digit < b'0' {
         return 0;
     }
-    if 57 < digit {
+    if b'9' < digit {
         return 0;
     }
-    (digit - 48) as u32
+    (digit - b'0') as u32
 }

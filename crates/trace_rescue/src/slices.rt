@@ -3,18 +3,19 @@
 // trace)".
 ghost use mathlib.Core.Path.{_≡_};
 ghost use mathlib.Core.Bool.{cond};
-ghost use lib.ListN.{length};
 ghost use Rattle.octets.specs.words.Words.{AllBelow};
 ghost use Rattle.trace_rescue.specs.slices.Rescue.{editionFor, refusedWith, rescueOf};
 use cone::table::trace_row;
+use octets::words::copy;
 use octets::words::front;
 use trace::judge::known;
 use trace::judge::open;
 use trace::judge::trailer_at;
-use trace::seal::copy;
 use trace::seal::seal;
 use trace::whole::walk;
 use trace_layout::pieces::BACK_MARK;
+use trace_layout::pieces::TRAILER_SIZE;
+use trace_layout::rooms::row;
 
 // What a rescue answers: its number, the records kept, the bytes dropped, the output's length, and whether the input was a good trace.
 #[repr(C)]
@@ -24,13 +25,6 @@ pub struct Rescued {
     pub dropped: u64,
     pub length: u64,
     pub right: bool,
-}
-
-// Room for an offset of each record that a trace may have; it is written before it is read.
-fn row() -> [u64; 4096]
-    ensures { λ r. ⌜ length r ≡ 4096 ⌝ }
-{
-    [0; 4096]
 }
 
 fn refused(code: u32) -> Rescued
@@ -73,7 +67,7 @@ pub fn rescue(input: &[u8], output: &mut [u8], edition: u32) -> Rescued
     let mut starts = row();
     let walked = walk(chosen, input, &mut starts);
     let end = walked.end;
-    let length = end + 8 * walked.count + 20;
+    let length = end + 8 * walked.count + TRAILER_SIZE;
     let code = trace_row(!known(chosen), output.len() < length);
     if code != 0 {
         return refused(code);

@@ -5,46 +5,16 @@ ghost use mathlib.Core.List.{_++_};
 ghost use Prim.Native.Nat.{_+_, _*_, _≤_, _<_};
 ghost use lib.ListN.{length};
 ghost use lib.Seq.{sets};
-ghost use Rattle.octets.specs.words.Words.{le};
 ghost use Rattle.octets.specs.decimal.Decimal.{decimalOf};
 ghost use Rattle.octets.specs.lines.Lines.{lineOf};
+ghost use Rattle.trace_layout.specs.Traces.{mostFiles};
 ghost use Rattle.trace_sheet.specs.counts.Counts.{places};
-ghost use Rattle.trace_sheet.specs.lines.Text.{nameOf, subnormalWord, expPart, expLine, countLine, expLines, mostLine, sideText};
-ghost use Rattle.trace_sheet.specs.lines.Text.{skippedLine, flagLine, skippedLines};
+ghost use Rattle.trace_sheet.specs.lines.Text.{nameOf, expPart, expLine, countLine, expLines, mostLine, sideText};
+ghost use Rattle.trace_sheet.specs.lines.Text.{flagLine, skippedLines};
 use crate::counts::Largest;
 use octets::decimal::put_decimal;
 use octets::lines::put_line;
-use octets::words::put;
-
-// Words as numbers of so many bytes, the first byte lowest: `dual `, `primal `, `records `, `zero `, `sub` and `normal `, `exp ` and `exp
-// -`, `most `, ` file `, ` at `, `skipped ` and `file `, a blank.
-const DUAL: u64 = 0x20_6c61_7564;
-
-const PRIMAL: u64 = 0x20_6c61_6d69_7270;
-
-const RECORDS: u64 = 0x2073_6472_6f63_6572;
-
-const ZERO: u64 = 0x20_6f72_657a;
-
-const SUB: u64 = 0x62_7573;
-
-const NORMAL: u64 = 0x20_6c61_6d72_6f6e;
-
-const EXP: u64 = 0x2070_7865;
-
-const EXP_MINUS: u64 = 0x2d_2070_7865;
-
-const MOST: u64 = 0x20_7473_6f6d;
-
-const FILE_NUMBER: u64 = 0x2065_6c69_6620;
-
-const AT: u64 = 0x2074_6120;
-
-const SKIPPED: u64 = 0x2064_6570_7069_6b73;
-
-const FILE: u64 = 0x20_656c_6966;
-
-const BLANK: u64 = 0x20;
+use octets::words::copy;
 
 // The fields of normal numbers are 1 to 2,046.
 const FIELDS: usize = 2046;
@@ -55,31 +25,31 @@ fn put_name(text: &mut [u8], place: usize, primal: bool) -> usize
     ensures { λ r. ⌜ (r ≡ place + length (nameOf primal)) × (now (text .exit) ≡ sets (now (text .entry)) place (nameOf primal)) ⌝ }
 {
     if primal {
-        put(text, place, 7, PRIMAL);
+        copy(text, place, b"primal ");
         return place + 7;
     }
-    put(text, place, 5, DUAL);
+    copy(text, place, b"dual ");
     place + 5
 }
 
 // A side's name, a word, a number and a line feed.
-fn put_named(text: &mut [u8], place: usize, primal: bool, width: usize, word: u64, n: u64) -> usize
-    requires { ⌜ (place + 64 ≤ length (now text)) × (width ≤ 8) ⌝ }
-    ensures { λ r. ⌜ (r ≡ place + length (lineOf (nameOf primal ++ le width word) n))
-        × (now (text .exit) ≡ sets (now (text .entry)) place (lineOf (nameOf primal ++ le width word) n)) ⌝ }
+fn put_named(text: &mut [u8], place: usize, primal: bool, word: &[u8], n: u64) -> usize
+    requires { ⌜ (place + 64 ≤ length (now text)) × (length (now word) ≤ 10) ⌝ }
+    ensures { λ r. ⌜ (r ≡ place + length (lineOf (nameOf primal ++ now (word .entry)) n))
+        × (now (text .exit) ≡ sets (now (text .entry)) place (lineOf (nameOf primal ++ now (word .entry)) n)) ⌝ }
 {
     let second = put_name(text, place, primal);
-    put_line(text, second, width, word, n)
+    put_line(text, second, word, n)
 }
 
 // A word and a number.
-fn put_part(text: &mut [u8], place: usize, width: usize, word: u64, n: u64) -> usize
-    requires { ⌜ place + width + 20 ≤ length (now text) ⌝ }
-    ensures { λ r. ⌜ (r ≡ place + length (le width word ++ decimalOf n))
-        × (now (text .exit) ≡ sets (now (text .entry)) place (le width word ++ decimalOf n)) ⌝ }
+fn put_part(text: &mut [u8], place: usize, word: &[u8], n: u64) -> usize
+    requires { ⌜ place + length (now word) + 20 ≤ length (now text) ⌝ }
+    ensures { λ r. ⌜ (r ≡ place + length (now (word .entry) ++ decimalOf n))
+        × (now (text .exit) ≡ sets (now (text .entry)) place (now (word .entry) ++ decimalOf n)) ⌝ }
 {
-    put(text, place, width, word);
-    put_decimal(text, place + width, n)
+    copy(text, place, word);
+    put_decimal(text, place + word.len(), n)
 }
 
 // `exp ` and the exponent that a field stands for.
@@ -88,9 +58,9 @@ fn put_exponent(text: &mut [u8], place: usize, field: u64) -> usize
     ensures { λ r. ⌜ (r ≡ place + length (expPart field)) × (now (text .exit) ≡ sets (now (text .entry)) place (expPart field)) ⌝ }
 {
     if field < 1023 {
-        return put_part(text, place, 5, EXP_MINUS, 1023 - field);
+        return put_part(text, place, b"exp -", 1023 - field);
     }
-    put_part(text, place, 4, EXP, field - 1023)
+    put_part(text, place, b"exp ", field - 1023)
 }
 
 fn put_exp(text: &mut [u8], place: usize, primal: bool, field: u64, count: u64) -> usize
@@ -100,7 +70,7 @@ fn put_exp(text: &mut [u8], place: usize, primal: bool, field: u64, count: u64) 
 {
     let second = put_name(text, place, primal);
     let third = put_exponent(text, second, field);
-    put_line(text, third, 1, BLANK, count)
+    put_line(text, third, b" ", count)
 }
 
 // A line for an exponent that occurs.
@@ -139,20 +109,9 @@ fn put_most(text: &mut [u8], place: usize, primal: bool, largest: Largest) -> us
         return place;
     }
     let second = put_name(text, place, primal);
-    let third = put_part(text, second, 5, MOST, largest.size - 1);
-    let fourth = put_part(text, third, 6, FILE_NUMBER, largest.file);
-    put_line(text, fourth, 4, AT, largest.at)
-}
-
-// `subnormal ` has more bytes than a number.
-fn put_subnormal(text: &mut [u8], place: usize, primal: bool, n: u64) -> usize
-    requires { ⌜ place + 64 ≤ length (now text) ⌝ }
-    ensures { λ r. ⌜ (r ≡ place + length (lineOf (nameOf primal ++ subnormalWord) n))
-        × (now (text .exit) ≡ sets (now (text .entry)) place (lineOf (nameOf primal ++ subnormalWord) n)) ⌝ }
-{
-    let second = put_name(text, place, primal);
-    put(text, second, 3, SUB);
-    put_line(text, second + 3, 7, NORMAL, n)
+    let third = put_part(text, second, b"most ", largest.size - 1);
+    let fourth = put_part(text, third, b" file ", largest.file);
+    put_line(text, fourth, b" at ", largest.at)
 }
 
 // The lines of a side, the first line at a place.
@@ -169,19 +128,11 @@ pub fn put_side(
         × (now (text .exit)
         ≡ sets (now (text .entry)) place (sideText primal records (record { counts = now (row .entry); largest = largest }))) ⌝ }
 {
-    let second = put_named(text, place, primal, 8, RECORDS, records);
-    let third = put_named(text, second, primal, 5, ZERO, row[0]);
+    let second = put_named(text, place, primal, b"records ", records);
+    let third = put_named(text, second, primal, b"zero ", row[0]);
     let fourth = put_exps(text, third, primal, row);
-    let fifth = put_subnormal(text, fourth, primal, row[1]);
+    let fifth = put_named(text, fourth, primal, b"subnormal ", row[1]);
     put_most(text, fifth, primal, largest)
-}
-
-fn put_skipped(text: &mut [u8], place: usize, file: u64) -> usize
-    requires { ⌜ place + 64 ≤ length (now text) ⌝ }
-    ensures { λ r. ⌜ (r ≡ place + length (skippedLine file)) × (now (text .exit) ≡ sets (now (text .entry)) place (skippedLine file)) ⌝ }
-{
-    put(text, place, 8, SKIPPED);
-    put_line(text, place + 8, 5, FILE, file)
 }
 
 // A line for a file that is skipped.
@@ -193,12 +144,12 @@ fn put_flag(text: &mut [u8], place: usize, file: u64, flag: u8) -> usize
     if flag == 0 {
         return place;
     }
-    put_skipped(text, place, file)
+    put_line(text, place, b"skipped file ", file)
 }
 
 // 02, Order 14: "is named first in a line `skipped file N`".
 pub fn put_flags(text: &mut [u8], flags: &[u8]) -> usize
-    requires { ⌜ (64 * length (now flags) ≤ length (now text)) × (length (now flags) ≤ 1000) ⌝ }
+    requires { ⌜ (64 * length (now flags) ≤ length (now text)) × (length (now flags) ≤ mostFiles) ⌝ }
     ensures { λ r. ⌜ (r ≡ 0 + length (skippedLines 1 (now (flags .entry))))
         × (now (text .exit) ≡ sets (now (text .entry)) 0 (skippedLines 1 (now (flags .entry)))) ⌝ }
 {

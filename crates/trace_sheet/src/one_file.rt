@@ -4,6 +4,7 @@ ghost use mathlib.Core.Bool.{true, false, cond};
 ghost use Prim.Native.Nat.{_-_, _≤_};
 ghost use lib.ListN.{length};
 ghost use Rattle.octets.specs.words.Words.{wordAt, AllBelow};
+ghost use Rattle.trace_layout.specs.Records.{dualStepBack, dualCountBack, primalStepBack, primalCountBack, fixedSize};
 ghost use Rattle.trace.specs.whole.Whole.{wholeRecords};
 ghost use Rattle.trace_sheet.specs.counts.Counts.{Fresh, countsOf};
 ghost use Rattle.trace_sheet.specs.counts.Sheet.{entriesIn, entriesOf};
@@ -14,13 +15,15 @@ use crate::counts::larger_of;
 use octets::words::behind;
 use octets::words::u32_at;
 use octets::words::u64_at;
-use trace::judge::MOST_RECORDS;
 use trace::judge::open;
 use trace::reader::current_in;
+use trace_layout::pieces::DUAL_COUNT_BACK;
+use trace_layout::pieces::DUAL_STEP_BACK;
 use trace_layout::pieces::MOST_BYTES;
+use trace_layout::pieces::MOST_RECORDS;
+use trace_layout::pieces::PRIMAL_COUNT_BACK;
+use trace_layout::pieces::PRIMAL_STEP_BACK;
 use trace_layout::pieces::Piece;
-
-const MOST: usize = MOST_RECORDS as usize;
 
 // How many searches of one side there are, and the largest of them.
 pub struct Tally {
@@ -38,24 +41,26 @@ pub struct Part {
 
 // The step of one side, in a record of that size.
 fn step_at(t: &[u8], size: usize, primal: bool) -> u64
-    requires { ⌜ 56 ≤ size ⌝ }
-    ensures { λ r. ⌜ r ≡ cond primal (wordAt 8 (now (t .entry)) (size - 12)) (wordAt 8 (now (t .entry)) (size - 24)) ⌝ }
+    requires { ⌜ fixedSize ≤ size ⌝ }
+    ensures { λ r. ⌜ r
+        ≡ cond primal (wordAt 8 (now (t .entry)) (size - primalStepBack)) (wordAt 8 (now (t .entry)) (size - dualStepBack)) ⌝ }
 {
     if primal {
-        return u64_at(t, size - 12);
+        return u64_at(t, size - PRIMAL_STEP_BACK);
     }
-    u64_at(t, size - 24)
+    u64_at(t, size - DUAL_STEP_BACK)
 }
 
 // The tests of that search.
 fn tests_at(t: &[u8], size: usize, primal: bool) -> u32
-    requires { ⌜ 56 ≤ size ⌝ }
-    ensures { λ r. ⌜ r ≡ cond primal (wordAt 4 (now (t .entry)) (size - 4)) (wordAt 4 (now (t .entry)) (size - 16)) ⌝ }
+    requires { ⌜ fixedSize ≤ size ⌝ }
+    ensures { λ r. ⌜ r
+        ≡ cond primal (wordAt 4 (now (t .entry)) (size - primalCountBack)) (wordAt 4 (now (t .entry)) (size - dualCountBack)) ⌝ }
 {
     if primal {
-        return u32_at(t, size - 4);
+        return u32_at(t, size - PRIMAL_COUNT_BACK);
     }
-    u32_at(t, size - 16)
+    u32_at(t, size - DUAL_COUNT_BACK)
 }
 
 // The searches of one side of the whole records at the front of bytes, which of a good trace are all its records: steps counted in the row.
@@ -70,7 +75,7 @@ pub fn tally_side(edition: u32, bytes: &[u8], primal: bool, row: &mut [u64]) -> 
         file: 0,
         at: 0,
     };
-    for i in 0..MOST {
+    for i in 0..MOST_RECORDS {
         let t = behind(bytes, at);
         let Piece::Record(shape) = current_in(bytes, at, edition) else {
             return Tally {
@@ -91,7 +96,7 @@ pub fn tally_side(edition: u32, bytes: &[u8], primal: bool, row: &mut [u64]) -> 
         at += size;
     }
     Tally {
-        records: MOST as u64,
+        records: MOST_RECORDS as u64,
         largest,
     }
 }

@@ -12,11 +12,9 @@ use crate::counts::larger_of;
 use crate::counts::moved_up;
 use crate::one_file::one_file;
 use cone::table::trace_row;
+use octets::words::copy;
 use octets::words::front;
-use trace::seal::copy;
-
-// 02, Order 14: "At most 1,000 files"
-const MOST_FILES: usize = 1000;
+use trace_layout::pieces::MOST_FILES;
 
 const PLACES: usize = 2048;
 

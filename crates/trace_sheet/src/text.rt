@@ -7,12 +7,13 @@ use crate::rows::Totals;
 use crate::rows::rows_ok;
 use crate::rows::sheet_row;
 use octets::words::front;
+use trace_layout::pieces::MOST_FILES;
 
 // Room for every text: 1,000 lines of skipped files and 2,049 of each side, 64 bytes each, and 96 for the largest of each side.
 const ROOM: usize = 326464;
 
-// 02, Order 14: "At most 1,000 files"
-const MOST_FILES: u32 = 1000;
+// The most files of a sheet, as its totals count them.
+const MOST_COUNT: u32 = MOST_FILES as u32;
 
 // The number of a refusal, or the text's length.
 #[repr(C)]
@@ -35,7 +36,7 @@ pub fn put_sheet(
         (record { totals = sheet; dual = now (dual .entry); primal = now (primal .entry); skipped = now (skipped .entry) }) ⌝ }
 {
     let rows = rows_ok(dual.len(), primal.len(), skipped.len(), sheet.files);
-    let code = sheet_row(!rows, MOST_FILES < sheet.files, text.len() < ROOM);
+    let code = sheet_row(!rows, MOST_COUNT < sheet.files, text.len() < ROOM);
     if code != 0 {
         return Printed { code, length: 0 };
     }

@@ -4,19 +4,13 @@ ghost use mathlib.Core.Path.{_≡_};
 ghost use Prim.Native.Nat.{_≤_};
 ghost use lib.ListN.{length};
 ghost use lib.Seq.{sets};
+ghost use Rattle.trace_layout.specs.Traces.{mostBytes};
 ghost use Rattle.trace_thin.specs.file.Text.{thinText};
 ghost use Rattle.trace_thin.specs.file.Printed.{printedOf, writtenOf, lengthsOf};
 use crate::slices::thin;
 use octets::lines::put_line;
 use octets::lines::put_refused;
 use trace_layout::pieces::MOST_BYTES;
-
-// `length `, `kept ` and `dropped `, as numbers of so many bytes.
-const LENGTH: u64 = 0x20_6874_676e_656c;
-
-const KEPT: u64 = 0x20_7470_656b;
-
-const DROPPED: u64 = 0x2064_6570_706f_7264;
 
 // How many bytes of the text and of the output were written.
 pub struct Lengths {
@@ -30,14 +24,14 @@ pub fn put_text(text: &mut [u8], new: u64, kept: u32, dropped: u32) -> usize
     ensures { λ r. ⌜ (r ≡ length (thinText new kept dropped))
         × (now (text .exit) ≡ sets (now (text .entry)) 0 (thinText new kept dropped)) ⌝ }
 {
-    let second = put_line(text, 0, 7, LENGTH, new);
-    let third = put_line(text, second, 5, KEPT, kept as u64);
-    put_line(text, third, 8, DROPPED, dropped as u64)
+    let second = put_line(text, 0, b"length ", new);
+    let third = put_line(text, second, b"kept ", kept as u64);
+    put_line(text, third, b"dropped ", dropped as u64)
 }
 
 // Text and output, each from its first byte on. 65,536 bytes have room for every trace that comes of a file that is taken.
 pub fn put_thin(file: &[u8], text: &mut [u8], output: &mut [u8]) -> Lengths
-    requires { ⌜ (83 ≤ length (now text)) × (65536 ≤ length (now output)) ⌝ }
+    requires { ⌜ (83 ≤ length (now text)) × (mostBytes ≤ length (now output)) ⌝ }
     ensures { λ r. ⌜ (r ≡ lengthsOf (now (file .entry)))
         × (now (text .exit) ≡ sets (now (text .entry)) 0 (printedOf (now (file .entry))))
         × (now (output .exit) ≡ sets (now (output .entry)) 0 (writtenOf (now (file .entry)))) ⌝ }

@@ -13,9 +13,9 @@ ghost use Rattle.trace_thin.specs.firsts.Firsts.{startsIn, firstsIn, num
 use octets::equal_bytes::number_of;
 use octets::equal_bytes::same;
 use octets::words::behind;
+use octets::words::copy;
 use octets::words::front;
 use octets::words::u32_at;
-use trace::seal::copy;
 use trace::whole::walk;
 
 // How many pieces are chosen, and how many bytes they have.

@@ -2,7 +2,6 @@
 // in their old order, offsets and trailer new, edition kept". The old list and trailer are read by the judge alone, so that within one
 // buffer nothing is overwritten before it is read.
 ghost use mathlib.Core.Path.{_≡_};
-ghost use lib.ListN.{length};
 ghost use Rattle.octets.specs.words.Words.{AllBelow};
 ghost use Rattle.trace_thin.specs.slices.Thin.{refusedWith, thinOf, thinInPlaceOf};
 use crate::firsts::choose;
@@ -12,6 +11,8 @@ use crate::firsts::move_down;
 use cone::table::trace_row;
 use trace::judge::open;
 use trace::seal::seal;
+use trace_layout::pieces::TRAILER_SIZE;
+use trace_layout::rooms::row;
 
 // What a thinning answers: its number, the records kept and dropped, the new trace's length.
 #[repr(C)]
@@ -20,13 +21,6 @@ pub struct Thinned {
     pub kept: u32,
     pub dropped: u32,
     pub length: u64,
-}
-
-// A number for each record that a trace may have; it is written before it is read.
-fn row() -> [u64; 4096]
-    ensures { λ r. ⌜ length r ≡ 4096 ⌝ }
-{
-    [0; 4096]
 }
 
 fn refused(code: u32) -> Thinned
@@ -58,7 +52,7 @@ pub fn thin(trace: &[u8], output: &mut [u8]) -> Thinned
     );
     let kept = chosen.kept;
     let size = chosen.size;
-    let length = size + 8 * kept + 20;
+    let length = size + 8 * kept + TRAILER_SIZE;
     let code = trace_row(opened.code != 0, output.len() < length);
     if code != 0 {
         return refused(code);
@@ -94,7 +88,7 @@ pub fn thin_in_place(trace: &mut [u8]) -> Thinned
     );
     let kept = chosen.kept;
     let size = chosen.size;
-    let length = size + 8 * kept + 20;
+    let length = size + 8 * kept + TRAILER_SIZE;
     move_down(trace, &mut places, kept);
     seal(trace, size, &places[..kept], opened.edition);
     clear(trace, length);

@@ -7,6 +7,7 @@ use denote.Ref.{now}
 use Rattle.arith.specs.Outcomes.{OneAnswer, OneOutcome}
 use Rattle.octets.proofs.words.u64_at.Reads as u64-at
 use Rattle.octets.proofs.words.u32_at.Reads as u32-at
+use Rattle.octets.proofs.words.copy.Reads as copying
 use Rattle.octets.proofs.words.put.Reads as put
 use Rattle.octets.proofs.words.put_words.Reads as put-words
 
@@ -15,6 +16,9 @@ u64-at-agrees κs a x y s t p q = p ∙ sym q
 
 pub u32-at-agrees : OneAnswer u32-at.Post
 u32-at-agrees κs a x y s t p q = p ∙ sym q
+
+pub copy-agrees : OneOutcome copying.Post {A = List ℕ} (λ κs s. now (s .0))
+copy-agrees κs a x y s t p q = (refl, p ∙ sym q)
 
 pub put-agrees : OneOutcome put.Post {A = List ℕ} (λ κs s. now (s .0))
 put-agrees κs a x y s t p q = (refl, p ∙ sym q)

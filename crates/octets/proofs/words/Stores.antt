@@ -36,6 +36,13 @@ pub getD-before : (b l : List ℕ) (i j : ℕ) → i < j → getD (sets l j b) i
 getD-before [] l i j h = refl
 getD-before (y ∷ b) l i j h = getD-before b (set l j y) i (suc j) (omega arith) ∙ getD-set-other l j i y 0 (λ e. omega arith)
 
+-- ---- copying a row: byte i in front of those that are left
+
+pub copied : (out bytes : List ℕ) (place i : ℕ) → i < length bytes
+    → sets (set out (place + i) (getD bytes i 0)) (place + (i + 1)) (drop (i + 1) bytes) ≡ sets out (place + i) (drop i bytes)
+copied out bytes place i h =
+    let next : place + (i + 1) ≡ place + i + 1 = omega arith in rw (next, drop-cons bytes i 0 h, add-one i, add-one (place + i))
+
 -- ---- moving a row up, its last byte first: byte i joins the bytes above it
 
 pub move-turn : (l : List ℕ) (place from n i : ℕ) → i < n → from + n ≤ length l

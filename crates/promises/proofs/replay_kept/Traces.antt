@@ -12,7 +12,8 @@ use Rattle.cone.specs.table.Table.{traceRow, settle}
 use Rattle.octets.specs.words.Words.{AllBelow}
 use Rattle.octets.proofs.words.Words.{below-append, below-drop}
 use Rattle.trace_layout.specs.Records.{Record, sizeIn}
-use Rattle.trace_layout.specs.Traces.{newestEdition, traceOf, editionAt, goodTrace, recordsOf}
+use Rattle.trace_layout.specs.Traces.{mostBytes, trailerSize, newestEdition, traceOf, editionAt, goodTrace, recordsOf}
+use Rattle.trace_layout.proofs.Limits.{is-small}
 use Rattle.trace_layout.proofs.Traces.{trace-below}
 use Rattle.trace.specs.entries.Values.{Passed}
 use Rattle.trace.specs.entries.Writing.{createOf}
@@ -91,14 +92,14 @@ all-calls h (a ∷ calls) now passed made =
     all-calls (appendOne h a) calls
     (one-call h a now (passed .0) (made .0) (eqb (called (h .bytes) (h .used) a .answer .code) 0) refl) (passed .1) (made .1)
 
-bytes-created : (bs : List ℕ) → AllBelow 256 bs → 20 ≤ length bs → AllBelow 256 (createOf bs .bytes)
+bytes-created : (bs : List ℕ) → AllBelow 256 bs → trailerSize ≤ length bs → AllBelow 256 (createOf bs .bytes)
 unfolding createOf
 bytes-created bs bytes room =
     let empty = traceOf newestEdition [] in
     rw (le-ltb (length bs) 20 room) (below-append 256 empty (drop (length empty) bs) (trace-below newestEdition [])
     (below-drop 256 (length empty) bs bytes))
 
-stands-begun : (bs : List ℕ) → AllBelow 256 bs → 20 ≤ length bs → Stands (begun bs)
+stands-begun : (bs : List ℕ) → AllBelow 256 bs → trailerSize ≤ length bs → Stands (begun bs)
 unfolding AllSame
 stands-begun bs bytes room =
     let c = create-done bs room in
@@ -119,11 +120,11 @@ module _ (h : Held) (now : Stands h) where
   unfolding replayOf traceRow settle
   replayed at = rw (now .good, differs-none, counts-all, now .records, le-ltb (length at) 0 (omega arith))
 
-  printed : h .used ≤ 65536 → printedOf (trace h) ≡ replayText (length (h .done)) (length (h .done)) 0 []
+  printed : h .used ≤ mostBytes → printedOf (trace h) ≡ replayText (length (h .done)) (length (h .done)) 0 []
   unfolding printedOf traceText
   printed few =
-      let short : length (trace h) ≤ 65536 = omega (arith, length-take (h .used) (h .bytes)) in
-      rw (le-ltb 65536 (length (trace h)) short, now .good, differs-none, counts-all, now .records)
+      let short : length (trace h) ≤ mostBytes = omega (arith, length-take (h .used) (h .bytes)) in
+      rw (is-small (trace h) short, now .good, differs-none, counts-all, now .records)
 
 pub made-replays : MadeReplays
 made-replays bs calls bytes room passed made =

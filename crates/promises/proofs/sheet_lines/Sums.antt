@@ -9,10 +9,10 @@ use lib.Dec.{eqb}
 use lib.ListN.{length, take, getD}
 use lib.Seq.{take-suc, take-all}
 use borrow.Author.Tests.{eqb-true}
-use Rattle.octets.specs.lines.Lines.{lineOf}
+use Rattle.octets.specs.lines.Lines.{ascii, lineOf}
 use Rattle.trace_sheet.specs.counts.Counts.{places, total}
 use Rattle.trace_sheet.specs.counts.Sheet.{Side, sheetOf, entriesFrom}
-use Rattle.trace_sheet.specs.lines.Text.{nameOf, recordsWord, zeroWord, subnormalWord, expLine, countLine, expLines, mostLine, sideText}
+use Rattle.trace_sheet.specs.lines.Text.{nameOf, expLine, countLine, expLines, mostLine, sideText}
 use Rattle.trace_sheet.proofs.counts.Rows.{length-counts}
 use Rattle.trace_sheet.proofs.counts.AddsUp.{sheet-laws}
 use Rattle.promises.specs.sheet_lines.Sums as lines
@@ -100,15 +100,15 @@ linesOf row = lines.zero (getD row 0 0) ∷ (expsOf row 2046 ++ (lines.subnormal
 
 side-text : (primal : Bool) (records : ℕ) (side : Side)
     → sideText primal records side
-    ≡ lineOf (nameOf primal ++ recordsWord) records ++ textOf primal (linesOf (side .counts)) ++ mostLine primal (side .largest)
+    ≡ lineOf (nameOf primal ++ ascii "records ") records ++ textOf primal (linesOf (side .counts)) ++ mostLine primal (side .largest)
 unfolding sideText textOf bytesOf
 side-text primal records side =
     let row = side .counts in
     rw (
       text-append primal (expsOf row 2046) (lines.subnormal (getD row 1 0) ∷ []),
       exps-text primal row 2046,
-    ) (regroup (lineOf (nameOf primal ++ recordsWord) records) (lineOf (nameOf primal ++ zeroWord) (getD row 0 0))
-    (textOf primal (expsOf row 2046)) (lineOf (nameOf primal ++ subnormalWord) (getD row 1 0)) (mostLine primal (side .largest)))
+    ) (regroup (lineOf (nameOf primal ++ ascii "records ") records) (lineOf (nameOf primal ++ ascii "zero ") (getD row 0 0))
+    (textOf primal (expsOf row 2046)) (lineOf (nameOf primal ++ ascii "subnormal ") (getD row 1 0)) (mostLine primal (side .largest)))
   where
     regroup : (a b c d m : List ℕ) → (((a ++ b) ++ c) ++ d) ++ m ≡ (a ++ (b ++ (c ++ (d ++ [])))) ++ m
     regroup a b c d m = simp append-assoc

@@ -5,7 +5,7 @@ use mathlib.Core.Path.{_≡_}
 use mathlib.Core.List.{List, [], _∷_}
 use lib.ListN.{length, take}
 use Rattle.octets.specs.words.Words.{AllBelow}
-use Rattle.trace_layout.specs.Traces.{newestEdition}
+use Rattle.trace_layout.specs.Traces.{mostBytes, trailerSize, newestEdition}
 use Rattle.trace.specs.kept.Made.{Call, AllPassed, Held, begun, appendAll}
 use Rattle.trace_replay.specs.slices.Replay.{replayOf}
 use Rattle.trace_replay.specs.text.Text.{replayText}
@@ -24,9 +24,9 @@ pub record ReplaysWhole (h : Held) : Type 0 where
       → replayOf (take (h .used) (h .bytes)) at
       ≡ record { answer = record { code = 0; records = length (h .done); same = length (h .done); differ = 0 }; offsets = at }
   -- the three lines that are printed of a file with these bytes
-  pub printed : h .used ≤ 65536 → printedOf (take (h .used) (h .bytes)) ≡ replayText (length (h .done)) (length (h .done)) 0 []
+  pub printed : h .used ≤ mostBytes → printedOf (take (h .used) (h .bytes)) ≡ replayText (length (h .done)) (length (h .done)) 0 []
 
 abbrev pub MadeReplays : Type 0
 MadeReplays =
-    (bs : List ℕ) (calls : List Call) → AllBelow 256 bs → 20 ≤ length bs → AllPassed calls → AllSearched calls
+    (bs : List ℕ) (calls : List Call) → AllBelow 256 bs → trailerSize ≤ length bs → AllPassed calls → AllSearched calls
     → ReplaysWhole (appendAll (begun bs) calls)

@@ -2,20 +2,14 @@
 -- subnormal 0`, `dual most 42 file 1 at 0`". The document's six lines, byte for byte. The definitions, and the statement;
 -- proofs/sheet_lines/Lines has the proof.
 use Prim.Native.Nat.{ℕ}
-use Prim.Native.Char.{code}
-use Prim.Native.String.{String, [], _∷_}
 use mathlib.Core.Path.{_≡_}
 use mathlib.Core.Bool.{false}
-use mathlib.Core.List.{List, [] as none, _∷_ as _then_}
+use mathlib.Core.List.{List, [], _∷_}
 use lib.ListN.{length}
+use Rattle.octets.specs.lines.Lines.{ascii}
 use Rattle.trace_sheet.specs.counts.Counts.{Entry}
 use Rattle.trace_sheet.specs.counts.Sheet.{sideOf}
 use Rattle.trace_sheet.specs.lines.Text.{sideText}
-
--- the bytes of an ASCII text
-abbrev pub ascii : String → List ℕ
-ascii [] = none
-ascii (c ∷ text) = code c then ascii text
 
 -- a search of the first file: the bits of its step, its tests, and where its record stands
 abbrev pub search : ℕ → ℕ → ℕ → Entry
@@ -23,7 +17,7 @@ search step tests at = record { step = step; tests = tests; file = 1; at = at }
 
 -- the steps 0, 1 and 1/8 in three records; the first one's search made 42 tests
 abbrev pub three : List Entry
-three = search 0 42 0 then search 0x3ff0_0000_0000_0000 1 204 then search 0x3fc0_0000_0000_0000 2 408 then none
+three = search 0 42 0 ∷ search 0x3ff0_0000_0000_0000 1 204 ∷ search 0x3fc0_0000_0000_0000 2 408 ∷ []
 
 abbrev pub sixLines : List ℕ
 sixLines = ascii "dual records 3\ndual zero 1\ndual exp 0 1\ndual exp -3 1\ndual subnormal 0\ndual most 42 file 1 at 0\n"

@@ -4,10 +4,10 @@ use Prim.Native.Nat.{ℕ, _+_}
 use mathlib.Core.Path.{_≡_}
 use mathlib.Core.Bool.{Bool, true, false}
 use mathlib.Core.List.{List, [], _∷_, _++_}
-use Rattle.octets.specs.lines.Lines.{lineOf}
+use Rattle.octets.specs.lines.Lines.{ascii, lineOf}
 use Rattle.trace_sheet.specs.counts.Laws.{AllBytes}
 use Rattle.trace_sheet.specs.counts.Sheet.{Side, sheetOf}
-use Rattle.trace_sheet.specs.lines.Text.{nameOf, recordsWord, zeroWord, subnormalWord, expLine, mostLine, sideText}
+use Rattle.trace_sheet.specs.lines.Text.{nameOf, expLine, mostLine, sideText}
 
 -- a line with a count of steps: `zero N`, `exp E N` by the exponent's field, `subnormal N`
 pub data Line : Type 0 where
@@ -17,9 +17,9 @@ pub data Line : Type 0 where
 
 -- its bytes, on one side
 unfoldable pub bytesOf : Bool → Line → List ℕ
-bytesOf primal (zero n) = lineOf (nameOf primal ++ zeroWord) n
+bytesOf primal (zero n) = lineOf (nameOf primal ++ ascii "zero ") n
 bytesOf primal (exponent field n) = expLine primal field n
-bytesOf primal (subnormal n) = lineOf (nameOf primal ++ subnormalWord) n
+bytesOf primal (subnormal n) = lineOf (nameOf primal ++ ascii "subnormal ") n
 
 -- the count that it tells
 unfoldable pub countOf : Line → ℕ
@@ -39,7 +39,8 @@ sumOf (l ∷ ls) = countOf l + sumOf ls
 -- between a side's first line and its last stand such lines and nothing else, and they add up to the records
 pub record AddUp (primal : Bool) (records : ℕ) (side : Side) : Type 0 where
   pub lines : List Line
-  pub text : sideText primal records side ≡ lineOf (nameOf primal ++ recordsWord) records ++ textOf primal lines ++ mostLine primal (side .largest)
+  pub text : sideText primal records side
+      ≡ lineOf (nameOf primal ++ ascii "records ") records ++ textOf primal lines ++ mostLine primal (side .largest)
   pub sum : sumOf lines ≡ records
 
 -- of the sheet of any files, on both sides

@@ -4,24 +4,24 @@ use mathlib.Core.Bool.{Bool}
 use mathlib.Core.List.{List}
 use Prim.Native.Nat.{ℕ, _≤_, _<_}
 use lib.ListN.{length}
-use borrow.Author.Tests.{lt-ltb, le-ltb}
 use borrow.Author.Needs.{needs}
+use Rattle.trace_layout.specs.Traces.{mostBytes}
+use Rattle.trace_layout.proofs.Limits.{is-large, is-small}
 use Rattle.trace_rescue.specs.declared.slices.Rescued.{Rescued}
 use Rattle.trace_rescue.specs.slices.Rescue.{Saved, rescueOf}
-use Rattle.trace_rescue.specs.file.Printed.{tooLarge}
 use Rattle.rescue.specs.Deeds.{write, deedBy, deedOf}
 use Rattle.rescue.proofs.deed.Statement.{statement}
 use Rattle.rescue.proofs.deed.Tie as tie
 
-large : (named : Bool) (bs : List ℕ) (a : Rescued) → 65536 < length bs → write ≡ deedOf named bs a
-unfolding deedOf tooLarge
-large named bs a above = rw (lt-ltb 65536 (length bs) above)
+large : (named : Bool) (bs : List ℕ) (a : Rescued) → mostBytes < length bs → write ≡ deedOf named bs a
+unfolding deedOf
+large named bs a above = rw (is-large bs above)
 
-taken : (named : Bool) (bs old exit : List ℕ) (given : ℕ) (a : Rescued) → length bs ≤ 65536
+taken : (named : Bool) (bs old exit : List ℕ) (given : ℕ) (a : Rescued) → length bs ≤ mostBytes
     → record { answer = a; output = exit } ≡ rescueOf bs old given → deedBy named a ≡ deedOf named bs (rescueOf bs old given .answer)
-unfolding deedOf tooLarge
+unfolding deedOf
 taken named bs old exit given a small told =
-    rw (le-ltb 65536 (length bs) small) (ap (λ (s : Saved). deedBy named (s .answer)) told)
+    rw (is-small bs small) (ap (λ (s : Saved). deedBy named (s .answer)) told)
 
 returns : tie.Need-returns
 returns c = large _ _ _ (c .if1 .taken)

@@ -11,7 +11,7 @@ use Rattle.trace.specs.declared.judge.Judged.{Judged}
 use Rattle.trace_layout.specs.Traces.{backMark, mostRecords, known, trailerOk, goodTrace}
 use Rattle.trace.specs.judge.Opening.{trailerAt, trailerOkWith, goodWith, openOf}
 
-pub few-with : (n : ℕ) (t : Trailer) → trailerOkWith n t ≡ true → t .count ≤ 4096
+pub few-with : (n : ℕ) (t : Trailer) → trailerOkWith n t ≡ true → t .count ≤ mostRecords
 unfolding trailerOkWith
 few-with n t h =
     let front = leb 20 n && eqb (t .mark) backMark && known (t .edition) in

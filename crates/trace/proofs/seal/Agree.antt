@@ -4,11 +4,7 @@ use mathlib.Core.List.{List}
 use Prim.Native.Nat.{ℕ}
 use denote.Ref.{now}
 use Rattle.arith.specs.Outcomes.{OneOutcome}
-use Rattle.trace.proofs.seal.copy.Reads as copying
 use Rattle.trace.proofs.seal.seal.Reads as sealing
-
-pub copy-agrees : OneOutcome copying.Post {A = List ℕ} (λ κs s. now (s .0))
-copy-agrees κs a x y s t p q = (refl, p ∙ sym q)
 
 pub seal-agrees : OneOutcome sealing.Post {A = List ℕ} (λ κs s. now (s .0))
 seal-agrees κs a x y s t p q = (refl, p ∙ sym q)

@@ -10,7 +10,7 @@ use Rattle.cone.specs.declared.Settings.{Settings}
 use Rattle.cone.specs.declared.Steps.{Steps}
 use Rattle.cone.specs.table.Table.{traceRow, settle}
 use Rattle.trace_layout.specs.Records.{Record}
-use Rattle.trace_layout.specs.Traces.{newestEdition, mostRecords, traceOf, editionAt, goodTrace, recordsOf}
+use Rattle.trace_layout.specs.Traces.{newestEdition, mostRecords, trailerSize, traceOf, editionAt, goodTrace, recordsOf}
 use Rattle.trace.specs.declared.entries.Written.{Written}
 use Rattle.trace.specs.places.Given.{givenOf, canLay}
 
@@ -29,7 +29,7 @@ leave bs new = record { answer = record { code = 0; length = length new }; bytes
 
 -- the trace with no record
 unfoldable pub createOf : List ℕ → Left
-createOf bs = let new = traceOf newestEdition [] in cond (ltb (length bs) 20) (refuse bs 8) (leave bs new)
+createOf bs = let new = traceOf newestEdition [] in cond (ltb (length bs) trailerSize) (refuse bs 8) (leave bs new)
 
 -- the slice begins with a good trace of `used` bytes
 abbrev pub goodFront : List ℕ → ℕ → Bool

@@ -7,7 +7,7 @@ use lib.ListN.{length, take, drop}
 use Rattle.octets.specs.words.Words.{wordAt}
 use Rattle.trace.specs.declared.judge.Trailer.{Trailer}
 use Rattle.trace.specs.declared.judge.Judged.{Judged}
-use Rattle.trace_layout.specs.Traces.{backMark, mostRecords, known, listAt, countAt, editionAt, walks, goodTrace}
+use Rattle.trace_layout.specs.Traces.{backMark, mostRecords, trailerSize, known, listAt, countAt, editionAt, walks, goodTrace}
 
 unfoldable pub trailerAt : List ℕ → Trailer
 trailerAt bs = record { list = listAt bs; count = countAt bs; edition = editionAt bs; mark = wordAt 4 bs (length bs - 4) }
@@ -15,7 +15,8 @@ trailerAt bs = record { list = listAt bs; count = countAt bs; edition = editionA
 -- `trailerOk` of a trailer that was read, at the end of n bytes
 unfoldable pub trailerOkWith : ℕ → Trailer → Bool
 trailerOkWith n t =
-    leb 20 n && eqb (t .mark) backMark && known (t .edition) && leb (t .count) mostRecords && eqb (t .list + 8 * t .count + 20) n
+    leb trailerSize n && eqb (t .mark) backMark && known (t .edition) && leb (t .count) mostRecords
+    && eqb (t .list + 8 * t .count + trailerSize) n
 
 unfoldable pub goodWith : List ℕ → Trailer → Bool
 goodWith bs t = trailerOkWith (length bs) t && walks (t .edition) (t .count) 0 (take (t .list) bs) (drop (t .list) bs)

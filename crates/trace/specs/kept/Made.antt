@@ -12,7 +12,7 @@ use Rattle.cone.specs.declared.Settings.{Settings}
 use Rattle.cone.specs.declared.Steps.{Steps}
 use Rattle.octets.specs.words.Words.{AllBelow}
 use Rattle.trace_layout.specs.Records.{Record}
-use Rattle.trace_layout.specs.Traces.{goodTrace, recordsOf}
+use Rattle.trace_layout.specs.Traces.{trailerSize, goodTrace, recordsOf}
 use Rattle.trace.specs.places.Given.{givenOf}
 use Rattle.trace.specs.entries.Writing.{Left, createOf, appendOf}
 use Rattle.trace.specs.entries.Values.{Passed}
@@ -60,7 +60,7 @@ appendAll h (a ∷ calls) = appendAll (appendOne h a) calls
 
 -- Whatever is called, the trace is good, and its records are those of the calls that were done, in their order.
 pub record MadeGood : Type 1 where
-  pub good : (bs : List ℕ) (calls : List Call) → AllBelow 256 bs → 20 ≤ length bs → AllPassed calls
+  pub good : (bs : List ℕ) (calls : List Call) → AllBelow 256 bs → trailerSize ≤ length bs → AllPassed calls
       → goodTrace (take (appendAll (begun bs) calls .used) (appendAll (begun bs) calls .bytes)) ≡ true
-  pub records : (bs : List ℕ) (calls : List Call) → AllBelow 256 bs → 20 ≤ length bs → AllPassed calls
+  pub records : (bs : List ℕ) (calls : List Call) → AllBelow 256 bs → trailerSize ≤ length bs → AllPassed calls
       → recordsOf (take (appendAll (begun bs) calls .used) (appendAll (begun bs) calls .bytes)) ≡ appendAll (begun bs) calls .done

@@ -7,7 +7,7 @@ use mathlib.Core.List.{List, [], _∷_, _++_}
 use lib.Dec.{eqb}
 use lib.ListN.{length, take}
 use Rattle.octets.specs.words.Words.{AllBelow}
-use Rattle.trace_layout.specs.Traces.{newestEdition, mostRecords, recordsBytes, traceOf}
+use Rattle.trace_layout.specs.Traces.{newestEdition, mostRecords, trailerSize, recordsBytes, traceOf}
 use Rattle.trace.specs.entries.Writing.{Left}
 use Rattle.trace.specs.entries.Values.{Passed}
 use Rattle.trace.specs.recording.Recording.{recordPutOf, recordAtOf, traceSealOf}
@@ -56,7 +56,7 @@ pub record PutSealed : Type 1 where
       length (h .done) ≤ mostRecords → sealAll e h .answer .code ≡ 0 → traceIn (sealAll e h) ≡ traceOf e (h .done)
   -- put, put, .., seal is the trace that create and appends make, byte for byte: where each append is done in a slice, so are each put and
   -- the seal in one that is as long, and the two traces are the same
-  pub same : (bs cs : List ℕ) (calls : List Call) → AllBelow 256 cs → 20 ≤ length cs → length cs ≤ length bs → AllPassed calls
+  pub same : (bs cs : List ℕ) (calls : List Call) → AllBelow 256 cs → trailerSize ≤ length cs → length cs ≤ length bs → AllPassed calls
       → EachAppended (begun cs) calls
       → let h = putAll newestEdition (unused bs) calls in
       let made = appendAll (begun cs) calls in

@@ -3,7 +3,7 @@ ghost use mathlib.Core.Path.{_≡_};
 ghost use Prim.Native.Nat.{_+_, _*_, _≤_, _<_};
 ghost use lib.ListN.{length, take, drop};
 ghost use lib.Seq.{sets};
-ghost use Rattle.trace_layout.specs.Traces.{trailerOf};
+ghost use Rattle.trace_layout.specs.Traces.{mostRecords, trailerSize, trailerOf};
 ghost use Rattle.trace.specs.record_writer.Parts.{entryBytes};
 ghost use Rattle.trace.specs.writer.Entries.{endBytes, insertOf};
 use crate::record_writer::put_record;
@@ -27,7 +27,7 @@ fn move_up(bytes: &mut [u8], from: usize, n: usize, by: usize)
 
 // 02: "offset of that list (u64), record count (u32), edition (u32, now 1), four bytes `BACK`"
 pub fn put_trailer(bytes: &mut [u8], place: usize, list: u64, count: u32, edition: u32)
-    requires { ⌜ place + 20 ≤ length (now bytes) ⌝ }
+    requires { ⌜ place + trailerSize ≤ length (now bytes) ⌝ }
     ensures { λ _. ⌜ now (bytes .exit) ≡ sets (now (bytes .entry)) place (trailerOf list count edition) ⌝ }
 {
     put(bytes, place, 8, list);
@@ -37,7 +37,7 @@ pub fn put_trailer(bytes: &mut [u8], place: usize, list: u64, count: u32, editio
 
 // The new record's entry, which ends the list, and the trailer behind it.
 fn put_end(bytes: &mut [u8], place: usize, at: u64, list: u64, count: u32, edition: u32)
-    requires { ⌜ place + 28 ≤ length (now bytes) ⌝ }
+    requires { ⌜ place + (8 + trailerSize) ≤ length (now bytes) ⌝ }
     ensures { λ _. ⌜ now (bytes .exit) ≡ sets (now (bytes .entry)) place (endBytes at list count edition) ⌝ }
 {
     put(bytes, place, 8, at);
@@ -56,7 +56,7 @@ pub fn insert(
     z: &[f64],
     s: &[f64],
 )
-    requires { ⌜ (place .list + place .size + 8 * place .count + 28 ≤ length (now bytes)) × (place .count < 4096)
+    requires { ⌜ (place .list + place .size + 8 * place .count + (8 + trailerSize) ≤ length (now bytes)) × (place .count < mostRecords)
         × (length (entryBytes (place .edition) x (now exps) (now dz) (now ds) (now z) (now s)) ≡ place .size) ⌝ }
     ensures { λ _. ⌜ now (bytes .exit)
         ≡ insertOf (now (bytes .entry)) place

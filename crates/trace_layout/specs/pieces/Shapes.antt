@@ -8,7 +8,8 @@ use Rattle.octets.specs.words.Words.{wordAt}
 use Rattle.trace_layout.specs.declared.pieces.Shape.{Shape}
 use Rattle.trace_layout.specs.declared.pieces.Piece.{Piece}
 use Rattle.trace_layout.specs.declared.pieces.Piece.the-variants.{Record, Broken}
-use Rattle.trace_layout.specs.Records.{stepMark, kindAt, dim1At, dim2At, flagAt, sizeAt, shapeOk, stepOk, laidAt}
+use Rattle.trace_layout.specs.Records.{stepMark, dualStepBack, primalStepBack}
+use Rattle.trace_layout.specs.Records.{kindAt, dim1At, dim2At, flagAt, sizeAt, shapeOk, stepOk, laidAt}
 
 unfoldable pub shapeAt : ℕ → List ℕ → Shape
 shapeAt edition t = record { kind = kindAt t; dim1 = dim1At t; dim2 = dim2At t; flag = flagAt edition t; size = sizeAt edition t }
@@ -16,12 +17,12 @@ shapeAt edition t = record { kind = kindAt t; dim1 = dim1At t; dim2 = dim2At t; 
 -- `laidAt` of a shape that was read
 unfoldable pub laidWith : List ℕ → Shape → Bool
 laidWith t shape =
-    leb 24 (shape .size)
+    leb dualStepBack (shape .size)
     && (eqb (wordAt 4 t 0) stepMark && eqb (wordAt 4 t 4) (shape .size)
     && shapeOk (shape .kind) (shape .dim1) (shape .dim2) (shape .flag)
     && leb (shape .size) (length t)
-    && stepOk (wordAt 8 t (shape .size - 24))
-    && stepOk (wordAt 8 t (shape .size - 12)))
+    && stepOk (wordAt 8 t (shape .size - dualStepBack))
+    && stepOk (wordAt 8 t (shape .size - primalStepBack)))
 
 abbrev pub pickPiece : Bool → Piece → Piece → Piece
 pickPiece true x y = x

@@ -3,6 +3,10 @@ ghost use mathlib.Core.Path.{_≡_};
 ghost use Rattle.octets.specs.words.Runs.{runsSize};
 ghost use Rattle.trace_layout.specs.Records.{rulesIn, exponents, settingsIn, runsFor, flagPlace, dimsOk, stepOk, shapeOk};
 ghost use Rattle.trace_layout.specs.pieces.Shapes.{shapeAt, laidWith, foundAt};
+use super::DUAL_STEP_BACK;
+use super::FIXED_SIZE;
+use super::HEAD_SIZE;
+use super::PRIMAL_STEP_BACK;
 use super::Piece;
 use super::STEP_MARK;
 use super::Shape;
@@ -11,6 +15,9 @@ use octets::words::u64_at;
 
 // The bits of the infinity. 02: "a step is +0 or positive and finite"
 const INFINITY_BITS: u64 = 0x7ff0_0000_0000_0000;
+
+// Start has 8 bytes.
+const HEAD_AND_START: usize = HEAD_SIZE + 8;
 
 pub fn rules_in(edition: u32) -> usize
     ensures { λ r. ⌜ r ≡ rulesIn edition ⌝ }
@@ -37,14 +44,14 @@ pub fn settings_in(flag: u32) -> usize
 pub fn flag_place(edition: u32, kind: u32, dim1: u32) -> usize
     ensures { λ r. ⌜ r ≡ flagPlace edition kind dim1 ⌝ }
 {
-    28 + 4 * rules_in(edition) + 8 * exponents(kind, dim1)
+    HEAD_AND_START + 4 * rules_in(edition) + 8 * exponents(kind, dim1)
 }
 
 // The whole record's length. Four dims of 32 bits cannot wrap it.
 pub fn size_for(edition: u32, kind: u32, dim1: u32, dim2: u32, flag: u32) -> usize
     ensures { λ r. ⌜ r ≡ runsSize (runsFor edition kind dim1 dim2 flag) ⌝ }
 {
-    56
+    FIXED_SIZE
         + 4 * rules_in(edition)
         + 8 * exponents(kind, dim1)
         + 8 * settings_in(flag)
@@ -91,12 +98,12 @@ pub fn shape_at(edition: u32, t: &[u8]) -> Shape
     }
 }
 
-// Whether a well laid out record of this shape stands at the front. The steps stand 24 and 12 bytes before its end.
+// Whether a well laid out record of this shape stands at the front.
 fn laid_with(t: &[u8], shape: Shape) -> bool
     ensures { λ r. ⌜ r ≡ laidWith (now (t .entry)) shape ⌝ }
 {
     let size = shape.size;
-    if size < 24 {
+    if size < DUAL_STEP_BACK {
         return false;
     }
     let marked = (u32_at(t, 0) == STEP_MARK) & (u32_at(t, 4) as usize == size);
@@ -104,8 +111,8 @@ fn laid_with(t: &[u8], shape: Shape) -> bool
     marked
         & shaped
         & (size <= t.len())
-        & step_ok(u64_at(t, size - 24))
-        & step_ok(u64_at(t, size - 12))
+        & step_ok(u64_at(t, size - DUAL_STEP_BACK))
+        & step_ok(u64_at(t, size - PRIMAL_STEP_BACK))
 }
 
 // The record at the front, or that there is none.

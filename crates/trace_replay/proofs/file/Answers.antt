@@ -6,9 +6,10 @@ use Prim.Native.Nat.{ℕ, _+_, _≤_, _<_}
 use native.Mathlib.Omega.{arith}
 use lib.ListN.{length, take, drop}
 use lib.Seq.{take-at}
-use borrow.Author.Tests.{lt-ltb, le-ltb}
+use borrow.Author.Tests.{le-ltb}
 use Rattle.cone.specs.table.Table.{traceRow, settle}
-use Rattle.trace_layout.specs.Traces.{editionAt, goodTrace, recordsOf}
+use Rattle.trace_layout.specs.Traces.{mostBytes, mostRecords, editionAt, goodTrace, recordsOf}
+use Rattle.trace_layout.proofs.Limits.{is-large, is-small}
 use Rattle.octets.specs.lines.Lines.{refusedText}
 use Rattle.trace_replay.specs.text.Text.{replayText}
 use Rattle.trace_replay.specs.declared.slices.Replayed.{Replayed}
@@ -17,12 +18,12 @@ use Rattle.trace_replay.proofs.slices.Counting.{few-differ}
 use Rattle.trace_replay.specs.file.Printed.{traceText, printedOf}
 
 -- a file above the limit
-pub too-large : (bs : List ℕ) → 65536 < length bs → refusedText 8 ≡ printedOf bs
+pub too-large : (bs : List ℕ) → mostBytes < length bs → refusedText 8 ≡ printedOf bs
 unfolding printedOf
-too-large bs h = rw (lt-ltb 65536 (length bs) h)
+too-large bs h = rw (is-large bs h)
 
 module _ (bs row exit : List ℕ) (a : Replayed) (told : record { answer = a; offsets = exit } ≡ replayOf bs row)
-    (places : length row ≡ 4096) where
+    (places : length row ≡ mostRecords) where
   abbrev D : List ℕ
   D = differing (editionAt bs) 0 (recordsOf bs)
 
@@ -45,11 +46,11 @@ module _ (bs row exit : List ℕ) (a : Replayed) (told : record { answer = a; of
   good-code : goodTrace bs ≡ true → a .code ≡ 0
   good-code good = ap (λ (x : Noted). x .answer .code) (good-answer good)
 
-  module _ (small : length bs ≤ 65536) where
+  module _ (small : length bs ≤ mostBytes) where
     refused-with : (g : Bool) → goodTrace bs ≡ g → (a .code ≡ 0 → ⊥) → refusedText (a .code) ≡ printedOf bs
     unfolding printedOf
     refused-with true g off = absurd (off (good-code g))
-    refused-with false g off = rw (bad-answer g, le-ltb 65536 (length bs) small, g)
+    refused-with false g off = rw (bad-answer g, is-small bs small, g)
 
     pub refused-text : (a .code ≡ 0 → ⊥) → refusedText (a .code) ≡ printedOf bs
     refused-text off = refused-with (goodTrace bs) refl off
@@ -68,7 +69,7 @@ module _ (bs row exit : List ℕ) (a : Replayed) (told : record { answer = a; of
       differ-is : a .differ ≡ length D
       differ-is = ap (λ (x : Noted). x .answer .differ) whole
 
-      pub differ-few : a .differ ≤ 4096
+      pub differ-few : a .differ ≤ mostRecords
       differ-few = omega (arith, differ-is, few-differ bs good)
 
       offsets-are : take (a .differ) exit ≡ D
@@ -78,5 +79,5 @@ module _ (bs row exit : List ℕ) (a : Replayed) (told : record { answer = a; of
       pub done-text : (x : List ℕ) → x ≡ take (a .differ) exit → replayText (a .records) (a .same) (a .differ) x ≡ printedOf bs
       unfolding printedOf traceText
       done-text x cut =
-          rw (le-ltb 65536 (length bs) small, good, cut ∙ offsets-are, differ-is)
+          rw (is-small bs small, good, cut ∙ offsets-are, differ-is)
           (ap (λ (n : Noted). replayText (n .answer .records) (n .answer .same) (length D) D) whole)

@@ -13,7 +13,7 @@ use Rattle.cone.specs.table.Table.{traceRow}
 use Rattle.cone.proofs.table.Settled.{refused, through, trace-row-off}
 use Rattle.octets.proofs.words.Stores.{sets-first}
 use Rattle.trace_layout.specs.Records.{Record, sizeAt, sizeIn}
-use Rattle.trace_layout.specs.Traces.{countAt, listAt, editionAt, trailerOk, walks, goodTrace, recordsIn, recordsOf}
+use Rattle.trace_layout.specs.Traces.{mostRecords, countAt, listAt, editionAt, trailerOk, walks, goodTrace, recordsIn, recordsOf}
 use Rattle.trace_layout.proofs.Traces.{ends}
 use Rattle.trace.specs.declared.judge.Judged.{Judged}
 use Rattle.trace.specs.judge.Opening.{openOf}
@@ -40,7 +40,7 @@ length-records e zero t = refl
 length-records e (suc n) t = ap suc (length-records e n (drop (sizeAt e t) t))
 
 -- a good trace has at most 4,096 records, so no more differ
-pub few-differ : (bs : List ℕ) → goodTrace bs ≡ true → length (differing (editionAt bs) 0 (recordsOf bs)) ≤ 4096
+pub few-differ : (bs : List ℕ) → goodTrace bs ≡ true → length (differing (editionAt bs) 0 (recordsOf bs)) ≤ mostRecords
 unfolding recordsOf goodTrace
 few-differ bs good =
     let few = ends bs (and-left (trailerOk bs)
@@ -76,7 +76,7 @@ module _ (bs old : List ℕ) where
         let rs = recordsIn (o .edition) (o .count) (take (o .list) bs) in
         omega (arith, counts (o .edition) 0 rs, length-records (o .edition) (o .count) (take (o .list) bs))
 
-    pub found-few : length found ≤ 4096
+    pub found-few : length found ≤ mostRecords
     found-few = omega (arith, found-most, few bs o is)
 
     module _ (code n : ℕ) (row : code ≡ traceRow (not (eqb (o .code) 0)) (ltb (length old) n)) (count : n ≡ length found) where

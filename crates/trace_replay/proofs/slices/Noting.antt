@@ -64,7 +64,7 @@ size-fits e t shape laid is =
 -- ---- a trace that was judged; one that was refused has no records
 
 good-walks : (bs : List ℕ) (g : Bool) → goodTrace bs ≡ g → let o = openOf bs in
-    (walks (o .edition) (o .count) 0 (take (o .list) bs) (drop (o .list) bs) ≡ true) × (o .count ≤ 4096)
+    (walks (o .edition) (o .count) 0 (take (o .list) bs) (drop (o .list) bs) ≡ true) × (o .count ≤ mostRecords)
 unfolding openOf walks goodTrace
 good-walks bs true g =
     let walked = walks (editionAt bs) (countAt bs) 0 (take (listAt bs) bs) (drop (listAt bs) bs) in
@@ -98,7 +98,7 @@ module _ (bs : List ℕ) (o : Judged) where
   none-left at i h = let none : o .count - i ≡ 0 = omega arith in rw none
 
 module _ (bs : List ℕ) (o : Judged) (is : o ≡ openOf bs) where
-  pub few : o .count ≤ 4096
+  pub few : o .count ≤ mostRecords
   few = rw is (good-walks bs (goodTrace bs) refl .1)
 
   pub walks-begun : Walks bs o 0 0

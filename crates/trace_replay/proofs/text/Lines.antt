@@ -6,12 +6,12 @@ use native.Mathlib.Numerals.{add-one}
 use lib.ListN.{length, drop, getD, length-append, drop-of-length-le}
 use lib.Seq.{sets, drop-cons}
 use Rattle.octets.proofs.words.Stores.{sets-after}
-use Rattle.octets.specs.lines.Lines.{lineOf}
-use Rattle.trace_replay.specs.text.Text.{atWord, offsetLines}
+use Rattle.octets.specs.lines.Lines.{ascii, lineOf}
+use Rattle.trace_replay.specs.text.Text.{offsetLines}
 
 module _ (offsets : List ℕ) (i : ℕ) (h : i < length offsets) where
   abbrev line : List ℕ
-  line = lineOf atWord (getD offsets i 0)
+  line = lineOf (ascii "at ") (getD offsets i 0)
 
   left : offsetLines (drop i offsets) ≡ line ++ offsetLines (drop (i + 1) offsets)
   unfolding offsetLines

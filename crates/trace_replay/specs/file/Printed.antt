@@ -2,9 +2,8 @@
 use Prim.Native.Nat.{ℕ}
 use mathlib.Core.Bool.{cond}
 use mathlib.Core.List.{List}
-use lib.Dec.{ltb}
 use lib.ListN.{length}
-use Rattle.trace_layout.specs.Traces.{editionAt, goodTrace, recordsOf}
+use Rattle.trace_layout.specs.Traces.{tooLarge, editionAt, goodTrace, recordsOf}
 use Rattle.octets.specs.lines.Lines.{refusedText}
 use Rattle.trace_replay.specs.text.Text.{replayText}
 use Rattle.trace_replay.specs.slices.Replay.{sameCount, differing}
@@ -20,4 +19,4 @@ traceText bs =
 
 -- "a file above 65,536 bytes prints only `refused 8`, otherwise a broken trace only `refused 9`"
 unfoldable pub printedOf : List ℕ → List ℕ
-printedOf bs = cond (ltb 65536 (length bs)) (refusedText 8) (cond (goodTrace bs) (traceText bs) (refusedText 9))
+printedOf bs = cond (tooLarge bs) (refusedText 8) (cond (goodTrace bs) (traceText bs) (refusedText 9))

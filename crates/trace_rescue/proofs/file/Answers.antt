@@ -6,10 +6,10 @@ use Prim.Native.Nat.{ℕ, _≤_, _<_}
 use native.Mathlib.Omega.{arith}
 use lib.ListN.{length}
 use lib.Seq.{sets}
-use borrow.Author.Tests.{lt-ltb, le-ltb}
 use Rattle.octets.specs.words.Words.{AllBelow}
 use Rattle.octets.proofs.words.Stores.{sets-first}
-use Rattle.trace_layout.specs.Traces.{known}
+use Rattle.trace_layout.specs.Traces.{mostBytes, known}
+use Rattle.trace_layout.proofs.Limits.{is-large, is-small}
 use Rattle.trace_layout.proofs.Traces.{records-least}
 use Rattle.octets.specs.lines.Lines.{refusedText}
 use Rattle.trace_rescue.specs.declared.slices.Rescued.{Rescued}
@@ -18,7 +18,7 @@ use Rattle.trace_rescue.proofs.slices.Saving.{makes, end-inside, saved-
 use Rattle.trace_rescue.proofs.slices.Rescues.{room-rescued, other-rescued}
 use Rattle.trace_rescue.specs.declared.file.Lengths.{Lengths}
 use Rattle.trace_rescue.specs.file.Text.{rescueText}
-use Rattle.trace_rescue.specs.file.Printed.{tooLarge, printedOf, writtenOf, lengthsOf}
+use Rattle.trace_rescue.specs.file.Printed.{printedOf, writtenOf, lengthsOf}
 
 -- what was written, told as other bytes that equal them
 pub written : (old exit text printed : List ℕ) → text ≡ printed → exit ≡ sets old 0 text → exit ≡ sets old 0 printed
@@ -31,29 +31,21 @@ lengths bs text output given n k t p o q = rw (t, p, o, q)
 
 -- ---- a file above the limit
 
-module _ (bs : List ℕ) (given : ℕ) (large : 65536 < length bs) where
-  is-large : tooLarge bs ≡ true
-  unfolding tooLarge
-  is-large = lt-ltb 65536 (length bs) large
-
+module _ (bs : List ℕ) (given : ℕ) (large : mostBytes < length bs) where
   pub large-printed : refusedText 8 ≡ printedOf bs given
   unfolding printedOf
-  large-printed = rw is-large
+  large-printed = rw (is-large bs large)
 
   pub large-written : [] ≡ writtenOf bs given
   unfolding writtenOf
-  large-written = rw is-large
+  large-written = rw (is-large bs large)
 
 -- ---- any other
 
-module _ (bs : List ℕ) (given : ℕ) (small : length bs ≤ 65536) (bytes : AllBelow 256 bs) (old exit : List ℕ) (places : 74916 ≤ length old)
-    (a : Rescued) (told : record { answer = a; output = exit } ≡ rescueOf bs old given) where
+module _ (bs : List ℕ) (given : ℕ) (small : length bs ≤ mostBytes) (bytes : AllBelow 256 bs) (old exit : List ℕ)
+    (places : 74916 ≤ length old) (a : Rescued) (told : record { answer = a; output = exit } ≡ rescueOf bs old given) where
   abbrev e : ℕ
   e = editionFor bs given
-
-  is-small : tooLarge bs ≡ false
-  unfolding tooLarge
-  is-small = le-ltb 65536 (length bs) small
 
   -- its trace has room
   fits : known e ≡ true → length (savedOf e bs) ≤ length old
@@ -85,11 +77,11 @@ module _ (bs : List ℕ) (given : ℕ) (small : length bs ≤ 65536) (bytes : Al
 
     pub other-printed : refusedText (a .code) ≡ printedOf bs given
     unfolding printedOf
-    other-printed = rw (is-small, unknown) (ap (λ (x : Saved). refusedText (x .answer .code)) (other unknown))
+    other-printed = rw (is-small bs small, unknown) (ap (λ (x : Saved). refusedText (x .answer .code)) (other unknown))
 
     pub other-written : [] ≡ writtenOf bs given
     unfolding writtenOf
-    other-written = rw (is-small, unknown)
+    other-written = rw (is-small bs small, unknown)
 
     pub other-left : exit ≡ old
     other-left = ap (λ (x : Saved). x .output) (other unknown)
@@ -107,11 +99,12 @@ module _ (bs : List ℕ) (given : ℕ) (small : length bs ≤ 65536) (bytes : Al
     pub text-printed : rescueText (a .kept) (a .dropped) (a .right) ≡ printedOf bs given
     unfolding printedOf
     text-printed =
-        rw (is-small, knows) (ap (λ (x : Saved). rescueText (x .answer .kept) (x .answer .dropped) (x .answer .right)) (left knows))
+        rw (is-small bs small, knows)
+        (ap (λ (x : Saved). rescueText (x .answer .kept) (x .answer .dropped) (x .answer .right)) (left knows))
 
     saved-written : savedOf e bs ≡ writtenOf bs given
     unfolding writtenOf
-    saved-written = rw (is-small, knows)
+    saved-written = rw (is-small bs small, knows)
 
     pub output-length : a .length ≡ length (writtenOf bs given)
     output-length = ap (λ (x : Saved). x .answer .length) (left knows) ∙ ap length saved-written

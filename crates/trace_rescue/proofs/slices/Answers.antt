@@ -14,7 +14,7 @@ use Rattle.octets.specs.words.Words.{AllBelow}
 use Rattle.octets.proofs.words.Stores.{sets-first, cut-is}
 use Rattle.trace.specs.declared.judge.Judged.{Judged}
 use Rattle.trace.specs.judge.Opening.{openOf}
-use Rattle.trace_layout.specs.Traces.{known, recordsBytes, offsetsFrom, goodTrace}
+use Rattle.trace_layout.specs.Traces.{mostRecords, known, recordsBytes, offsetsFrom, goodTrace}
 use Rattle.trace_layout.proofs.Traces.{length-offsets}
 use Rattle.trace.specs.seal.Seal.{sealOf}
 use Rattle.trace.proofs.seal.Sealing.{put-and-sealed}
@@ -48,8 +48,8 @@ module _ (bs : List ℕ) (bytes : AllBelow 256 bs) (o : Judged) (judged : o ≡ 
   unfolding walkedOf
   end-is = ap (λ (x : Walked). x .end) told
 
-  pub few : w .count ≤ 4096
-  few = omega (arith, count-is, whole-few e 4096 bs)
+  pub few : w .count ≤ mostRecords
+  few = omega (arith, count-is, whole-few e mostRecords bs)
 
   pub inside : w .end ≤ length bs
   inside = omega (arith, end-is, end-inside e bs bytes)
@@ -90,17 +90,17 @@ module _ (bs : List ℕ) (bytes : AllBelow 256 bs) (o : Judged) (judged : o ≡ 
 
       -- the records copied, list and trailer behind them
       module _ (used : ℕ) (is : used ≡ cond (eqb (o .code) 0) n (w .end)) (starts₀ starts copied out : List ℕ)
-          (places : length starts₀ ≡ 4096) (listed : starts ≡ sets starts₀ 0 (offsetsFrom e 0 (wholeRecords e bs)))
+          (places : length starts₀ ≡ mostRecords) (listed : starts ≡ sets starts₀ 0 (offsetsFrom e 0 (wholeRecords e bs)))
           (first : copied ≡ sets old 0 (take (w .end) bs))
           (second : out ≡ sets copied (w .end) (sealOf e (w .end) (take (w .count) starts))) where
         cut : take (w .count) starts ≡ offsetsFrom e 0 (keptOf e bs)
         cut =
             let many : length (offsetsFrom e 0 (keptOf e bs)) ≡ length (keptOf e bs) = length-offsets e 0 (keptOf e bs) in
             cut-is starts₀ (offsetsFrom e 0 (keptOf e bs)) starts (w .count) listed (count-is ∙ sym many)
-            (omega (arith, many, places, whole-few e 4096 bs))
+            (omega (arith, many, places, whole-few e mostRecords bs))
 
         records : take (w .end) bs ≡ recordsBytes e (keptOf e bs)
-        records = ap (λ (k : ℕ). take k bs) end-is ∙ sym (whole-prefix e 4096 bs bytes)
+        records = ap (λ (k : ℕ). take k bs) end-is ∙ sym (whole-prefix e mostRecords bs bytes)
 
         written : out ≡ sets old 0 (savedOf e bs)
         written =

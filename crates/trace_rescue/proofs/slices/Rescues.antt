@@ -12,7 +12,7 @@ use Rattle.cone.specs.table.Table.{traceRow, settle}
 use Rattle.cone.proofs.table.Settled.{trace-row-off}
 use Rattle.octets.specs.words.Words.{AllBelow}
 use Rattle.trace_layout.specs.Records.{Record}
-use Rattle.trace_layout.specs.Traces.{known, recordsBytes, traceOf, editionAt, goodTrace, recordsOf}
+use Rattle.trace_layout.specs.Traces.{mostRecords, known, recordsBytes, traceOf, editionAt, goodTrace, recordsOf}
 use Rattle.trace_layout.specs.Inverses.{Makes}
 use Rattle.trace_layout.proofs.Traces.{trace-below, good-written, edition-written, read-written}
 use Rattle.trace.proofs.seal.Sealing.{length-trace}
@@ -131,7 +131,7 @@ unfolding endsKnown
 none-known = refl
 
 empty-saved : (e : ℕ) → savedOf e [] ≡ traceOf e []
-empty-saved e = ap (traceOf e) (no-more e 4096 [] (none-laid e))
+empty-saved e = ap (traceOf e) (no-more e mostRecords [] (none-laid e))
 
 of-empty : (old : List ℕ) (given : ℕ) → 20 ≤ length old → known given ≡ true → traceIn (rescueOf [] old given) ≡ traceOf given []
 unfolding recordsBytes

@@ -9,7 +9,7 @@ use lib.Dec.{eqb, leb}
 use lib.ListN.{length}
 use borrow.Author.Tests.{le-leb, eq-eqb}
 use Rattle.octets.specs.words.Words.{wordAt, AllBelow}
-use Rattle.trace_layout.specs.Traces.{backMark, known, recordsBytes, traceOf, editionAt, goodTrace, recordsOf}
+use Rattle.trace_layout.specs.Traces.{mostRecords, backMark, known, recordsBytes, traceOf, editionAt, goodTrace, recordsOf}
 use Rattle.trace_layout.specs.Inverses.{Makes}
 use Rattle.trace_layout.proofs.Traces.{good-ends, good-is-written}
 use Rattle.trace.specs.declared.judge.Trailer.{Trailer}
@@ -56,13 +56,13 @@ module _ (bs : List ℕ) (given : ℕ) where
 module _ (e : ℕ) (bs : List ℕ) (bytes : AllBelow 256 bs) where
   -- a known edition and records that make a trace
   pub makes : known e ≡ true → Makes e (keptOf e bs)
-  makes edition = record { edition = edition; few = whole-few e 4096 bs; laid = whole-laid e 4096 bs bytes }
+  makes edition = record { edition = edition; few = whole-few e mostRecords bs; laid = whole-laid e mostRecords bs bytes }
 
   abbrev end : ℕ
   end = length (recordsBytes e (keptOf e bs))
 
   pub end-inside : end ≤ length bs
-  end-inside = whole-inside e 4096 bs bytes
+  end-inside = whole-inside e mostRecords bs bytes
 
   pub saved-length : length (savedOf e bs) ≡ end + 8 * length (keptOf e bs) + 20
   saved-length = length-trace e (keptOf e bs)

@@ -1,18 +1,14 @@
 -- What a rescue prints and writes of the bytes of a file. 02, Order 7. Definitions only.
 use Prim.Native.Nat.{ℕ, _-_}
-use mathlib.Core.Bool.{Bool, cond, _&&_}
+use mathlib.Core.Bool.{cond, _&&_}
 use mathlib.Core.List.{List, []}
-use lib.Dec.{eqb, leb, ltb}
+use lib.Dec.{eqb, leb}
 use lib.ListN.{length, getD}
-use Rattle.trace_layout.specs.Traces.{known, goodTrace}
+use Rattle.trace_layout.specs.Traces.{tooLarge, known, goodTrace}
 use Rattle.octets.specs.lines.Lines.{refusedText}
 use Rattle.trace_rescue.specs.slices.Rescue.{editionFor, keptOf, savedOf, droppedOf}
 use Rattle.trace_rescue.specs.declared.file.Lengths.{Lengths}
 use Rattle.trace_rescue.specs.file.Text.{rescueText}
-
--- the files of Order 2, of at most 65,536 bytes
-unfoldable pub tooLarge : List ℕ → Bool
-tooLarge bs = ltb 65536 (length bs)
 
 -- the three lines, or only `refused 8`, or only `refused 9`
 unfoldable pub printedOf : List ℕ → ℕ → List ℕ
@@ -28,7 +24,7 @@ writtenOf bs given = let e = editionFor bs given in cond (tooLarge bs) [] (cond 
 abbrev pub lengthsOf : List ℕ → ℕ → Lengths
 lengthsOf bs given = record { text = length (printedOf bs given); output = length (writtenOf bs given) }
 
--- the edition that a word names: one digit, 48 is `0`. Every other word names no known edition, as 0 does
+-- the edition that a word names: one digit, of which `0` is the byte 48 and `9` 57. Every other word names no known edition, as 0 does
 unfoldable pub editionOf : List ℕ → ℕ
 editionOf word =
     let digit = getD word 0 0 in

@@ -7,7 +7,7 @@ use lib.ListN.{length, drop}
 use Rattle.cone.specs.table.Table.{traceRow, settle}
 use Rattle.octets.specs.words.Words.{wordAt}
 use Rattle.trace_layout.specs.Records.{Record}
-use Rattle.trace_layout.specs.Traces.{backMark, known, recordsBytes, traceOf, editionAt, goodTrace}
+use Rattle.trace_layout.specs.Traces.{backMark, trailerSize, known, recordsBytes, traceOf, editionAt, goodTrace}
 use Rattle.trace.specs.whole.Whole.{wholeRecords}
 use Rattle.trace_rescue.specs.declared.slices.Rescued.{Rescued}
 
@@ -29,7 +29,7 @@ savedOf e bs = traceOf e (keptOf e bs)
 
 -- "Dropped is the input length less the kept records, and less list and trailer where these were right"
 unfoldable pub droppedOf : ℕ → List ℕ → ℕ
-droppedOf e bs = length bs - length (recordsBytes e (keptOf e bs)) - cond (goodTrace bs) (8 * length (keptOf e bs) + 20) 0
+droppedOf e bs = length bs - length (recordsBytes e (keptOf e bs)) - cond (goodTrace bs) (8 * length (keptOf e bs) + trailerSize) 0
 
 -- a call's answer, and the slice that it was lent for the output
 pub record Saved : Type 0 where

@@ -5,7 +5,7 @@ use mathlib.Core.Bool.{true, false}
 use mathlib.Core.List.{List, [], _++_}
 use lib.ListN.{length, take, drop}
 use Rattle.octets.specs.words.Words.{AllBelow}
-use Rattle.trace_layout.specs.Traces.{known, recordsBytes, traceOf, editionAt, goodTrace, recordsOf}
+use Rattle.trace_layout.specs.Traces.{trailerSize, known, recordsBytes, traceOf, editionAt, goodTrace, recordsOf}
 use Rattle.trace.specs.whole.Longest.{Longest}
 use Rattle.trace_rescue.specs.declared.slices.Rescued.{Rescued}
 use Rattle.trace_rescue.specs.slices.Rescue.{endsKnown, Saved, refuse, rescueOf}
@@ -43,7 +43,8 @@ pub record Rescues : Type 0 where
       → let new = traceIn (rescueOf bs old given) in
       rescueOf bs old given .answer .dropped ≡ length bs - length (recordsBytes (editionAt new) (recordsOf new))
   -- an empty input gives the empty trace of the caller's edition
-  pub empty : (old : List ℕ) (given : ℕ) → 20 ≤ length old → known given ≡ true → traceIn (rescueOf [] old given) ≡ traceOf given []
+  pub empty : (old : List ℕ) (given : ℕ) → trailerSize ≤ length old → known given ≡ true
+      → traceIn (rescueOf [] old given) ≡ traceOf given []
 
 -- 02, Order 8, of any input, a broken one too
 pub record Editions : Type 0 where

@@ -10,7 +10,7 @@ use borrow.Author.Tests.{eqb-true, eqb-false, ne-eqb, ltb-true, ltb-false}
 use Rattle.arith.proofs.Branches.{and-right}
 use Rattle.octets.specs.words.Words.{AllBelow}
 use Rattle.trace_layout.specs.Records.{Record, stepOk, sizeIn}
-use Rattle.trace_layout.specs.Traces.{AllLaid, editionAt, goodTrace, recordsOf}
+use Rattle.trace_layout.specs.Traces.{mostBytes, mostRecords, AllLaid, editionAt, goodTrace, recordsOf}
 use Rattle.trace_layout.proofs.Inverses.{traces-inverse}
 use Rattle.trace_sheet.specs.counts.Counts.{Entry, placeOf, places, howMany, table, countsOf, total}
 use Rattle.trace_sheet.specs.counts.Sheet.{taken, entryOf, entriesIn, entriesOf, entriesFrom, sheetOf}
@@ -100,7 +100,7 @@ placed-records false file e at (r ∷ rs) h =
 
 good : (bs : List ℕ) → taken bs ≡ true → goodTrace bs ≡ true
 unfolding taken
-good bs t = and-right (leb (length bs) 65536) (goodTrace bs) t
+good bs t = and-right (leb (length bs) mostBytes) (goodTrace bs) t
 
 module _ (p : Bool) (file : ℕ) (bs : List ℕ) (bytes : AllBelow 256 bs) where
   placed-file : (b : Bool) → taken bs ≡ b → Placed (entriesOf p file bs)
@@ -146,11 +146,11 @@ length-from p file (bs ∷ files) =
       length-from p (file + 1) files,
     )
 
-count-few : (bs : List ℕ) → AllBelow 256 bs → (b : Bool) → taken bs ≡ b → count bs ≤ 4096
+count-few : (bs : List ℕ) → AllBelow 256 bs → (b : Bool) → taken bs ≡ b → count bs ≤ mostRecords
 count-few bs bytes true t = rw t (traces-inverse .makes bs bytes (good bs t) .few)
 count-few bs bytes false t = rw t (omega arith)
 
-counts-few : (files : List (List ℕ)) → AllBytes files → counts files ≤ 4096 * length files
+counts-few : (files : List (List ℕ)) → AllBytes files → counts files ≤ mostRecords * length files
 unfolding counts AllBytes
 counts-few [] h = omega arith
 counts-few (bs ∷ files) h = omega (arith, count-few bs (h .0) (taken bs) refl, counts-few files (h .1))

@@ -3,47 +3,27 @@ use mathlib.Core.Path.{_≡_, refl}
 use mathlib.Core.Bool.{true, false}
 use mathlib.Core.List.{[], _∷_, _++_}
 use Rattle.octets.specs.decimal.Decimal.{decimalIn}
-use Rattle.octets.specs.lines.Lines.{lineOf}
+use Rattle.octets.specs.lines.Lines.{ascii, lineOf}
 use Rattle.trace_sheet.specs.counts.Counts.{none}
-use Rattle.trace_sheet.specs.lines.Text.{
-  dualWord,
-  primalWord,
-  expWord,
-  mostWord,
-  fileWord,
-  atWord,
-  skippedWord,
-  nameOf,
-  expPart,
-  expLine,
-  countLine,
-  expLines,
-  mostLine,
-  skippedLine,
-  flagLine,
-  skippedLines,
-}
-
--- 48 is `0`, 49 `1`, 45 `-`, 32 the blank and 10 the line feed
+use Rattle.trace_sheet.specs.lines.Text.{nameOf, expPart, expLine, countLine, expLines, mostLine, skippedLine, flagLine, skippedLines}
 
 -- 02: "`dual exp 0 1`"
-exp-zero : expLine false 1023 1 ≡ dualWord ++ expWord ++ (48 ∷ 32 ∷ 49 ∷ 10 ∷ [])
+exp-zero : expLine false 1023 1 ≡ ascii "dual exp 0 1\n"
 unfolding expLine expPart nameOf lineOf decimalIn
 exp-zero = refl
 
 -- 02: "`dual exp -3 1`"
-exp-minus-three : expLine false 1020 1 ≡ dualWord ++ expWord ++ (45 ∷ 51 ∷ 32 ∷ 49 ∷ 10 ∷ [])
+exp-minus-three : expLine false 1020 1 ≡ ascii "dual exp -3 1\n"
 unfolding expLine expPart nameOf lineOf decimalIn
 exp-minus-three = refl
 
 -- the smallest normal exponent is -1022, of the field 1, and the largest 1023, of 2046
-exp-ends : (expPart 1 ≡ expWord ++ (45 ∷ 49 ∷ 48 ∷ 50 ∷ 50 ∷ [])) × (expPart 2046 ≡ expWord ++ (49 ∷ 48 ∷ 50 ∷ 51 ∷ []))
+exp-ends : (expPart 1 ≡ ascii "exp -1022") × (expPart 2046 ≡ ascii "exp 1023")
 unfolding expPart decimalIn
 exp-ends = (refl, refl)
 
 -- 02: "`dual most 42 file 1 at 0`"
-most-example : mostLine false (record { size = 43; file = 1; at = 0 })
-    ≡ dualWord ++ mostWord ++ (52 ∷ 50 ∷ []) ++ fileWord ++ (49 ∷ []) ++ atWord ++ (48 ∷ 10 ∷ [])
+most-example : mostLine false (record { size = 43; file = 1; at = 0 }) ≡ ascii "dual most 42 file 1 at 0\n"
 unfolding mostLine nameOf lineOf decimalIn
 most-example = refl
 
@@ -58,6 +38,6 @@ unfolding expLines countLine expLine expPart nameOf lineOf decimalIn
 largest-first = refl
 
 -- 02: "is named first in a line `skipped file N`": the second and the third of three
-two-skipped : skippedLines 1 (0 ∷ 1 ∷ 1 ∷ []) ≡ skippedWord ++ (50 ∷ 10 ∷ []) ++ skippedWord ++ (51 ∷ 10 ∷ [])
+two-skipped : skippedLines 1 (0 ∷ 1 ∷ 1 ∷ []) ≡ ascii "skipped file 2\nskipped file 3\n"
 unfolding skippedLines flagLine skippedLine lineOf decimalIn
 two-skipped = refl

@@ -7,10 +7,10 @@ use native.Mathlib.Omega.{arith}
 use native.Mathlib.Numerals.{add-one}
 use lib.ListN.{length, drop, getD, length-append, drop-of-length-le}
 use lib.Seq.{sets, drop-cons}
-use Rattle.octets.specs.lines.Lines.{lineOf}
+use Rattle.octets.specs.lines.Lines.{ascii, lineOf}
 use Rattle.trace_sheet.specs.declared.counts.Largest.{Largest}
 use Rattle.trace_sheet.specs.counts.Sheet.{Side}
-use Rattle.trace_sheet.specs.lines.Text.{nameOf, recordsWord, zeroWord, subnormalWord, countLine}
+use Rattle.trace_sheet.specs.lines.Text.{nameOf, countLine}
 use Rattle.trace_sheet.specs.lines.Text.{expLines, mostLine, sideText, flagLine, skippedLines}
 use Rattle.trace_sheet.proofs.lines.Writing.{Wrote, and-then, wrote-as, count-most, named-most, most-most, flag-most}
 
@@ -84,10 +84,10 @@ skipped-most file (flag ∷ flags) =
 pub side-most : (primal : Bool) (records : ℕ) (side : Side) → length (sideText primal records side) ≤ 131232
 unfolding sideText
 side-most primal records side =
-    let one = lineOf (nameOf primal ++ recordsWord) records in
-    let two = lineOf (nameOf primal ++ zeroWord) (getD (side .counts) 0 0) in
+    let one = lineOf (nameOf primal ++ ascii "records ") records in
+    let two = lineOf (nameOf primal ++ ascii "zero ") (getD (side .counts) 0 0) in
     let three = expLines primal (side .counts) 2046 in
-    let four = lineOf (nameOf primal ++ subnormalWord) (getD (side .counts) 1 0) in
+    let four = lineOf (nameOf primal ++ ascii "subnormal ") (getD (side .counts) 1 0) in
     let five = mostLine primal (side .largest) in
     omega (
       arith,
@@ -95,9 +95,9 @@ side-most primal records side =
       length-append ((one ++ two) ++ three) four,
       length-append (one ++ two) three,
       length-append one two,
-      named-most primal recordsWord records (omega arith),
-      named-most primal zeroWord (getD (side .counts) 0 0) (omega arith),
+      named-most primal (ascii "records ") records (omega arith),
+      named-most primal (ascii "zero ") (getD (side .counts) 0 0) (omega arith),
       exps-most primal (side .counts) 2046,
-      named-most primal subnormalWord (getD (side .counts) 1 0) (omega arith),
+      named-most primal (ascii "subnormal ") (getD (side .counts) 1 0) (omega arith),
       most-most primal (side .largest),
     )

@@ -1,7 +1,7 @@
 -- Parts of a text written one behind the other, and how long they are at most. Assumes nothing.
 use mathlib.Core.Path.{_≡_, refl, sym, ap, _∙_}
 use mathlib.Core.Bool.{Bool, true, false}
-use mathlib.Core.List.{List, [], _∷_, _++_, append-assoc}
+use mathlib.Core.List.{List, _++_, append-assoc}
 use Prim.Native.Nat.{ℕ, _+_, _-_, _≤_}
 use native.Mathlib.Omega.{arith}
 use lib.Dec.{eqb, ltb}
@@ -10,11 +10,11 @@ use lib.Seq.{sets}
 use Rattle.octets.proofs.words.Stores.{wrote-after}
 use Rattle.octets.specs.decimal.Decimal.{decimalOf}
 use Rattle.octets.proofs.decimal.Digits.{length-decimal}
-use Rattle.octets.specs.lines.Lines.{lineOf}
+use Rattle.octets.specs.lines.Lines.{ascii, lineOf}
 use Rattle.octets.proofs.lines.Lengths.{line-most}
 use Rattle.trace_sheet.specs.declared.counts.Largest.{Largest}
-use Rattle.trace_sheet.specs.lines.Text.{nameOf, expWord, expMinusWord, mostWord, fileWord, atWord, expPart, expLine, countLine, mostLine}
-use Rattle.trace_sheet.specs.lines.Text.{skippedWord, skippedLine, flagLine}
+use Rattle.trace_sheet.specs.lines.Text.{nameOf, expPart, expLine, countLine, mostLine}
+use Rattle.trace_sheet.specs.lines.Text.{skippedLine, flagLine}
 
 -- a part stands at a place, and its end is known
 abbrev pub Wrote : List ℕ → List ℕ → ℕ → ℕ → List ℕ → Type 0
@@ -31,7 +31,7 @@ wrote-as old new p r e w = (w .0 ∙ ap (λ (x : List ℕ). p + length x) e, w .
 pub line-behind : (a b : List ℕ) (n : ℕ) → a ++ lineOf b n ≡ lineOf (a ++ b) n
 unfolding lineOf
 line-behind a b n =
-    sym (append-assoc a (b ++ decimalOf n) (10 ∷ [])) ∙ ap (λ (x : List ℕ). x ++ (10 ∷ [])) (sym (append-assoc a b (decimalOf n)))
+    sym (append-assoc a (b ++ decimalOf n) (ascii "\n")) ∙ ap (λ (x : List ℕ). x ++ ascii "\n") (sym (append-assoc a b (decimalOf n)))
 
 -- ---- lengths
 
@@ -42,8 +42,8 @@ name-most false = omega arith
 
 exp-by : (field : ℕ) (b : Bool) → ltb field 1023 ≡ b → length (expPart field) ≤ 25
 unfolding expPart
-exp-by field true e = rw e (omega (arith, length-append expMinusWord (decimalOf (1023 - field)), length-decimal 20 (1023 - field)))
-exp-by field false e = rw e (omega (arith, length-append expWord (decimalOf (field - 1023)), length-decimal 20 (field - 1023)))
+exp-by field true e = rw e (omega (arith, length-append (ascii "exp -") (decimalOf (1023 - field)), length-decimal 20 (1023 - field)))
+exp-by field false e = rw e (omega (arith, length-append (ascii "exp ") (decimalOf (field - 1023)), length-decimal 20 (field - 1023)))
 
 pub exp-most : (field : ℕ) → length (expPart field) ≤ 25
 exp-most field = exp-by field (ltb field 1023) refl
@@ -54,8 +54,8 @@ exp-line-most primal field count =
     let front = nameOf primal ++ expPart field in
     omega (
       arith,
-      line-most (front ++ (32 ∷ [])) count,
-      length-append front (32 ∷ []),
+      line-most (front ++ ascii " ") count,
+      length-append front (ascii " "),
       length-append (nameOf primal) (expPart field),
       name-most primal,
       exp-most field,
@@ -77,16 +77,16 @@ most-by : (primal : Bool) (t : Largest) (b : Bool) → eqb (t .size) 0 ≡ b →
 unfolding mostLine
 most-by primal t true e = rw e (omega arith)
 most-by primal t false e =
-    let tests = mostWord ++ decimalOf (t .size - 1) in
-    let file = fileWord ++ decimalOf (t .file) in
+    let tests = ascii "most " ++ decimalOf (t .size - 1) in
+    let file = ascii " file " ++ decimalOf (t .file) in
     rw e (omega (
       arith,
-      line-most (((nameOf primal ++ tests) ++ file) ++ atWord) (t .at),
-      length-append ((nameOf primal ++ tests) ++ file) atWord,
+      line-most (((nameOf primal ++ tests) ++ file) ++ ascii " at ") (t .at),
+      length-append ((nameOf primal ++ tests) ++ file) (ascii " at "),
       length-append (nameOf primal ++ tests) file,
       length-append (nameOf primal) tests,
-      length-append mostWord (decimalOf (t .size - 1)),
-      length-append fileWord (decimalOf (t .file)),
+      length-append (ascii "most ") (decimalOf (t .size - 1)),
+      length-append (ascii " file ") (decimalOf (t .file)),
       length-decimal 20 (t .size - 1),
       length-decimal 20 (t .file),
       name-most primal,
@@ -98,7 +98,7 @@ most-most primal t = most-by primal t (eqb (t .size) 0) refl
 flag-by : (file flag : ℕ) (b : Bool) → eqb flag 0 ≡ b → length (flagLine file flag) ≤ 64
 unfolding flagLine skippedLine
 flag-by file flag true e = rw e (omega arith)
-flag-by file flag false e = rw e (omega (arith, line-most skippedWord file))
+flag-by file flag false e = rw e (omega (arith, line-most (ascii "skipped file ") file))
 
 pub flag-most : (file flag : ℕ) → length (flagLine file flag) ≤ 64
 flag-most file flag = flag-by file flag (eqb flag 0) refl

@@ -8,7 +8,7 @@ use lib.Dec.{leb}
 use lib.ListN.{length}
 use borrow.Author.Tests.{le-leb, lt-leb}
 use Rattle.octets.specs.words.Words.{AllBelow}
-use Rattle.trace_layout.specs.Traces.{editionAt, goodTrace, recordsOf}
+use Rattle.trace_layout.specs.Traces.{mostBytes, editionAt, goodTrace, recordsOf}
 use Rattle.trace.specs.declared.judge.Judged.{Judged}
 use Rattle.trace.specs.judge.Opening.{openOf}
 use Rattle.trace.specs.whole.Whole.{wholeRecords}
@@ -24,22 +24,22 @@ use Rattle.trace_sheet.specs.one_file.Part.{tallyOf, partOf, nothing}
 module _ (bs : List ℕ) where
   -- ---- a file that is skipped
 
-  pub too-large : 65536 < length bs → taken bs ≡ false
+  pub too-large : mostBytes < length bs → taken bs ≡ false
   unfolding taken
-  too-large h = rw (lt-leb (length bs) 65536 h)
+  too-large h = rw (lt-leb (length bs) mostBytes h)
 
   broken-by : (g : Bool) → goodTrace bs ≡ g → (openOf bs .code ≡ 0 → ⊥) → goodTrace bs ≡ false
   unfolding openOf
   broken-by true g off = absurd (off (rw g))
   broken-by false g off = g
 
-  taken-by : (b g : Bool) → leb (length bs) 65536 ≡ b → goodTrace bs ≡ false → taken bs ≡ false
+  taken-by : (b g : Bool) → leb (length bs) mostBytes ≡ b → goodTrace bs ≡ false → taken bs ≡ false
   unfolding taken
   taken-by true g h bad = rw (h, bad)
   taken-by false g h bad = rw h
 
   pub broken : (openOf bs .code ≡ 0 → ⊥) → taken bs ≡ false
-  broken off = taken-by (leb (length bs) 65536) false refl (broken-by (goodTrace bs) refl off)
+  broken off = taken-by (leb (length bs) mostBytes) false refl (broken-by (goodTrace bs) refl off)
 
   module _ (skipped : taken bs ≡ false) where
     no-entries : (p : Bool) (file : ℕ) → entriesOf p file bs ≡ []
@@ -56,7 +56,7 @@ module _ (bs : List ℕ) where
 
   -- ---- a file that is counted
 
-  module _ (bytes : AllBelow 256 bs) (few : length bs ≤ 65536) (o : Judged) (is : o ≡ openOf bs) (on : o .code ≡ 0) where
+  module _ (bytes : AllBelow 256 bs) (few : length bs ≤ mostBytes) (o : Judged) (is : o ≡ openOf bs) (on : o .code ≡ 0) where
     bad-code : goodTrace bs ≡ false → openOf bs .code ≡ 9
     unfolding openOf
     bad-code g = rw g
@@ -70,7 +70,7 @@ module _ (bs : List ℕ) where
 
     is-taken : taken bs ≡ true
     unfolding taken
-    is-taken = rw (le-leb (length bs) 65536 few, good)
+    is-taken = rw (le-leb (length bs) mostBytes few, good)
 
     edition-is : o .edition ≡ editionAt bs
     unfolding openOf

@@ -11,6 +11,7 @@ use borrow.Author.Tests.{eqb-true, leb-true, ltb-false, not-false}
 use Rattle.arith.proofs.Branches.{and-left, and-right, or-left, or-right}
 use Rattle.octets.proofs.words.Stores.{sets-after}
 use Rattle.cone.proofs.table.Settled.{trace-row-off}
+use Rattle.trace_layout.specs.Traces.{mostFiles}
 use Rattle.trace_sheet.specs.declared.counts.Largest.{Largest}
 use Rattle.trace_sheet.specs.counts.Counts.{places, summed, largerOf, movedUp}
 use Rattle.trace_sheet.specs.counts.Sheet.{sheetsAdded}
@@ -57,7 +58,7 @@ pub record Fits (a b : Held) : Type 0 where
   pub second : Whole b
   pub dual-file : (b .totals .dual .size ≡ 0 → ⊥) → b .totals .dual .file ≤ b .totals .files
   pub primal-file : (b .totals .primal .size ≡ 0 → ⊥) → b .totals .primal .file ≤ b .totals .files
-  pub files : a .totals .files + b .totals .files ≤ 1000
+  pub files : a .totals .files + b .totals .files ≤ mostFiles
   pub flags : a .totals .files + b .totals .files ≤ length (a .skipped)
   pub records : a .totals .records + b .totals .records ≤ most
   pub dual : spills (a .dual) (b .dual) ≡ false
@@ -95,14 +96,14 @@ module _ (a b : Held) (on : joinCode a b ≡ 0) where
   none-off : none ≡ false
   none-off = or-left none (spills (a .dual) (b .dual)) (or-left _ (spills (a .primal) (b .primal)) (off .2))
 
-  room-on : (fa + fb ≤ 1000) × (fa + fb ≤ length (a .skipped)) × (a .totals .records + b .totals .records ≤ most)
+  room-on : (fa + fb ≤ mostFiles) × (fa + fb ≤ length (a .skipped)) × (a .totals .records + b .totals .records ≤ most)
   unfolding noRoom
   room-on =
-      let x = ltb 1000 (fa + fb) in
+      let x = ltb mostFiles (fa + fb) in
       let y = ltb (length (a .skipped)) (fa + fb) in
       let z = ltb most (a .totals .records + b .totals .records) in
       let xy : (x || y) ≡ false = or-left (x || y) z none-off in (
-        ltb-false 1000 (fa + fb) (or-left x y xy),
+        ltb-false mostFiles (fa + fb) (or-left x y xy),
         ltb-false (length (a .skipped)) (fa + fb) (or-right x y xy),
         ltb-false most (a .totals .records + b .totals .records) (or-right (x || y) z none-off),
       )

@@ -10,6 +10,7 @@ use lib.Seq.{sets, length-sets, take-all}
 use borrow.Author.Tests.{eq-eqb, le-leb, le-ltb}
 use Rattle.octets.proofs.words.Stores.{cut-is}
 use Rattle.cone.specs.table.Table.{traceRow, settle}
+use Rattle.trace_layout.specs.Traces.{mostFiles, mostRecords}
 use Rattle.trace_sheet.specs.declared.counts.Largest.{Largest}
 use Rattle.trace_sheet.specs.counts.Counts.{places, countsOf, largestOf}
 use Rattle.trace_sheet.specs.counts.Sheet.{Sheet, flagOf, entriesOf, entriesFrom, sheetOf, sheetsAdded}
@@ -145,11 +146,11 @@ module _ (n : ℕ) (h : Held) (xs : List (List ℕ)) (holds : Holds n h xs) wher
 -- ---- two sheets joined
 
 module _ (m n : ℕ) (a b : Held) (xs ys : List (List ℕ)) (first : Holds m a xs) (second : Holds n b ys) (bytes : AllBytes xs)
-    (more-bytes : AllBytes ys) (few : length xs + length ys ≤ 1000) (free : length xs + length ys ≤ m) where
-  few-first : sheetOf xs .records ≤ 4096 * length xs
+    (more-bytes : AllBytes ys) (few : length xs + length ys ≤ mostFiles) (free : length xs + length ys ≤ m) where
+  few-first : sheetOf xs .records ≤ mostRecords * length xs
   few-first = sheet-laws .few xs bytes
 
-  few-second : sheetOf ys .records ≤ 4096 * length ys
+  few-second : sheetOf ys .records ≤ mostRecords * length ys
   few-second = sheet-laws .few ys more-bytes
 
   room : noRoom (a .totals .files) (b .totals .files) (length (a .skipped)) (a .totals .records) (b .totals .records) ≡ false
@@ -159,11 +160,11 @@ module _ (m n : ℕ) (a b : Held) (xs ys : List (List ℕ)) (first : Holds m a x
       let second-files = holds-files n b ys second in
       let first-records = holds-records m a xs first in
       let second-records = holds-records n b ys second in
-      let all : a .totals .files + b .totals .files ≤ 1000 = omega arith in
+      let all : a .totals .files + b .totals .files ≤ mostFiles = omega arith in
       let flags : a .totals .files + b .totals .files ≤ length (a .skipped) = omega (arith, first .size) in
       let records : a .totals .records + b .totals .records ≤ most = omega (arith, few-first, few-second) in
       rw (
-        le-ltb 1000 (a .totals .files + b .totals .files) all,
+        le-ltb mostFiles (a .totals .files + b .totals .files) all,
         le-ltb (length (a .skipped)) (a .totals .files + b .totals .files) flags,
         le-ltb most (a .totals .records + b .totals .records) records,
       )
@@ -261,14 +262,14 @@ unfolding AllBytes
 bytes-parts [] ys h = (tt, h)
 bytes-parts (bs ∷ xs) ys h = let rest = bytes-parts xs ys (h .1) in ((h .0, rest .0), rest .1)
 
-add-holds : (n : ℕ) (h : Held) (xs : List (List ℕ)) (bs : List ℕ) → Holds n h xs → AllBytes xs → AllBytes (bs ∷ []) → length xs < 1000
+add-holds : (n : ℕ) (h : Held) (xs : List (List ℕ)) (bs : List ℕ) → Holds n h xs → AllBytes xs → AllBytes (bs ∷ []) → length xs < mostFiles
     → length xs < n → Holds n (addOf h bs) (xs ++ (bs ∷ []))
 unfolding addOf
 add-holds n h xs bs holds before bytes early free =
     join-holds n (length (bs ∷ [])) h (held (sheetOf (bs ∷ []))) xs (bs ∷ []) holds (held-holds (bs ∷ [])) before bytes (omega arith)
     (omega arith)
 
-add-all : (n : ℕ) (h : Held) (xs files : List (List ℕ)) → Holds n h xs → AllBytes xs → AllBytes files → length xs + length files ≤ 1000
+add-all : (n : ℕ) (h : Held) (xs files : List (List ℕ)) → Holds n h xs → AllBytes xs → AllBytes files → length xs + length files ≤ mostFiles
     → length xs + length files ≤ n → Holds n (addAll h files) (xs ++ files)
 unfolding addAll
 add-all n h xs [] holds before bytes few free = rw (append-nil xs) holds
@@ -307,7 +308,7 @@ pub groups-hold : (a b : Held) (xs ys : List (List ℕ)) → Begun a → Begun b
 groups-hold a b xs ys a-begun b-begun fit flags =
     let bytes = bytes-parts xs ys (fit .bytes) in
     let size = length-append xs ys in
-    let few : length xs + length ys ≤ 1000 = omega (arith, fit .few) in
+    let few : length xs + length ys ≤ mostFiles = omega (arith, fit .few) in
     let free : length xs + length ys ≤ length (a .skipped) = omega (arith, fit .flags) in
     let first = all-hold a xs a-begun (record { bytes = bytes .0; few = omega arith; flags = omega arith }) in
     let second = all-hold b ys b-begun (record { bytes = bytes .1; few = omega arith; flags = flags }) in

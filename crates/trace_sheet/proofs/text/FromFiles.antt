@@ -8,6 +8,7 @@ use native.Mathlib.Omega.{arith}
 use lib.ListN.{length, length-append, length-map}
 use borrow.Author.Tests.{le-ltb}
 use Rattle.cone.specs.table.Table.{traceRow, settle}
+use Rattle.trace_layout.specs.Traces.{mostFiles}
 use Rattle.trace_sheet.specs.counts.Sheet.{Sheet, flagOf, sheetOf}
 use Rattle.trace_sheet.specs.rows.Rows.{Held, sheetRow}
 use Rattle.trace_sheet.proofs.rows.Sums.{Holds, holds-files, holds-rows, holds-sheet, all-hold, groups-hold}
@@ -16,19 +17,20 @@ use Rattle.trace_sheet.proofs.lines.Lines.{skipped-most, side-most}
 use Rattle.trace_sheet.specs.text.Printed.{sheetText, textRoom, printOf}
 use Rattle.trace_sheet.specs.text.FromFiles.{printed, OfFiles}
 
-holds-printed : (old : List ℕ) (n : ℕ) (h : Held) (files : List (List ℕ)) → textRoom ≤ length old → length files ≤ 1000 → Holds n h files
+holds-printed : (old : List ℕ) (n : ℕ) (h : Held) (files : List (List ℕ)) → textRoom ≤ length old → length files ≤ mostFiles
+    → Holds n h files
     → printOf old h ≡ printed old files
 unfolding printOf sheetRow traceRow settle
 holds-printed old n h files room few holds =
-    let few-files : h .totals .files ≤ 1000 = omega (arith, holds-files n h files holds) in
+    let few-files : h .totals .files ≤ mostFiles = omega (arith, holds-files n h files holds) in
     rw (
       holds-rows n h files holds,
-      le-ltb 1000 (h .totals .files) few-files,
+      le-ltb mostFiles (h .totals .files) few-files,
       le-ltb (length old) textRoom room,
       holds-sheet n h files holds,
     )
 
-text-most : (s : Sheet) → length (s .skipped) ≤ 1000 → length (sheetText s) ≤ textRoom
+text-most : (s : Sheet) → length (s .skipped) ≤ mostFiles → length (sheetText s) ≤ textRoom
 unfolding sheetText
 text-most s few =
     let flags = skippedLines 1 (s .skipped) in
@@ -43,7 +45,7 @@ text-most s few =
       side-most true (s .records) (s .primal),
     )
 
-few-flags : (files : List (List ℕ)) → length files ≤ 1000 → length (sheetOf files .skipped) ≤ 1000
+few-flags : (files : List (List ℕ)) → length files ≤ mostFiles → length (sheetOf files .skipped) ≤ mostFiles
 unfolding sheetOf
 few-flags files few = omega (arith, length-map files flagOf)
 

@@ -8,6 +8,7 @@ use lib.Dec.{ltb}
 use lib.ListN.{length, take}
 use lib.Seq.{sets, length-take-le}
 use borrow.Author.Tests.{ltb-false, not-false}
+use Rattle.trace_layout.specs.Traces.{mostFiles}
 use Rattle.trace_sheet.specs.counts.Counts.{places}
 use Rattle.trace_sheet.specs.rows.Rows.{Held, sheetIn, rowsIn, sheetRow}
 use Rattle.trace_sheet.proofs.rows.Joining.{Whole, sheet-row-off, whole}
@@ -18,16 +19,16 @@ use Rattle.trace_sheet.specs.text.Printed.{sheetText, textRoom, Told}
 
 pub record Fits (old : List ℕ) (h : Held) : Type 0 where
   pub rows : Whole h
-  pub files : h .totals .files ≤ 1000
+  pub files : h .totals .files ≤ mostFiles
   pub room : textRoom ≤ length old
 
 module _ (old : List ℕ) (h : Held) where
-  pub fits : sheetRow (not (rowsIn h)) (ltb 1000 (h .totals .files)) (ltb (length old) textRoom) ≡ 0 → Fits old h
+  pub fits : sheetRow (not (rowsIn h)) (ltb mostFiles (h .totals .files)) (ltb (length old) textRoom) ≡ 0 → Fits old h
   fits on =
-      let off = sheet-row-off (not (rowsIn h)) (ltb 1000 (h .totals .files)) (ltb (length old) textRoom) on in
+      let off = sheet-row-off (not (rowsIn h)) (ltb mostFiles (h .totals .files)) (ltb (length old) textRoom) on in
       record {
         rows = whole h (not-false (rowsIn h) (off .0));
-        files = ltb-false 1000 (h .totals .files) (off .1);
+        files = ltb-false mostFiles (h .totals .files) (off .1);
         room = ltb-false (length old) textRoom (off .2);
       }
 

@@ -4,6 +4,7 @@ use mathlib.Core.Path.{_≡_}
 use mathlib.Core.List.{List, [], _∷_, _++_}
 use lib.ListN.{length, getD}
 use Rattle.octets.specs.words.Words.{AllBelow}
+use Rattle.trace_layout.specs.Traces.{mostRecords}
 use Rattle.trace_sheet.specs.counts.Counts.{total}
 use Rattle.trace_sheet.specs.counts.Sheet.{sheetOf, sheetsAdded}
 
@@ -19,6 +20,6 @@ pub record OfSheets : Type 0 where
   pub dual-adds-up : (files : List (List ℕ)) → AllBytes files → total (sheetOf files .dual .counts) ≡ sheetOf files .records
   pub primal-adds-up : (files : List (List ℕ)) → AllBytes files → total (sheetOf files .primal .counts) ≡ sheetOf files .records
   -- counts never wrap: those of 1,000 files are at most 4,096,000
-  pub few : (files : List (List ℕ)) → AllBytes files → sheetOf files .records ≤ 4096 * length files
+  pub few : (files : List (List ℕ)) → AllBytes files → sheetOf files .records ≤ mostRecords * length files
   pub dual-few : (files : List (List ℕ)) (k : ℕ) → getD (sheetOf files .dual .counts) k 0 ≤ sheetOf files .records
   pub primal-few : (files : List (List ℕ)) (k : ℕ) → getD (sheetOf files .primal .counts) k 0 ≤ sheetOf files .records

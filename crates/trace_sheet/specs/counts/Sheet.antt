@@ -5,7 +5,7 @@ use mathlib.Core.List.{List, [], _∷_, _++_, map}
 use lib.Dec.{leb}
 use lib.ListN.{length}
 use Rattle.trace_layout.specs.Records.{Record, sizeIn}
-use Rattle.trace_layout.specs.Traces.{editionAt, goodTrace, recordsOf}
+use Rattle.trace_layout.specs.Traces.{mostBytes, editionAt, goodTrace, recordsOf}
 use Rattle.trace_sheet.specs.declared.counts.Largest.{Largest}
 use Rattle.trace_sheet.specs.counts.Counts.{Entry, countsOf, summed, largerOf, largestOf, movedUp}
 
@@ -13,7 +13,7 @@ use Rattle.trace_sheet.specs.counts.Counts.{Entry, countsOf, summed, lar
 
 -- "a broken one, or one above 65,536 bytes, is named first .. and left uncounted"
 unfoldable pub taken : List ℕ → Bool
-taken bs = leb (length bs) 65536 && goodTrace bs
+taken bs = leb (length bs) mostBytes && goodTrace bs
 
 -- 1 for a file that is skipped
 unfoldable pub flagOf : List ℕ → ℕ

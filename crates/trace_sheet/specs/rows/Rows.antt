@@ -6,6 +6,7 @@ use lib.Dec.{eqb, leb, ltb}
 use lib.ListN.{length, take}
 use lib.Seq.{sets}
 use Rattle.cone.specs.table.Table.{traceRow, settle}
+use Rattle.trace_layout.specs.Traces.{mostFiles}
 use Rattle.trace_sheet.specs.declared.counts.Largest.{Largest}
 use Rattle.trace_sheet.specs.counts.Counts.{places, none}
 use Rattle.trace_sheet.specs.counts.Sheet.{Sheet, sheetOf, sheetsAdded}
@@ -74,7 +75,8 @@ spills (x ∷ xs) (y ∷ ys) = ltb 0xffff_ffff_ffff_ffff (x + y) || spills xs ys
 
 -- .. or more files than have flags. "At most 1,000 files"
 unfoldable pub noRoom : ℕ → ℕ → ℕ → ℕ → ℕ → Bool
-noRoom files more flags records others = ltb 1000 (files + more) || ltb flags (files + more) || ltb 0xffff_ffff_ffff_ffff (records + others)
+noRoom files more flags records others =
+    ltb mostFiles (files + more) || ltb flags (files + more) || ltb 0xffff_ffff_ffff_ffff (records + others)
 
 unfoldable pub sheetRow : Bool → Bool → Bool → ℕ
 sheetRow length broken full = cond length 2 (traceRow broken full)

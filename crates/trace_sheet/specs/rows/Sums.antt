@@ -3,6 +3,7 @@ use Prim.Native.Nat.{ℕ, _≤_}
 use mathlib.Core.Path.{_≡_}
 use mathlib.Core.List.{List, [], _∷_, _++_}
 use lib.ListN.{length}
+use Rattle.trace_layout.specs.Traces.{mostFiles}
 use Rattle.trace_sheet.specs.counts.Counts.{Fresh}
 use Rattle.trace_sheet.specs.counts.Laws.{AllBytes}
 use Rattle.trace_sheet.specs.counts.Sheet.{sheetOf}
@@ -17,7 +18,7 @@ pub record Begun (h : Held) : Type 0 where
 -- bytes, "At most 1,000 files", and flags enough, of which there are n
 pub record Countable (n : ℕ) (files : List (List ℕ)) : Type 0 where
   pub bytes : AllBytes files
-  pub few : length files ≤ 1000
+  pub few : length files ≤ mostFiles
   pub flags : length files ≤ n
 
 -- file after file

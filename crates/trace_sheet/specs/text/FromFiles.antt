@@ -4,6 +4,7 @@ use mathlib.Core.Path.{_≡_}
 use mathlib.Core.List.{List, _++_}
 use lib.ListN.{length}
 use lib.Seq.{sets}
+use Rattle.trace_layout.specs.Traces.{mostFiles}
 use Rattle.trace_sheet.specs.counts.Sheet.{sheetOf}
 use Rattle.trace_sheet.specs.rows.Rows.{Held, joinOf}
 use Rattle.trace_sheet.specs.rows.Sums.{Begun, Countable, addAll}
@@ -26,4 +27,4 @@ pub record OfFiles : Type 0 where
       → Countable (length (a .skipped)) (xs ++ ys) → length ys ≤ length (b .skipped)
       → printOf old (joinOf (addAll a xs) (addAll b ys)) ≡ printed old (xs ++ ys)
   -- and no byte of the text is lost
-  pub room : (files : List (List ℕ)) → length files ≤ 1000 → length (sheetText (sheetOf files)) ≤ textRoom
+  pub room : (files : List (List ℕ)) → length files ≤ mostFiles → length (sheetText (sheetOf files)) ≤ textRoom

@@ -6,6 +6,7 @@ use lib.Dec.{ltb}
 use lib.ListN.{length}
 use lib.Seq.{sets}
 use Rattle.cone.specs.table.Table.{settle}
+use Rattle.trace_layout.specs.Traces.{mostFiles}
 use Rattle.trace_sheet.specs.counts.Sheet.{Sheet}
 use Rattle.trace_sheet.specs.rows.Rows.{Held, sheetIn, rowsIn, sheetRow}
 use Rattle.trace_sheet.specs.lines.Text.{skippedLines, sideText}
@@ -30,6 +31,6 @@ refuse old k = record { answer = record { code = k; length = 0 }; text = old }
 unfoldable pub printOf : List ℕ → Held → Told
 printOf old h =
     let text = sheetText (sheetIn h) in
-    settle (sheetRow (not (rowsIn h)) (ltb 1000 (h .totals .files)) (ltb (length old) textRoom))
+    settle (sheetRow (not (rowsIn h)) (ltb mostFiles (h .totals .files)) (ltb (length old) textRoom))
     (record { answer = record { code = 0; length = length text }; text = sets old 0 text })
     (refuse old)

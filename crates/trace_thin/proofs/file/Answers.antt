@@ -6,10 +6,10 @@ use Prim.Native.Nat.{ℕ, _≤_, _<_}
 use native.Mathlib.Omega.{arith}
 use lib.ListN.{length}
 use lib.Seq.{sets}
-use borrow.Author.Tests.{lt-ltb, le-ltb}
 use Rattle.octets.specs.words.Words.{AllBelow}
 use Rattle.octets.proofs.words.Stores.{sets-first}
-use Rattle.trace_layout.specs.Traces.{goodTrace}
+use Rattle.trace_layout.specs.Traces.{mostBytes, goodTrace}
+use Rattle.trace_layout.proofs.Limits.{is-large, is-small}
 use Rattle.octets.specs.lines.Lines.{refusedText}
 use Rattle.trace_thin.specs.declared.slices.Thinned.{Thinned}
 use Rattle.trace_thin.specs.slices.Thin.{thinTrace, Left, refuse, apart, thinOf}
@@ -17,7 +17,7 @@ use Rattle.trace_thin.proofs.slices.Keeping.{has-room}
 use Rattle.trace_thin.proofs.slices.Thins.{room-thinned, broken-thinned}
 use Rattle.trace_thin.specs.declared.file.Lengths.{Lengths}
 use Rattle.trace_thin.specs.file.Text.{thinText}
-use Rattle.trace_thin.specs.file.Printed.{tooLarge, printedOf, writtenOf, lengthsOf}
+use Rattle.trace_thin.specs.file.Printed.{printedOf, writtenOf, lengthsOf}
 
 -- what was written, told as other bytes that equal them
 pub written : (old exit text printed : List ℕ) → text ≡ printed → exit ≡ sets old 0 text → exit ≡ sets old 0 printed
@@ -29,27 +29,19 @@ lengths bs text output n k t p o q = rw (t, p, o, q)
 
 -- ---- a file above the limit
 
-module _ (bs : List ℕ) (large : 65536 < length bs) where
-  is-large : tooLarge bs ≡ true
-  unfolding tooLarge
-  is-large = lt-ltb 65536 (length bs) large
-
+module _ (bs : List ℕ) (large : mostBytes < length bs) where
   pub large-printed : refusedText 8 ≡ printedOf bs
   unfolding printedOf
-  large-printed = rw is-large
+  large-printed = rw (is-large bs large)
 
   pub large-written : [] ≡ writtenOf bs
   unfolding writtenOf
-  large-written = rw is-large
+  large-written = rw (is-large bs large)
 
 -- ---- any other
 
-module _ (bs : List ℕ) (small : length bs ≤ 65536) (bytes : AllBelow 256 bs) (old exit : List ℕ) (places : 65536 ≤ length old)
+module _ (bs : List ℕ) (small : length bs ≤ mostBytes) (bytes : AllBelow 256 bs) (old exit : List ℕ) (places : mostBytes ≤ length old)
     (a : Thinned) (told : record { answer = a; output = exit } ≡ thinOf bs old) where
-  is-small : tooLarge bs ≡ false
-  unfolding tooLarge
-  is-small = le-ltb 65536 (length bs) small
-
   -- its trace has room
   fits : goodTrace bs ≡ true → length (thinTrace bs) ≤ length old
   fits good = omega (arith, has-room bs bytes good, small, places)
@@ -72,11 +64,11 @@ module _ (bs : List ℕ) (small : length bs ≤ 65536) (bytes : AllBelow 256 bs)
 
     pub broken-printed : refusedText (a .code) ≡ printedOf bs
     unfolding printedOf
-    broken-printed = rw (is-small, broken) (ap (λ (x : Left). refusedText (x .answer .code)) (other broken))
+    broken-printed = rw (is-small bs small, broken) (ap (λ (x : Left). refusedText (x .answer .code)) (other broken))
 
     pub broken-written : [] ≡ writtenOf bs
     unfolding writtenOf
-    broken-written = rw (is-small, broken)
+    broken-written = rw (is-small bs small, broken)
 
     pub broken-left : exit ≡ old
     broken-left = ap (λ (x : Left). x .output) (other broken)
@@ -93,11 +85,13 @@ module _ (bs : List ℕ) (small : length bs ≤ 65536) (bytes : AllBelow 256 bs)
 
     pub text-printed : thinText (a .length) (a .kept) (a .dropped) ≡ printedOf bs
     unfolding printedOf
-    text-printed = rw (is-small, good) (ap (λ (x : Left). thinText (x .answer .length) (x .answer .kept) (x .answer .dropped)) (left good))
+    text-printed =
+        rw (is-small bs small, good)
+        (ap (λ (x : Left). thinText (x .answer .length) (x .answer .kept) (x .answer .dropped)) (left good))
 
     thin-written : thinTrace bs ≡ writtenOf bs
     unfolding writtenOf
-    thin-written = rw (is-small, good)
+    thin-written = rw (is-small bs small, good)
 
     pub output-length : a .length ≡ length (writtenOf bs)
     output-length = ap (λ (x : Left). x .answer .length) (left good) ∙ ap length thin-written

@@ -6,7 +6,7 @@ use native.Mathlib.Omega.{arith}
 use native.Mathlib.Numerals.{add-one}
 use lib.ListN.{length, take, drop, getD, set, replicate, length-set, length-drop, length-take, drop-of-length-le}
 use lib.Seq.{sets, drop-set-lt, length-take-le, getD-take, getD-drop}
-use Rattle.trace.proofs.seal.Copying.{copied}
+use Rattle.octets.proofs.words.Stores.{copied}
 use Rattle.trace_thin.proofs.firsts.Moving.{later, same-at}
 
 -- after i bytes: those that are left, written, give what the call is to leave; what lies behind is as it was

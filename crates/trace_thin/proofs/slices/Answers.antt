@@ -15,7 +15,7 @@ use Rattle.octets.proofs.words.Stores.{wrote-after, sets-first, cut-is}
 use Rattle.trace.specs.declared.judge.Judged.{Judged}
 use Rattle.trace.specs.judge.Opening.{openOf}
 use Rattle.trace_layout.specs.Records.{Record, bytesOf}
-use Rattle.trace_layout.specs.Traces.{recordsBytes, offsetsFrom, countAt, editionAt, listAt, goodTrace, recordsOf}
+use Rattle.trace_layout.specs.Traces.{mostRecords, recordsBytes, offsetsFrom, countAt, editionAt, listAt, goodTrace, recordsOf}
 use Rattle.trace_layout.proofs.Traces.{length-offsets, good-count}
 use Rattle.trace.specs.whole.Whole.{wholeRecords}
 use Rattle.trace.specs.seal.Seal.{sealOf}
@@ -103,19 +103,19 @@ module _ (bs : List ℕ) (bytes : AllBelow 256 bs) (o : Judged) (judged : o ≡ 
 
       -- ---- the places of what is kept
 
-      module _ (row places : List ℕ) (long : length row ≡ 4096)
+      module _ (row places : List ℕ) (long : length row ≡ mostRecords)
           (placed : places
           ≡ sets (sets row 0 (startsIn bs (o .list) (o .edition))) 0 (firstsIn bs (o .list) (o .edition))) where
         abbrev found : List ℕ
         found = sets row 0 (startsIn bs (o .list) (o .edition))
 
-        few : length ks ≤ 4096
+        few : length ks ≤ mostRecords
         few = makes bs bytes good .few
 
-        found-length : length found ≡ 4096
+        found-length : length found ≡ mostRecords
         found-length = length-sets row 0 (startsIn bs (o .list) (o .edition)) ∙ long
 
-        pub row-length : length places ≡ 4096
+        pub row-length : length places ≡ mostRecords
         row-length = ap length placed ∙ length-sets found 0 (firstsIn bs (o .list) (o .edition)) ∙ found-length
 
         first-places : take (c .kept) places ≡ ss
@@ -198,7 +198,7 @@ module _ (bs : List ℕ) (bytes : AllBelow 256 bs) (o : Judged) (judged : o ≡ 
             within-is = rw (dropped-is, length-is, output-is, kept-is)
 
     -- whatever the trace, the sum does not wrap
-    pub bounded : (c .kept ≤ 4096) × (c .size ≤ length bs)
+    pub bounded : (c .kept ≤ mostRecords) × (c .size ≤ length bs)
     unfolding chosenOf
     bounded =
         let starts = startsIn bs (o .list) (o .edition) in (

@@ -8,7 +8,7 @@ use lib.ListN.{length, take}
 use lib.Seq.{take-at}
 use Rattle.octets.specs.words.Words.{rowBytes, AllBelow}
 use Rattle.trace_layout.specs.Records.{Record, bytesOf}
-use Rattle.trace_layout.specs.Traces.{recordsBytes, offsetsFrom, trailerOf, traceOf, listAt, editionAt, goodTrace, recordsOf}
+use Rattle.trace_layout.specs.Traces.{mostRecords, recordsBytes, offsetsFrom, trailerOf, traceOf, listAt, editionAt, goodTrace, recordsOf}
 use Rattle.trace_layout.specs.Inverses.{Makes}
 use Rattle.trace_layout.proofs.Traces.{good-ends, good-laid, good-count, good-is-written, list-written}
 use Rattle.trace.specs.whole.Whole.{wholeRecords}
@@ -33,7 +33,7 @@ module _ (bs : List ℕ) (bytes : AllBelow 256 bs) (good : goodTrace bs ≡ true
   whole-is =
       let laid = good-laid bs bytes good in
       let ends = good-ends bs bytes good in
-      let few : length rs ≤ 4096 = omega (arith, good-count bs bytes good, ends .few) in
+      let few : length rs ≤ mostRecords = omega (arith, good-count bs bytes good, ends .few) in
       let tail = rowBytes 8 (offsetsFrom e 0 rs) ++ trailerOf (length (recordsBytes e rs)) (length rs) e in
       ap (wholeRecords e)
       (ap (λ (x : List ℕ). take (listAt x) x) (good-is-written bs bytes good)
@@ -48,7 +48,7 @@ module _ (bs : List ℕ) (bytes : AllBelow 256 bs) (good : goodTrace bs ≡ true
   pub fewer-kept : length (keptOf bs) ≤ length rs
   fewer-kept = fewer (bytesOf e) [] rs
 
-  pub few-old : length rs ≤ 4096
+  pub few-old : length rs ≤ mostRecords
   few-old = omega (arith, good-count bs bytes good, good-ends bs bytes good .few)
 
   pub makes : Makes e (keptOf bs)

@@ -1,18 +1,13 @@
 -- What a thinning prints and writes of the bytes of a file. 02, Order 13. Definitions only.
 use Prim.Native.Nat.{ℕ, _-_}
-use mathlib.Core.Bool.{Bool, cond}
+use mathlib.Core.Bool.{cond}
 use mathlib.Core.List.{List, []}
-use lib.Dec.{ltb}
 use lib.ListN.{length}
-use Rattle.trace_layout.specs.Traces.{goodTrace, recordsOf}
+use Rattle.trace_layout.specs.Traces.{tooLarge, goodTrace, recordsOf}
 use Rattle.octets.specs.lines.Lines.{refusedText}
 use Rattle.trace_thin.specs.slices.Thin.{keptOf, thinTrace}
 use Rattle.trace_thin.specs.declared.file.Lengths.{Lengths}
 use Rattle.trace_thin.specs.file.Text.{thinText}
-
--- the files of Order 2, of at most 65,536 bytes
-unfoldable pub tooLarge : List ℕ → Bool
-tooLarge bs = ltb 65536 (length bs)
 
 -- the three lines, or only `refused 8`, or only `refused 9`
 unfoldable pub printedOf : List ℕ → List ℕ

@@ -83,10 +83,10 @@ pub +put-decimal-spec : {M : Type 1} → statement M
 +put-decimal-spec =
     close measure
     (λ t. lts.spec (below t, reads.Post) (here t) reads.Post (λ c. omega arith) (λ c. omega arith) (λ c. omega arith) (λ c. omega arith)
-    (λ c. search needs)
+    (λ c. omega arith) (λ c. search needs)
     (returns t)
     (put-decimal-requires t)
-    (λ c. omega arith) (λ c. omega arith)
+    (λ c. omega arith) (λ c. omega arith) (λ c. omega arith)
     (slice-write t)
     (add-result t)
     (same-length t)

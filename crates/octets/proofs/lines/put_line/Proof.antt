@@ -1,25 +1,23 @@
 -- `put_line` meets its contract: the number behind the word, and the line feed behind both. Assumes nothing.
 use mathlib.Core.Path.{refl, _∙_}
-use mathlib.Core.List.{[], _∷_, _++_}
+use mathlib.Core.List.{_++_}
 use Prim.Native.Nat.{_+_, _<_}
 use native.Mathlib.Omega.{arith}
 use lib.ListN.{length, length-append, length-set}
-use Rattle.octets.specs.words.Words.{le}
-use Rattle.octets.proofs.words.Words.{length-le}
 use Rattle.octets.proofs.words.Stores.{wrote-after}
 use Rattle.octets.specs.decimal.Decimal.{decimalOf}
 use Rattle.octets.proofs.decimal.Digits.{length-decimal}
-use Rattle.octets.specs.lines.Lines.{lineOf}
+use Rattle.octets.specs.lines.Lines.{ascii, lineOf}
 use borrow.Author.Needs.{needs}
 use Rattle.octets.proofs.lines.put_line.Statement.{statement}
 use Rattle.octets.proofs.lines.put_line.Tie as tie
 
 -- the places of the code: the number, the word, and the start
-abbrev word-put : tie.After-put-decimal → tie.After-put
+abbrev word-put : tie.After-put-decimal → tie.After-copy
 word-put c = c .before .before .before .before
 
-abbrev started : tie.After-put → tie.Start
-started c = c .before .before .before
+abbrev started : tie.After-copy → tie.Start
+started c = c .before .before .before .before
 
 -- the line feed has its room
 room : (p : tie.After-put-decimal) → p .put-decimal .result < length (p .put-decimal .last .0)
@@ -30,7 +28,7 @@ room p =
       p .put-decimal .ensures .0,
       length-decimal 20 (started f .args .n),
       p .put-decimal .kept .0,
-      f .put .kept .0,
+      f .copy .kept .0,
       started f .pre,
     )
 
@@ -38,12 +36,12 @@ add-result : tie.Need-add-result
 add-result c =
     let p = c .before .before in
     let f = word-put p in
-    omega (arith, room p, p .put-decimal .kept .0, f .put .kept .0, started f .good .0)
+    omega (arith, room p, p .put-decimal .kept .0, f .copy .kept .0, started f .good .0)
 
 same-length : tie.Need-same-length
 same-length c =
     let p = c .before .before in
-    length-set (p .put-decimal .last .0) (p .put-decimal .result) _ ∙ p .put-decimal .kept .0 ∙ word-put p .put .kept .0
+    length-set (p .put-decimal .last .0) (p .put-decimal .result) _ ∙ p .put-decimal .kept .0 ∙ word-put p .copy .kept .0
 
 returns : tie.Need-returns
 unfolding lineOf
@@ -51,15 +49,15 @@ returns c =
     let p = c .before .before in
     let f = word-put p in
     let a = started f .args in
-    let w = le (a .width) (a .word) in
+    let w = a .word .now in
     let d = decimalOf (a .n) in
     let to-number =
-    wrote-after (a .bytes .now) _ _ (a .place) _ w d (f .put .ensures) (omega (arith, length-le (a .width) (a .word)))
+    wrote-after (a .bytes .now) _ _ (a .place) _ w d (f .copy .ensures) refl
     (p .put-decimal .ensures .1) in
     let place = p .put-decimal .ensures .0 in (
-      omega (arith, place, length-append (w ++ d) (10 ∷ []), length-append w d, length-le (a .width) (a .word)),
-      wrote-after (a .bytes .now) _ _ (a .place) _ (w ++ d) (10 ∷ []) to-number
-          (omega (arith, place, length-append w d, length-le (a .width) (a .word))) refl,
+      omega (arith, place, length-append (w ++ d) (ascii "\n"), length-append w d),
+      wrote-after (a .bytes .now) _ _ (a .place) _ (w ++ d) (ascii "\n") to-number
+          (omega (arith, place, length-append w d)) refl,
     )
 
 pub put-line-spec : {M : Type 1} → statement M

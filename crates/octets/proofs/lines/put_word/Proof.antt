@@ -1,30 +1,33 @@
 -- `put_word` meets its contract: the line feed behind the word. Assumes nothing.
-use mathlib.Core.List.{[], _∷_}
+use mathlib.Core.Path.{refl, _∙_}
 use native.Mathlib.Omega.{arith}
-use lib.ListN.{length-append}
+use lib.ListN.{length-append, length-set}
 use borrow.Author.Needs.{needs}
-use Rattle.octets.specs.words.Words.{le}
-use Rattle.octets.proofs.words.Words.{length-le}
 use Rattle.octets.proofs.words.Stores.{wrote-after}
-use Rattle.octets.specs.lines.Lines.{wordLine}
+use Rattle.octets.specs.lines.Lines.{ascii, wordLine}
 use Rattle.octets.proofs.lines.put_word.Statement.{statement}
 use Rattle.octets.proofs.lines.put_word.Tie as tie
 
+-- the places of the code: the word, and the start
+abbrev started : tie.After-copy → tie.Start
+started c = c .before .before .before .before
+
+same-length : tie.Need-same-length
+same-length c = let p = c .before .before in length-set (p .copy .last .0) _ _ ∙ p .copy .kept .0
+
 returns : tie.Need-returns
-unfolding wordLine le
+unfolding wordLine
 returns c =
-    let second = c .before .before in
-    let first = second .before .before .before .before in
-    let a = first .before .before .before .args in
-    let word = le (a .width) (a .word) in
-    let size = length-le (a .width) (a .word) in (
-      omega (arith, size, length-append word (10 ∷ [])),
-      wrote-after (a .bytes .now) _ _ (a .place) _ word (10 ∷ []) (first .put .ensures) (omega (arith, size)) (second .put2 .ensures),
+    let p = c .before .before in
+    let a = started p .args in (
+      omega (arith, length-append (a .word .now) (ascii "\n")),
+      wrote-after (a .bytes .now) _ _ (a .place) _ (a .word .now) (ascii "\n") (p .copy .ensures) refl refl,
     )
 
 pub put-word-spec : {M : Type 1} → statement M
 put-word-spec =
     tie.close
     (tie.spec
-    (λ c κs. search needs) (λ c. search needs) (λ c κs. search needs) (λ c. search needs) (λ c. search needs) (λ c. search needs)
+    (λ c κs. search needs) (λ c. search needs) (λ c. search needs) (λ c. search needs)
+    same-length
     returns)

@@ -10,7 +10,7 @@ use lib.Seq.{length-take-le}
 use Rattle.octets.specs.words.Words.{AllBelow}
 use Rattle.octets.proofs.words.Words.{below-of-places}
 use Rattle.trace_layout.specs.Records.{Record, exponents, shapeOk, runsFor}
-use Rattle.trace_layout.specs.Traces.{editionAt, countAt, listAt}
+use Rattle.trace_layout.specs.Traces.{mostRecords, editionAt, countAt, listAt}
 use Rattle.octets.specs.words.Runs.{runsSize}
 use Rattle.trace_layout.proofs.Records.{bounds, exponents-most}
 use Rattle.cone.proofs.table.Settled.{refused, done}
@@ -166,7 +166,7 @@ module _ (p : tie.After-place-for) where
     fits-here : place .list + place .size + 8 * place .count + 28 ≤ length bs
     fits-here = omega (arith, room-here, free-here .used-length, list-here, count-here)
 
-    few-here : place .count < 4096
+    few-here : place .count < mostRecords
     few-here = omega (arith, free-here .few, count-here)
 
     module _ (cut : List Float) (is-cut : cut ≡ exps) where

@@ -62,7 +62,7 @@ module _ (c : tie.After-walk) where
       ∙ ap (λ (x : List ℕ). sets (rowed c .row .result) 0 (offsetsFrom e 0 (wholeRecords e x))) (fronted c .front .ensures)
 
   starts-length : length starts ≡ 4096
-  starts-length = c .walk .kept .1 .1 .0 ∙ rowed c .row .ensures
+  starts-length = c .walk .kept .1 .1 .0 ∙ rowed c .row .ensures .0
 
 -- from the rows back to the walk
 abbrev walking : tie.After-struct-known → tie.After-walk
@@ -126,8 +126,8 @@ returns-2 c =
     let n = no-row s in
     let k = walked-at s in
     through _ _ _ _ (code-here (n .before)) (n .if1 .left)
-    (seal-done (bs k) (used k) (e k) (is-bytes k) (w k) (told k) (free-here n) (rowed k .row .result) (starts k) _ (rowed k .row .ensures)
-    (listed k) (c .before .before .seal .ensures))
+    (seal-done (bs k) (used k) (e k) (is-bytes k) (w k) (told k) (free-here n) (rowed k .row .result) (starts k) _
+    (rowed k .row .ensures .0) (listed k) (c .before .before .seal .ensures))
 
 pub seal-spec : {M : Type 1} → statement M
 seal-spec =

@@ -6,6 +6,7 @@ use native.Mathlib.Omega.{arith}
 use lib.ListN.{length, take}
 use lib.Seq.{sets, length-take-le}
 use borrow.Author.Needs.{needs}
+use Rattle.trace_layout.specs.Traces.{mostBytes, mostRecords}
 use Rattle.trace_replay.specs.declared.slices.Replayed.{Replayed}
 use Rattle.trace_replay.proofs.file.Answers.{too-large, refused-text, differ-few, done-text}
 use Rattle.trace_replay.proofs.file.put_replay.Statement.{statement}
@@ -40,13 +41,13 @@ module _ (c : tie.After-struct-known) where
   abbrev row : List ℕ
   row = replaying c .before .before .row .result
 
-  places : length row ≡ 4096
-  places = replaying c .before .before .row .ensures
+  places : length row ≡ mostRecords
+  places = replaying c .before .before .row .ensures .0
 
-  exit-places : length offsets ≡ 4096
+  exit-places : length offsets ≡ mostRecords
   exit-places = replaying c .replay .kept .1 .0 ∙ places
 
-  small : length file ≤ 65536
+  small : length file ≤ mostBytes
   small = small-file (replaying c) .if1 .left
 
 returns : tie.Need-returns
@@ -69,7 +70,7 @@ module _ (c : tie.Else2) where
   abbrev told : tie.After-struct-known
   told = c .before
 
-  few : answer told .differ ≤ 4096
+  few : answer told .differ ≤ mostRecords
   few = differ-few (file told) (row told) (offsets told) (answer told) (replaying told .replay .ensures)
       (places told) (small told) (c .if2 .left)
 

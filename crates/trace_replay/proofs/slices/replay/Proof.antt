@@ -8,6 +8,7 @@ use lib.ListN.{length, take}
 use lib.Seq.{length-take-le, length-sets}
 use borrow.Author.Needs.{needs}
 use Rattle.octets.proofs.words.Stores.{cut-is}
+use Rattle.trace_layout.specs.Traces.{mostRecords}
 use Rattle.trace.specs.declared.judge.Judged.{Judged}
 use Rattle.trace_replay.specs.declared.slices.Replayed.{Replayed}
 use Rattle.trace_replay.specs.slices.Replay.{Noted, differingIn}
@@ -45,23 +46,23 @@ module _ (c : tie.After-trace-row) where
   abbrev noted-row : List ℕ
   noted-row = noting c .note-all .last .1 .1 .0
 
-  few : n ≤ 4096
+  few : n ≤ mostRecords
   few = omega (arith, noting c .note-all .ensures .0, found-few trace old opened (opening (noting c) .«open» .ensures))
 
   most : n ≤ opened .count
   most = omega (arith, noting c .note-all .ensures .0, found-most trace old opened (opening (noting c) .«open» .ensures))
 
-  row-length : length noted-row ≡ 4096
+  row-length : length noted-row ≡ mostRecords
   row-length =
       let row = noting c .before .before .row in
-      ap length (noting c .note-all .ensures .1) ∙ length-sets (row .result) 0 (differingIn trace opened) ∙ row .ensures
+      ap length (noting c .note-all .ensures .1) ∙ length-sets (row .result) 0 (differingIn trace opened) ∙ row .ensures .0
 
   -- the offsets that were noted, in front of their row
   cut : take n noted-row ≡ differingIn trace opened
   cut =
       let count = noting c .note-all .ensures .0 in
       cut-is (noting c .before .before .row .result) (differingIn trace opened) noted-row n (noting c .note-all .ensures .1) count
-      (omega (arith, few, count, noting c .before .before .row .ensures))
+      (omega (arith, few, count, noting c .before .before .row .ensures .0))
 
   has-room : c .trace-row .result ≡ 0 → n ≤ length old
   has-room on =

@@ -6,10 +6,9 @@ use Prim.Native.Nat.{ℕ, _+_, _*_, _-_, _≤_, _<_}
 use native.Mathlib.Omega.{arith}
 use lib.ListN.{length, drop, getD}
 use lib.Seq.{sets}
-use Rattle.octets.specs.words.Words.{le}
-use Rattle.octets.specs.lines.Lines.{lineOf}
+use Rattle.octets.specs.lines.Lines.{ascii, lineOf}
 use Rattle.octets.proofs.lines.Lengths.{line-most}
-use Rattle.trace_replay.specs.text.Text.{atWord, offsetLines}
+use Rattle.trace_replay.specs.text.Text.{offsetLines}
 use Rattle.trace_replay.proofs.text.Lines.{lines-turn, lines-length, no-more}
 use Rattle.trace_replay.proofs.text.put_offsets.Statement.{statement}
 use Rattle.trace_replay.proofs.text.put_offsets.Tie as tie
@@ -24,31 +23,30 @@ abbrev μ-loop : tie.MeasureT-loop
 μ-loop bytes₀ place offsets at₀ i₀ i-end bytes at i = length offsets - i
 
 -- the places of the code: the loop's turn, and the call's own
-abbrev turn : tie.After-put-line Inv-loop μ-loop → tie.At-loop Inv-loop μ-loop
+abbrev turn : tie.After-put-offset Inv-loop μ-loop → tie.At-loop Inv-loop μ-loop
 turn c = c .before .before .before .before
 
 abbrev given : tie.At-loop Inv-loop μ-loop → tie.Start Inv-loop μ-loop
 given c = c .before .before .before
 
-put-line-requires : tie.Need-put-line-requires Inv-loop μ-loop
-put-line-requires c κs = let l = c .before .before .before in omega (arith, l .loop .inv .2, l .loop .inv .3, given l .pre)
+put-offset-requires : tie.Need-put-offset-requires Inv-loop μ-loop
+put-offset-requires c κs = let l = c .before .before .before in omega (arith, l .loop .inv .2, l .loop .inv .3, given l .pre)
 
 loop-again : tie.Need-loop-again Inv-loop μ-loop
-unfolding le
 loop-again c =
     let p = c .before .before in
     let l = turn p .loop in
     let os = given (turn p) .args .offsets .now in
     let early : l .i < length os = omega arith in
-    let line = lineOf atWord (getD os (l .i) 0) in
-    let place : p .put-line .result ≡ l .at + length line = p .put-line .ensures .0 in
-    let wrote : p .put-line .last .0 ≡ sets (l .bytes) (l .at) line = p .put-line .ensures .1 in (
+    let line = lineOf (ascii "at ") (getD os (l .i) 0) in
+    let place : p .put-offset .result ≡ l .at + length line = p .put-offset .ensures .0 in
+    let wrote : p .put-offset .last .0 ≡ sets (l .bytes) (l .at) line = p .put-offset .ensures .1 in (
       omega arith,
       refl,
-      p .put-line .kept .0 ∙ l .inv .2,
-      omega (arith, place, line-most atWord (getD os (l .i) 0), l .inv .3),
+      p .put-offset .kept .0 ∙ l .inv .2,
+      omega (arith, place, line-most (ascii "at ") (getD os (l .i) 0), l .inv .3),
       omega (arith, place, lines-length os (l .i) early, l .inv .4),
-      ap (λ (b : List ℕ). sets b (p .put-line .result) (offsetLines (drop (l .i + 1) os))) wrote
+      ap (λ (b : List ℕ). sets b (p .put-offset .result) (offsetLines (drop (l .i + 1) os))) wrote
           ∙ ap (λ (k : ℕ). sets (sets (l .bytes) (l .at) line) k (offsetLines (drop (l .i + 1) os))) place
           ∙ lines-turn os (l .i) early (l .bytes) (l .at)
           ∙ l .inv .5,
@@ -73,7 +71,7 @@ put-offsets-spec =
     (λ c. (omega arith, refl, refl, omega arith, refl, refl))
     (λ c. omega arith)
     (λ c. omega arith)
-    put-line-requires
+    put-offset-requires
     (λ c. omega arith)
     (λ c. omega arith)
     loop-again

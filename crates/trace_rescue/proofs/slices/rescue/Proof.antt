@@ -9,6 +9,7 @@ use lib.Seq.{sets, length-take-le}
 use borrow.Author.Needs.{needs}
 use Rattle.octets.specs.words.Words.{AllBelow}
 use Rattle.octets.proofs.words.Words.{below-of-places}
+use Rattle.trace_layout.specs.Traces.{mostRecords}
 use Rattle.trace.specs.declared.judge.Judged.{Judged}
 use Rattle.trace.specs.judge.Opening.{openOf}
 use Rattle.trace.specs.declared.whole.Walked.{Walked}
@@ -70,14 +71,14 @@ module _ (c : tie.After-walk) where
   is-bytes : AllBelow 256 bs
   is-bytes = below-of-places 256 bs (λ i h. omega (arith, choosing c .before .before .before .shared-slice-known .given i))
 
-  walked-few : w .count ≤ 4096
+  walked-few : w .count ≤ mostRecords
   walked-few = few bs is-bytes o judged _ e chosen w told
 
   walked-inside : w .end ≤ length bs
   walked-inside = inside bs is-bytes o judged _ e chosen w told
 
-  starts-length : length starts ≡ 4096
-  starts-length = c .walk .kept .1 .1 .0 ∙ rowed c .row .ensures
+  starts-length : length starts ≡ mostRecords
+  starts-length = c .walk .kept .1 .1 .0 ∙ rowed c .row .ensures .0
 
 mul-length : tie.Need-mul-length
 mul-length c = omega (arith, walked-few (walking c))
@@ -164,7 +165,7 @@ returns-2 c =
     let r = n .before in
     let k = judging r in (
       done (bs k) (is-bytes k) (o k) (judged k) _ (e k) (chosen k) (w k) (told k) (old k) _ (r .before .known .ensures) _
-          (r .trace-row .ensures) (n .if1 .left) _ (c .taken .ensures) (rowed k .row .result) (starts k) _ _ (rowed k .row .ensures)
+          (r .trace-row .ensures) (n .if1 .left) _ (c .taken .ensures) (rowed k .row .result) (starts k) _ _ (rowed k .row .ensures .0)
           (k .walk .ensures .1) (p .copy .ensures ∙ ap (sets (old k) 0) (p .before .front .ensures)) (s .seal .ensures),
       is-bytes k,
     )

@@ -10,6 +10,7 @@ use denote.Ref.{now}
 use borrow.Author.Needs.{needs}
 use Rattle.octets.specs.words.Words.{AllBelow}
 use Rattle.octets.proofs.words.Words.{below-of-places}
+use Rattle.trace_layout.specs.Traces.{mostBytes}
 use Rattle.trace.specs.declared.judge.Judged.{Judged}
 use Rattle.trace_sheet.specs.counts.Counts.{countsOf}
 use Rattle.trace_sheet.proofs.one_file.Parts.{too-large, broken, no-part, no-counts, entries-are, whole-part}
@@ -30,7 +31,7 @@ returns : tie.Need-returns
 returns c =
     let f = c .before .before .before .before in
     let s = f .before in
-    let above : 65536 < length (now (s .args .bytes)) = omega (arith, c .before .if1 .taken) in
+    let above : mostBytes < length (now (s .args .bytes)) = omega (arith, c .before .if1 .taken) in
     let skipped = too-large (now (s .args .bytes)) above in (
       c .nothing .ensures ∙ no-part (now (s .args .bytes)) skipped,
       no-counts (now (s .args .bytes)) skipped false (now (s .args .dual)) (s .pre .0),
@@ -66,7 +67,7 @@ returns-3 c =
     let s = given (o .before) in
     let bs = now (s .args .bytes) in
     let bytes = is-bytes (filed (o .before)) in
-    let few : length bs ≤ 65536 = omega (arith, o .before .if1 .left) in
+    let few : length bs ≤ mostBytes = omega (arith, o .before .if1 .left) in
     let on = d .before .before .if2 .left in
     let is = o .«open» .ensures in
     let same = entries-are bs bytes few (o .«open» .result) is on in (

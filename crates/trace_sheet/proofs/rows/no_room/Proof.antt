@@ -5,6 +5,7 @@ use Prim.Native.Nat.{_+_}
 use lib.Dec.{ltb}
 use borrow.Author.Needs.{needs}
 use native.Mathlib.Omega.{arith}
+use Rattle.trace_layout.specs.Traces.{mostFiles}
 use Rattle.trace_sheet.specs.rows.Rows.{noRoom}
 use Rattle.trace_sheet.proofs.rows.Summing.{above-rest}
 use Rattle.trace_sheet.proofs.rows.no_room.Statement.{statement}
@@ -14,7 +15,7 @@ returns : tie.Need-returns
 unfolding noRoom
 returns c =
     let a = c .args in
-    ap (λ (b : Bool). ltb 1000 (a .files + a .more) || ltb (a .flags) (a .files + a .more) || b)
+    ap (λ (b : Bool). ltb mostFiles (a .files + a .more) || ltb (a .flags) (a .files + a .more) || b)
     (above-rest (a .records) (a .others) (omega (arith, c .good)))
 
 pub no-room-spec : {M : Type 1} → statement M

@@ -11,6 +11,7 @@ use lib.Seq.{sets}
 use denote.Ref.{now}
 use borrow.Author.Needs.{needs}
 use Rattle.cone.proofs.table.Settled.{refused, through}
+use Rattle.trace_layout.specs.Traces.{mostFiles}
 use Rattle.trace_sheet.specs.rows.Rows.{Held, sheetIn, rowsIn, sheetRow}
 use Rattle.trace_sheet.specs.lines.Text.{skippedLines}
 use Rattle.trace_sheet.proofs.lines.Writing.{wrote-as}
@@ -33,12 +34,13 @@ module _ (c : tie.After-sheet-row) where
       record { totals = a .sheet; dual = now (a .dual); primal = now (a .primal); skipped = now (a .skipped) }
 
   abbrev row : ℕ
-  row = sheetRow (not (rowsIn h)) (ltb 1000 (h .totals .files)) (ltb (length old) textRoom)
+  row = sheetRow (not (rowsIn h)) (ltb mostFiles (h .totals .files)) (ltb (length old) textRoom)
 
   code-is : c .sheet-row .result ≡ row
   code-is =
       c .sheet-row .ensures
-      ∙ ap (λ (b : Bool). sheetRow (not b) (ltb 1000 (h .totals .files)) (ltb (length old) textRoom)) (c .before .before .rows-ok .ensures)
+      ∙ ap (λ (b : Bool). sheetRow (not b) (ltb mostFiles (h .totals .files)) (ltb (length old) textRoom))
+      (c .before .before .rows-ok .ensures)
 
   abbrev printed : Told
   printed = record { answer = record { code = 0; length = length (sheetText (sheetIn h)) }; text = sets old 0 (sheetText (sheetIn h)) }
@@ -65,7 +67,7 @@ flagged c = c .before .before .before .before
 front-is : (c : tie.After-front) → now (c .front .result) ≡ flags (old (let-through c .before)) (h (let-through c .before))
 front-is c = c .front .ensures
 
-few-flags : (c : tie.After-front) → length (now (c .front .result)) ≤ 1000
+few-flags : (c : tie.After-front) → length (now (c .front .result)) ≤ mostFiles
 few-flags c =
     let e = let-through c in
     omega (arith, ap length (front-is c), flags-length (old (e .before)) (h (e .before)) (fit e), fit e .files)

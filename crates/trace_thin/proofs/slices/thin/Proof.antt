@@ -12,7 +12,7 @@ use Rattle.octets.specs.words.Words.{AllBelow}
 use Rattle.octets.proofs.words.Words.{below-of-places}
 use Rattle.trace.specs.declared.judge.Judged.{Judged}
 use Rattle.trace.specs.judge.Opening.{openOf}
-use Rattle.trace_layout.specs.Traces.{goodTrace}
+use Rattle.trace_layout.specs.Traces.{mostRecords, goodTrace}
 use Rattle.trace_thin.specs.declared.firsts.Chosen.{Chosen}
 use Rattle.trace_thin.specs.firsts.Firsts.{firstsIn, chosenOf}
 use Rattle.trace_thin.specs.declared.slices.Thinned.{Thinned}
@@ -51,7 +51,7 @@ module _ (c : tie.After-open) where
 
 choose-requires : tie.Need-choose-requires
 choose-requires c κs =
-    let second = c .before .before in (omega (arith, second .before .row .ensures), omega (arith, second .row2 .ensures))
+    let second = c .before .before in (omega (arith, second .before .row .ensures .0), omega (arith, second .row2 .ensures .0))
 
 -- .. and where the choice was made
 module _ (c : tie.After-choose) where
@@ -67,7 +67,7 @@ module _ (c : tie.After-choose) where
   told : ch ≡ chosenOf (bs k) (firstsIn (bs k) (o k .list) (o k .edition))
   told = c .choose .ensures .0
 
-  small : (ch .kept ≤ 4096) × (ch .size ≤ length (bs k))
+  small : (ch .kept ≤ mostRecords) × (ch .size ≤ length (bs k))
   small = bounded (bs k) (is-bytes k) (o k) (judged k) ch told
 
   abbrev old : List ℕ
@@ -116,10 +116,10 @@ module _ (c : tie.Else1) where
   no-more : ch h .kept ≤ o (k h) .count
   no-more = kept-few (bs (k h)) (is-bytes (k h)) (o (k h)) (judged (k h)) (ch h) (told h) good
 
-  places-length : length (places h) ≡ 4096
+  places-length : length (places h) ≡ mostRecords
   places-length =
       row-length (bs (k h)) (is-bytes (k h)) (o (k h)) (judged (k h)) (ch h) (told h) good (rowed h .row .result) (places h)
-      (rowed h .row .ensures) (h .choose .ensures .1)
+      (rowed h .row .ensures .0) (h .choose .ensures .1)
 
 gather-requires : tie.Need-gather-requires
 gather-requires c κs =
@@ -130,7 +130,7 @@ gather-requires c κs =
         arith,
         has-room n,
         body-length (bs (k q)) (is-bytes (k q)) (o (k q)) (judged (k q)) (ch q) (told q) (good n) (rowed q .row .result) (places q)
-            (rowed q .row .ensures) (q .choose .ensures .1),
+            (rowed q .row .ensures .0) (q .choose .ensures .1),
       ),
     )
 
@@ -144,7 +144,7 @@ no-row c = c .before .before .before
 abbrev starts : tie.After-gather → List ℕ
 starts c = c .gather .last .1 .1 .0
 
-starts-length : (c : tie.After-gather) → length (starts c) ≡ 4096
+starts-length : (c : tie.After-gather) → length (starts c) ≡ mostRecords
 starts-length c = c .gather .kept .1 .1 .0 ∙ places-length (no-row c)
 
 cut-length : (c : tie.After-gather) → length (take (ch (h (no-row c)) .kept) (starts c)) ≡ ch (h (no-row c)) .kept
@@ -186,7 +186,7 @@ returns-2 c =
     let q = h n in (
       done (bs (k q)) (is-bytes (k q)) (o (k q)) (judged (k q)) (ch q) (told q) (old q) _ (r n .trace-row .ensures) (n .if1 .left) _
           (apart-is (bs (k q)) (is-bytes (k q)) (o (k q)) (judged (k q)) (ch q) (told q) (good n) (rowed q .row .result) (places q)
-          (rowed q .row .ensures) (q .choose .ensures .1) (old q) _ _ (starts g) (g .gather .ensures .0) (g .gather .ensures .1)
+          (rowed q .row .ensures .0) (q .choose .ensures .1) (old q) _ _ (starts g) (g .gather .ensures .0) (g .gather .ensures .1)
           (sealed (c .before) .seal .ensures) (has-room n)),
       is-bytes (k q),
     )

@@ -12,7 +12,7 @@ use Rattle.octets.specs.words.Words.{AllBelow}
 use Rattle.octets.proofs.words.Words.{below-of-places}
 use Rattle.trace.specs.declared.judge.Judged.{Judged}
 use Rattle.trace.specs.judge.Opening.{openOf}
-use Rattle.trace_layout.specs.Traces.{goodTrace}
+use Rattle.trace_layout.specs.Traces.{mostRecords, goodTrace}
 use Rattle.trace_thin.specs.declared.firsts.Chosen.{Chosen}
 use Rattle.trace_thin.specs.firsts.Firsts.{firstsIn, chosenOf}
 use Rattle.trace_thin.specs.declared.slices.Thinned.{Thinned}
@@ -65,7 +65,7 @@ no-row c = rowed c .before
 
 choose-requires : tie.Need-choose-requires
 choose-requires c κs =
-    let second = second-row (c .before) in (omega (arith, second .before .row .ensures), omega (arith, second .row2 .ensures))
+    let second = second-row (c .before) in (omega (arith, second .before .row .ensures .0), omega (arith, second .row2 .ensures .0))
 
 -- what is known where the choice was made
 module _ (c : tie.After-choose) where
@@ -84,7 +84,7 @@ module _ (c : tie.After-choose) where
   good : goodTrace (bs k) ≡ true
   good = good-within (bs k) (is-bytes k) (o k) (judged k) _ (k .trace-row .ensures) (no-row c .if1 .left)
 
-  small : (ch .kept ≤ 4096) × (ch .size ≤ length (bs k))
+  small : (ch .kept ≤ mostRecords) × (ch .size ≤ length (bs k))
   small = bounded (bs k) (is-bytes k) (o k) (judged k) ch told
 
   has-room : ch .size + 8 * ch .kept + 20 ≤ length (bs k)
@@ -93,9 +93,9 @@ module _ (c : tie.After-choose) where
   no-more : ch .kept ≤ o k .count
   no-more = kept-few (bs k) (is-bytes k) (o k) (judged k) ch told good
 
-  places-length : length places ≡ 4096
+  places-length : length places ≡ mostRecords
   places-length =
-      row-length (bs k) (is-bytes k) (o k) (judged k) ch told good (rowed c .row .result) places (rowed c .row .ensures)
+      row-length (bs k) (is-bytes k) (o k) (judged k) ch told good (rowed c .row .result) places (rowed c .row .ensures .0)
       (c .choose .ensures .1)
 
 abbrev chosen : tie.After-numbers2 → tie.After-choose
@@ -115,7 +115,7 @@ move-down-requires c κs =
     let h = chosen (c .before .before) in (
       omega (arith, places-length h, small h .0),
       ahead (bs (k h)) (is-bytes (k h)) (o (k h)) (judged (k h)) (ch h) (told h) (good h) (rowed h .row .result) (places h)
-          (rowed h .row .ensures) (h .choose .ensures .1),
+          (rowed h .row .ensures .0) (h .choose .ensures .1),
     )
 
 -- the places of the code behind the choice
@@ -128,7 +128,7 @@ choice c = chosen (c .before .before .before)
 abbrev starts : tie.After-move-down → List ℕ
 starts c = c .move-down .last .1 .0
 
-starts-length : (c : tie.After-move-down) → length (starts c) ≡ 4096
+starts-length : (c : tie.After-move-down) → length (starts c) ≡ mostRecords
 starts-length c = c .move-down .kept .1 .0 ∙ places-length (choice c)
 
 cut-length : (c : tie.After-move-down) → length (take (ch (choice c) .kept) (starts c)) ≡ ch (choice c) .kept
@@ -172,7 +172,7 @@ returns-2 c =
     let h = choice m in (
       done-within (bs (k h)) (is-bytes (k h)) (o (k h)) (judged (k h)) _ (k h .trace-row .ensures) (no-row h .if1 .left) _
           (within-is (bs (k h)) (is-bytes (k h)) (o (k h)) (judged (k h)) (ch h) (told h) (good h) (rowed h .row .result) (places h)
-          (rowed h .row .ensures) (h .choose .ensures .1) (bs (k h)) _ _ (starts m) (m .move-down .ensures .0) (m .move-down .ensures .1)
+          (rowed h .row .ensures .0) (h .choose .ensures .1) (bs (k h)) _ _ (starts m) (m .move-down .ensures .0) (m .move-down .ensures .1)
           (sealed s .seal .ensures) refl _ (cleared s .clear .ensures)),
       is-bytes (k h),
     )

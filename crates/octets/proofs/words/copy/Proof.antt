@@ -6,9 +6,9 @@ use Prim.Native.Nat.{ℕ, _+_, _-_, _≤_}
 use native.Mathlib.Omega.{arith}
 use lib.ListN.{length, drop, length-set, drop-of-length-le}
 use lib.Seq.{sets}
-use Rattle.trace.proofs.seal.Copying.{copied}
-use Rattle.trace.proofs.seal.copy.Statement.{statement}
-use Rattle.trace.proofs.seal.copy.Tie as tie
+use Rattle.octets.proofs.words.Stores.{copied}
+use Rattle.octets.proofs.words.copy.Statement.{statement}
+use Rattle.octets.proofs.words.copy.Tie as tie
 
 abbrev Inv-loop : tie.InvT-loop
 Inv-loop out₀ place bytes i₀ i-end out i =

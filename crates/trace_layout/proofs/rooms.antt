@@ -1,0 +1,2 @@
+-- Any two outcomes agree (Agree).
+pub mod Agree

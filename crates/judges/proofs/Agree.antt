@@ -9,7 +9,6 @@ use Rattle.judges.proofs.Outcomes.{one, two}
 use Rattle.judges.proofs.all_finite.Reads as all-finite
 use Rattle.judges.proofs.sides_finite.Reads as sides-finite
 use Rattle.judges.proofs.numel.Reads as numel
-use Rattle.judges.proofs.block_len.Reads as block-len
 use Rattle.judges.proofs.settings_finite.Reads as settings-finite
 use Rattle.judges.proofs.settings_ok.Reads as settings-ok
 use Rattle.judges.proofs.strategy_ok.Reads as strategy-ok
@@ -31,9 +30,6 @@ sides-finite-agrees κs a x y s t p q = p ∙ sym q
 
 pub numel-agrees : OneAnswer numel.Post
 numel-agrees κs a x y s t p q = p ∙ sym q
-
-pub block-len-agrees : OneAnswer block-len.Post
-block-len-agrees κs a x y s t p q = p ∙ sym q
 
 pub settings-finite-agrees : OneAnswer settings-finite.Post
 settings-finite-agrees κs a x y s t p q = p ∙ sym q

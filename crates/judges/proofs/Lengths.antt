@@ -83,7 +83,7 @@ module _ (s : Scaling) where
   unfolding recordFinite
   record-3D e = simp (ne-eqb _ _ e)
 
--- ---- numel and block_len by kind
+-- ---- the lengths of a point and of a block by kind
 
 module _ (c : Cone) where
   pub numel-wide : c .kind ≡ 3 → numelOf c ≡ c .dim1 + c .dim2
@@ -102,18 +102,14 @@ module _ (c : Cone) where
   unfolding blockOf
   block-3D e = simp (ne-eqb _ _ e)
 
-small : (c : Cone) (d : ℕ) (b : Bool) → d ≤ 6 → eqb (c .kind) 3 ≡ b → coneOk c ≡ true → cond b (c .dim1 + c .dim2) d ≤ 64
-small c d true h e k =
+small : (c : Cone) (b : Bool) → eqb (c .kind) 3 ≡ b → coneOk c ≡ true → cond b (c .dim1 + c .dim2) 3 ≤ 64
+small c true e k =
     let w = wide-passes c k (eqb-true _ _ e) in omega (arith, dim1-at-most _ _ _ _ w, dim2-at-most _ _ _ _ w)
-small c d false h e k = omega arith
+small c false e k = omega arith
 
 pub numel-at-most : (c : Cone) → coneOk c ≡ true → numelOf c ≤ 64
 unfolding numelOf
-numel-at-most c k = small c 3 (eqb (c .kind) 3) (omega arith) refl k
-
-pub block-at-most : (c : Cone) → coneOk c ≡ true → blockOf c ≤ 64
-unfolding blockOf
-block-at-most c k = small c 6 (eqb (c .kind) 3) (omega arith) refl k
+numel-at-most c k = small c (eqb (c .kind) 3) refl k
 
 -- what is cut from an array for a slice that is no longer
 pub cut : (n m : ℕ) (ans : List Float) {sent : List Float} → n ≤ m → length ans ≡ m → sent ≡ take n ans → length sent ≡ n

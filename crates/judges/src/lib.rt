@@ -3,7 +3,7 @@
 ghost use mathlib.Core.Path.{_≡_};
 ghost use lib.ListN.{take};
 ghost use lib.Ieee.Scale.{finite};
-ghost use Rattle.cone.specs.Codes.{numelOf, blockOf};
+ghost use Rattle.cone.specs.Codes.{numelOf};
 ghost use Rattle.judges.specs.Judges.{allOf, settingsOk, settingsFinite, strategyOk};
 ghost use Rattle.judges.specs.Judges.{sidesFinite, threeFinite, wideFinite, recordFinite};
 pub use crate::cone_judge::cone_ok;
@@ -59,17 +59,6 @@ pub fn numel(cone: Cone) -> usize
         return (cone.dim1 as usize) + (cone.dim2 as usize);
     }
     3
-}
-
-// How many numbers get_hs writes.
-pub fn block_len(cone: Cone) -> usize
-    ensures { λ r. ⌜ r ≡ blockOf cone ⌝ }
-{
-    let kind = cone.kind;
-    if kind == 3 {
-        return (cone.dim1 as usize) + (cone.dim2 as usize);
-    }
-    6
 }
 
 // ---- the numbers of the settings and of a record

@@ -4,8 +4,8 @@ ghost use mathlib.Core.Path.{_≡_};
 ghost use Rattle.call_cone.specs.copies.Rows.{copyRows, offsetRows};
 ghost use Rattle.call_cone.specs.copies.Entries.{affineDsOf, dsFromDzOffsetOf};
 use cone::Cone;
-use cone::table::Faults;
 use cone::table::first_row;
+use cone::table::no_faults;
 use judges::all_finite;
 use judges::cone_ok;
 use judges::numel;
@@ -16,30 +16,22 @@ pub fn copy_rows(cone: Cone, out: usize, s: &[f64]) -> u32
     ensures { λ r. ⌜ r ≡ copyRows cone out (now (s .entry)) ⌝ }
 {
     let n = numel(cone);
-    first_row(Faults {
-        cone: !cone_ok(cone),
-        length: (out != n) | (s.len() != n),
-        number: !all_finite(s),
-        setting: false,
-        spent: false,
-        unscaled: false,
-        serial: false,
-    })
+    let mut faults = no_faults();
+    faults.cone = !cone_ok(cone);
+    faults.length = (out != n) | (s.len() != n);
+    faults.number = !all_finite(s);
+    first_row(faults)
 }
 
 fn offset_rows(cone: Cone, out: usize, ds: &[f64], z: &[f64]) -> u32
     ensures { λ r. ⌜ r ≡ offsetRows cone out (now (ds .entry)) (now (z .entry)) ⌝ }
 {
     let n = numel(cone);
-    first_row(Faults {
-        cone: !cone_ok(cone),
-        length: (out != n) | (ds.len() != n) | (z.len() != n),
-        number: !(all_finite(ds) & all_finite(z)),
-        setting: false,
-        spent: false,
-        unscaled: false,
-        serial: false,
-    })
+    let mut faults = no_faults();
+    faults.cone = !cone_ok(cone);
+    faults.length = (out != n) | (ds.len() != n) | (z.len() != n);
+    faults.number = !(all_finite(ds) & all_finite(z));
+    first_row(faults)
 }
 
 pub fn affine_ds(cone: Cone, ds: &mut [f64], s: &[f64]) -> u32

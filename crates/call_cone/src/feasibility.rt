@@ -4,8 +4,8 @@ ghost use mathlib.Core.Path.{_≡_};
 ghost use Rattle.call_cone.specs.feasibility.Rows.{readRows};
 ghost use Rattle.call_cone.specs.feasibility.Entries.{isPrimalFeasibleOf, isDualFeasibleOf};
 use cone::Cone;
-use cone::table::Faults;
 use cone::table::first_row;
+use cone::table::no_faults;
 use cone::verdict::Verdict;
 use cone::verdict::number;
 use judges::all_finite;
@@ -18,15 +18,11 @@ pub fn read_rows(cone: Cone, s: &[f64]) -> u32
     ensures { λ r. ⌜ r ≡ readRows cone (now (s .entry)) ⌝ }
 {
     let n = numel(cone);
-    first_row(Faults {
-        cone: !cone_ok(cone),
-        length: s.len() != n,
-        number: !all_finite(s),
-        setting: false,
-        spent: false,
-        unscaled: false,
-        serial: false,
-    })
+    let mut faults = no_faults();
+    faults.cone = !cone_ok(cone);
+    faults.length = s.len() != n;
+    faults.number = !all_finite(s);
+    first_row(faults)
 }
 
 pub fn is_primal_feasible(cone: Cone, s: &[f64]) -> Verdict

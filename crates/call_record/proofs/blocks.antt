@@ -1,3 +1,2 @@
--- What the rows of a call ask of its arguments, and that any two outcomes of a public function agree.
-pub mod Judging
+-- Any two outcomes of a public function agree.
 mod Agree

@@ -1,3 +1,4 @@
+pub mod Rows
 pub mod blocks
 pub mod three
 pub mod wide

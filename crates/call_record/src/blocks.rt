@@ -2,11 +2,14 @@
 // and exponent, the numbers of these kinds, whether it was never scaled and whether its serial is another than the caller's: so none copies
 // the rest.
 ghost use mathlib.Core.Path.{_≡_};
-ghost use Rattle.call_record.specs.blocks.Blocks.{rowsOf, getHsOf, mulHsOf};
+ghost use mathlib.Core.Bool.{not, _&&_};
+ghost use Rattle.judges.specs.Judges.{threeFinite};
+ghost use Rattle.call_record.specs.Rows.{recordRows};
+ghost use Rattle.call_record.specs.blocks.Blocks.{badThree, getHsOf, mulHsOf};
 use algebra::sym3::mul;
 use cone::Three;
-use cone::table::Faults;
 use cone::table::first_row;
+use cone::table::no_faults;
 use cone::three_of;
 use judges::all_finite;
 use judges::refusal::publish;
@@ -25,17 +28,15 @@ pub fn rows(
     serial: bool,
     finite: bool,
 ) -> u32
-    ensures { λ r. ⌜ r ≡ rowsOf kind rule alpha three lengths unscaled serial finite ⌝ }
+    ensures { λ r. ⌜ r ≡ recordRows (badThree kind rule alpha) lengths (not (finite && threeFinite three)) unscaled serial ⌝ }
 {
-    first_row(Faults {
-        cone: !(rule_ok(rule) & three_ok(kind, alpha)),
-        length: lengths,
-        number: !(finite & three_finite(three)),
-        setting: false,
-        spent: false,
-        unscaled,
-        serial,
-    })
+    let mut faults = no_faults();
+    faults.cone = !(rule_ok(rule) & three_ok(kind, alpha));
+    faults.length = lengths;
+    faults.number = !(finite & three_finite(three));
+    faults.unscaled = unscaled;
+    faults.serial = serial;
+    first_row(faults)
 }
 
 pub fn get_hs(

@@ -5,8 +5,8 @@ ghost use Rattle.call_record.specs.update.Entries.{updateRows, updateSca
 use cone::LAST_SERIAL;
 use cone::Scaling;
 use cone::Updated;
-use cone::table::Faults;
 use cone::table::first_row;
+use cone::table::no_faults;
 use double::is_finite;
 use judges::all_finite;
 use judges::cone_ok;
@@ -20,15 +20,13 @@ fn update_rows(scaling: Scaling, s: &[f64], z: &[f64], mu: f64, strategy: u32) -
     ensures { λ r. ⌜ r ≡ updateRows scaling (now (s .entry)) (now (z .entry)) mu strategy ⌝ }
 {
     let n = numel(scaling.cone);
-    first_row(Faults {
-        cone: !cone_ok(scaling.cone),
-        length: (s.len() != n) | (z.len() != n),
-        number: !(all_finite(s) & all_finite(z) & is_finite(mu) & record_finite(scaling)),
-        setting: !strategy_ok(strategy),
-        spent: scaling.serial == LAST_SERIAL,
-        unscaled: false,
-        serial: false,
-    })
+    let mut faults = no_faults();
+    faults.cone = !cone_ok(scaling.cone);
+    faults.length = (s.len() != n) | (z.len() != n);
+    faults.number = !(all_finite(s) & all_finite(z) & is_finite(mu) & record_finite(scaling));
+    faults.setting = !strategy_ok(strategy);
+    faults.spent = scaling.serial == LAST_SERIAL;
+    first_row(faults)
 }
 
 // Both scalings. All or nothing: a refused update hands the record back as it came.

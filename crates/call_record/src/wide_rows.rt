@@ -1,13 +1,16 @@
 // What the entries over a record share for kind 3: the rows of the table, and how an answer goes out. The record's arrays are lent, so that
 // no record is copied to be judged.
 ghost use mathlib.Core.Path.{_≡_};
+ghost use mathlib.Core.Bool.{not, _&&_};
 ghost use Prim.Native.Nat.{_≤_};
 ghost use lib.ListN.{length, take};
+ghost use Rattle.judges.specs.Judges.{wideFinite};
 ghost use Rattle.judges.specs.Refusals.{publishOf};
-ghost use Rattle.call_record.specs.wide_rows.Rows.{rowsIn};
+ghost use Rattle.call_record.specs.Rows.{recordRows};
+ghost use Rattle.call_record.specs.wide_rows.Rows.{badParts};
 use algebra::vector::head;
-use cone::table::Faults;
 use cone::table::first_row;
+use cone::table::no_faults;
 use judges::refusal::publish;
 use judges::rule_ok;
 use judges::tolerance_of;
@@ -33,7 +36,7 @@ pub fn rows<'a>(
     serial: bool,
     finite: bool,
 ) -> u32
-    ensures { λ code. ⌜ code ≡ rowsIn dim1 dim2 rule (now (exps .entry)) (record {
+    ensures { λ code. ⌜ code ≡ recordRows (badParts dim1 dim2 rule (now (exps .entry))) lengths (not (finite && wideFinite (record {
       z = now (z .entry);
       mu = mu;
       grad = now (grad .entry);
@@ -42,17 +45,15 @@ pub fn rows<'a>(
       r = now (r .entry);
       d1 = now (d1 .entry);
       d2 = d2;
-    }) lengths unscaled serial finite ⌝ }
+    }) dim1 dim2)) unscaled serial ⌝ }
 {
-    first_row(Faults {
-        cone: !(rule_ok(rule) & wide_ok(dim1, dim2, exps, tolerance_of(rule))),
-        length: lengths,
-        number: !(finite & wide_finite(z, mu, grad, p, q, r, d1, d2, dim1, dim2)),
-        setting: false,
-        spent: false,
-        unscaled,
-        serial,
-    })
+    let mut faults = no_faults();
+    faults.cone = !(rule_ok(rule) & wide_ok(dim1, dim2, exps, tolerance_of(rule)));
+    faults.length = lengths;
+    faults.number = !(finite & wide_finite(z, mu, grad, p, q, r, d1, d2, dim1, dim2));
+    faults.unscaled = unscaled;
+    faults.serial = serial;
+    first_row(faults)
 }
 
 // As many places as the slice has.

@@ -6,8 +6,8 @@ ghost use Rattle.call_search.specs.plans.Rows.{planRows, sidesRows};
 ghost use Rattle.call_search.specs.plans.Entries.{commonStepOf, planStepOf};
 use cone::Found;
 use cone::Settings;
-use cone::table::Faults;
 use cone::table::first_row;
+use cone::table::no_faults;
 use judges::all_finite;
 use judges::settings_finite;
 use judges::settings_ok;
@@ -21,15 +21,11 @@ fn plan_rows(cones: &[[u64; 34]], dq: &[f64], q: &[f64], point: usize, settings:
         return 1;
     }
     let n = plan::total(cones);
-    first_row(Faults {
-        cone: false,
-        length: (dq.len() != n) | (q.len() != n) | (point != n),
-        number: !(all_finite(dq) & all_finite(q) & settings_finite(settings)),
-        setting: !settings_ok(settings),
-        spent: false,
-        unscaled: false,
-        serial: false,
-    })
+    let mut faults = no_faults();
+    faults.length = (dq.len() != n) | (q.len() != n) | (point != n);
+    faults.number = !(all_finite(dq) & all_finite(q) & settings_finite(settings));
+    faults.setting = !settings_ok(settings);
+    first_row(faults)
 }
 
 // One side of a plan: primal, or dual. The tested point is handed back, and q with step zero.
@@ -76,20 +72,16 @@ fn sides_rows(
 {
     if plan::plan_ok(cones) {
         let n = plan::total(cones);
-        return first_row(Faults {
-            cone: false,
-            length: (dz.len() != n)
-                | (ds.len() != n)
-                | (z.len() != n)
-                | (s.len() != n)
-                | (dualpoint != n)
-                | (primalpoint != n),
-            number: !(sides_finite(dz, ds, z, s) & settings_finite(settings)),
-            setting: !settings_ok(settings),
-            spent: false,
-            unscaled: false,
-            serial: false,
-        });
+        let mut faults = no_faults();
+        faults.length = (dz.len() != n)
+            | (ds.len() != n)
+            | (z.len() != n)
+            | (s.len() != n)
+            | (dualpoint != n)
+            | (primalpoint != n);
+        faults.number = !(sides_finite(dz, ds, z, s) & settings_finite(settings));
+        faults.setting = !settings_ok(settings);
+        return first_row(faults);
     }
     1
 }

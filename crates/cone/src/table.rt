@@ -1,6 +1,6 @@
 // The table of document 01: the number with which a call is refused. The judges say what is wrong; here stands which of it is given.
 ghost use mathlib.Core.Path.{_≡_};
-ghost use Rattle.cone.specs.table.Table.{firstRow, traceRow};
+ghost use Rattle.cone.specs.table.Table.{noFaults, firstRow, traceRow};
 
 // What is wrong with a call's arguments, a row of the table each: the cone, a slice's length, a number, the settings or the strategy, a
 // record that has no further serial, one that was never scaled, one of another serial than the caller's.
@@ -12,6 +12,21 @@ pub struct Faults {
     pub spent: bool,
     pub unscaled: bool,
     pub serial: bool,
+}
+
+// Nothing is wrong. A call sets the rows that can refuse it, and names no other.
+pub fn no_faults() -> Faults
+    ensures { λ r. ⌜ r ≡ noFaults ⌝ }
+{
+    Faults {
+        cone: false,
+        length: false,
+        number: false,
+        setting: false,
+        spent: false,
+        unscaled: false,
+        serial: false,
+    }
 }
 
 // The table: the number of the first row that applies, and 0 where none does.

@@ -16,7 +16,7 @@ use Rattle.powcone.specs.PrimalGradient as powPrimal
 use Rattle.powcone.specs.Barriers as powBarriers
 use Rattle.powcone.specs.DualGradient as powDual
 use Rattle.powcone.specs.correction.Correction as powCorrection
-use Rattle.kinds.specs.declared.three.Gradient.{Gradient}
+use Rattle.kinds.specs.declared.three.ThreeGradient.{ThreeGradient}
 use Rattle.kinds.specs.declared.three.Valued.{Valued}
 
 -- 000, 001 unit_initialization: z and s alike
@@ -34,7 +34,7 @@ updateDualGradHOf kind α z =
     cond (eqb kind 2) (plainThree (pow .grad) (pow .h)) (plainThree (exp .grad) (exp .h))
 
 -- 000, 001 gradient_primal. 01: "0 where Newton was not entered"
-unfoldable pub gradientPrimalOf : ℕ → Float → List Float → Gradient
+unfoldable pub gradientPrimalOf : ℕ → Float → List Float → ThreeGradient
 gradientPrimalOf kind α s =
     let pow = powPrimal.gradientPrimalOf α s in
     let exp = expPrimal.gradientPrimalOf s in

@@ -5,7 +5,7 @@ ghost use Rattle.kinds.specs.Three.{barrierPrimalOf, computeBarrierOf, h
 use cone::Three;
 
 // A primal gradient, whether the Rust would panic on the way to it, and its Newton rounds.
-pub struct Gradient {
+pub struct ThreeGradient {
     pub panics: bool,
     pub g: [f64; 3],
     pub rounds: u32,
@@ -52,13 +52,13 @@ pub fn update_dual_grad_h(kind: u32, alpha: f64, z: [f64; 3]) -> Three
     plain_three(grad, h)
 }
 
-pub fn gradient_primal(kind: u32, alpha: f64, s: [f64; 3]) -> Gradient
+pub fn gradient_primal(kind: u32, alpha: f64, s: [f64; 3]) -> ThreeGradient
     ensures { λ r. ⌜ r ≡ gradientPrimalOf kind alpha s ⌝ }
 {
     if kind == 2 {
         let power = powcone::gradient_primal(alpha, s);
         let g = power.g;
-        return Gradient {
+        return ThreeGradient {
             panics: false,
             g,
             rounds: power.rounds,
@@ -66,7 +66,7 @@ pub fn gradient_primal(kind: u32, alpha: f64, s: [f64; 3]) -> Gradient
     }
     let exponential = expcone::gradient_primal(s);
     let g = exponential.g;
-    Gradient {
+    ThreeGradient {
         panics: exponential.panics,
         g,
         rounds: 0,

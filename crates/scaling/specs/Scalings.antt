@@ -12,7 +12,7 @@ use Rattle.algebra.specs.Packed.{quadFormOf, scaledOf}
 use Rattle.scaling.specs.declared.primal_dual.Measures.{Measures}
 use Rattle.scaling.specs.primal_dual.Block.{primalDualBlock}
 use Rattle.cone.specs.Codes.{dual}
-use Rattle.kinds.specs.declared.three.Gradient.{Gradient}
+use Rattle.kinds.specs.declared.three.ThreeGradient.{ThreeGradient}
 use Rattle.kinds.specs.Three.{gradientPrimalOf}
 use Rattle.scaling.specs.declared.Scaled.{Scaled}
 
@@ -46,7 +46,7 @@ unfoldable pub chosenBy : List Float → List Float → List Float → List Floa
 chosenBy h st zt s z m = cond (apart m) (scaledBy (primalDualBlock h st zt s z m)) (scaledBy (scaledOf (m .mu) h))
 
 -- 003 use_primal_dual_scaling, with what the primal gradient answered
-unfoldable pub primalDualBy : List Float → List Float → List Float → List Float → Gradient → Scaled
+unfoldable pub primalDualBy : List Float → List Float → List Float → List Float → ThreeGradient → Scaled
 primalDualBy grad h s z p =
     let zt = p .g in
     let refused : Scaled = record { panics = true; hs = #0 ∷ #0 ∷ #0 ∷ #0 ∷ #0 ∷ #0 ∷ [] } in

@@ -1,6 +1,6 @@
 -- What can be wrong with the arguments of an entry that copies, a row of the table each; and the first row that applies. Definitions only.
 use Prim.Native.Nat.{ℕ}
-use mathlib.Core.Bool.{false, _||_, _&&_, not}
+use mathlib.Core.Bool.{_||_, _&&_, not}
 use mathlib.Core.List.{List}
 use lib.Dec.{eqb}
 use lib.Ieee.{Float}
@@ -8,7 +8,7 @@ use Rattle.cone.specs.declared.Cone.{Cone}
 use Rattle.cone.specs.declared.table.Faults.{Faults}
 use Rattle.cone.specs.Codes.{numelOf}
 use Rattle.judges.specs.Judges.{allFinite}
-use Rattle.cone.specs.table.Table.{firstRow}
+use Rattle.cone.specs.table.Table.{coneFaults, firstRow}
 use Rattle.judges.specs.Refusals.{badCone, otherLength, notFinite}
 
 -- 01: "A slice that is only written is judged by its length alone". Below, a slice that is only written is given by its length
@@ -17,15 +17,7 @@ use Rattle.judges.specs.Refusals.{badCone, otherLength, notFinite}
 unfoldable pub copyFaults : Cone → ℕ → List Float → Faults
 copyFaults c out s =
     let n = numelOf c in
-    record {
-      cone = badCone c;
-      length = not (eqb out n) || otherLength n s;
-      number = notFinite s;
-      setting = false;
-      spent = false;
-      unscaled = false;
-      serial = false;
-    }
+    coneFaults (badCone c) (not (eqb out n) || otherLength n s) (notFinite s)
 
 abbrev pub copyRows : Cone → ℕ → List Float → ℕ
 copyRows c out s = firstRow (copyFaults c out s)
@@ -34,15 +26,7 @@ copyRows c out s = firstRow (copyFaults c out s)
 unfoldable pub offsetFaults : Cone → ℕ → List Float → List Float → Faults
 offsetFaults c out ds z =
     let n = numelOf c in
-    record {
-      cone = badCone c;
-      length = not (eqb out n) || otherLength n ds || otherLength n z;
-      number = not (allFinite ds && allFinite z);
-      setting = false;
-      spent = false;
-      unscaled = false;
-      serial = false;
-    }
+    coneFaults (badCone c) (not (eqb out n) || otherLength n ds || otherLength n z) (not (allFinite ds && allFinite z))
 
 abbrev pub offsetRows : Cone → ℕ → List Float → List Float → ℕ
 offsetRows c out ds z = firstRow (offsetFaults c out ds z)

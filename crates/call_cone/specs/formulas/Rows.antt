@@ -5,7 +5,7 @@ use lib.Dec.{eqb}
 use Rattle.cone.specs.declared.Cone.{Cone}
 use Rattle.cone.specs.declared.table.Faults.{Faults}
 use Rattle.cone.specs.Codes.{numelOf}
-use Rattle.cone.specs.table.Table.{firstRow}
+use Rattle.cone.specs.table.Table.{coneFaults, firstRow}
 use Rattle.judges.specs.Refusals.{badCone}
 -- is_primal_feasible, is_dual_feasible, barrier_dual, update_dual_grad_H; rectify_equilibration, affine_ds; Δs_from_Δz_offset
 pub use Rattle.call_cone.specs.feasibility.Rows.{readRows}
@@ -15,16 +15,7 @@ unfoldable pub use Rattle.call_cone.specs.copies.Rows.{copyFaults, offse
 
 -- fresh
 unfoldable pub freshFaults : Cone → Faults
-freshFaults c =
-    record {
-      cone = badCone c;
-      length = false;
-      number = false;
-      setting = false;
-      spent = false;
-      unscaled = false;
-      serial = false;
-    }
+freshFaults c = coneFaults (badCone c) false false
 
 abbrev pub freshRows : Cone → ℕ
 freshRows c = firstRow (freshFaults c)
@@ -35,15 +26,7 @@ freshRows c = firstRow (freshFaults c)
 unfoldable pub unitFaults : Cone → ℕ → ℕ → Faults
 unitFaults c z s =
     let n = numelOf c in
-    record {
-      cone = badCone c;
-      length = not (eqb z n) || not (eqb s n);
-      number = false;
-      setting = false;
-      spent = false;
-      unscaled = false;
-      serial = false;
-    }
+    coneFaults (badCone c) (not (eqb z n) || not (eqb s n)) false
 
 abbrev pub unitRows : Cone → ℕ → ℕ → ℕ
 unitRows c z s = firstRow (unitFaults c z s)

@@ -3,36 +3,25 @@
 ghost use mathlib.Core.Path.{_≡_};
 ghost use Rattle.call_cone.specs.formulas.Rows.{freshRows, unitRows};
 use cone::Cone;
-use cone::table::Faults;
 use cone::table::first_row;
+use cone::table::no_faults;
 use judges::cone_ok;
 use judges::numel;
 
 pub fn fresh_rows(cone: Cone) -> u32
     ensures { λ r. ⌜ r ≡ freshRows cone ⌝ }
 {
-    first_row(Faults {
-        cone: !cone_ok(cone),
-        length: false,
-        number: false,
-        setting: false,
-        spent: false,
-        unscaled: false,
-        serial: false,
-    })
+    let mut faults = no_faults();
+    faults.cone = !cone_ok(cone);
+    first_row(faults)
 }
 
 pub fn unit_rows(cone: Cone, z: usize, s: usize) -> u32
     ensures { λ r. ⌜ r ≡ unitRows cone z s ⌝ }
 {
     let n = numel(cone);
-    first_row(Faults {
-        cone: !cone_ok(cone),
-        length: (z != n) | (s != n),
-        number: false,
-        setting: false,
-        spent: false,
-        unscaled: false,
-        serial: false,
-    })
+    let mut faults = no_faults();
+    faults.cone = !cone_ok(cone);
+    faults.length = (z != n) | (s != n);
+    first_row(faults)
 }

@@ -10,14 +10,14 @@ use lib.Ieee.Scale.{finite}
 use lib.ListN.{length}
 use borrow.Author.Tests.{eq-eqb, ne-eqb, eqb-true, eqb-false}
 use Rattle.cone.specs.declared.Scaling.{Scaling}
-use Rattle.judges.specs.Judges.{ruleOk, coneOk, threeOk, allFinite}
+use Rattle.judges.specs.Judges.{ruleOk, coneOk, threeOk, threeFinite, allFinite}
 use Rattle.cone.specs.table.Table.{firstRow}
 use Rattle.judges.specs.Refusals.{otherLength, neverScaled, otherSerial, judgedOf}
 use Rattle.judges.proofs.Lengths.{cone-wide, cone-3D, record-wide, record-3D, numel-wide, numel-3D, block-wide, block-3D}
 use Rattle.kinds.specs.Cones.{alphaOf}
+use Rattle.call_record.specs.Rows.{recordRows}
 use Rattle.call_record.specs.blocks.Blocks as blocks
 use Rattle.call_record.specs.three.Entries as three
-use Rattle.call_record.specs.wide_rows.Rows.{rowsIn}
 use Rattle.call_record.specs.wide_primal.Entries as primal
 use Rattle.call_record.specs.wide.Entries as wide
 use Rattle.call_record.specs.entries.Rows.{gradientRows, barrierRows, computeRows, blockRows, productRows, correctionRows}
@@ -34,55 +34,55 @@ module _ (r : Scaling) (k : r .cone .kind ≡ 3 → ⊥) where
   pub gradient-primal-3D
       : (g s : List Float)
       → three.gradientPrimalOf (r .cone .kind) (r .cone .rule) (α r) (r .three) g s ≡ gradientPrimalOf r g s
-  unfolding three.gradientPrimalOf blocks.rowsOf gradientPrimalOf gradientRows
+  unfolding three.gradientPrimalOf gradientPrimalOf gradientRows
   gradient-primal-3D g s = simp (ne-eqb _ _ k, cone-3D (r .cone) k, numel-3D (r .cone) k, record-3D r k)
 
   pub barrier-primal-3D : (s : List Float) → three.barrierPrimalOf (r .cone .kind) (r .cone .rule) (α r) (r .three) s ≡ barrierPrimalOf r s
-  unfolding three.barrierPrimalOf blocks.rowsOf barrierPrimalOf primalBarrierOf barrierRows
+  unfolding three.barrierPrimalOf barrierPrimalOf primalBarrierOf barrierRows
   barrier-primal-3D s = simp (ne-eqb _ _ k, cone-3D (r .cone) k, numel-3D (r .cone) k, record-3D r k)
 
   pub compute-barrier-3D
       : (z s dz ds : List Float) (step : Float)
       → three.computeBarrierOf (r .cone .kind) (r .cone .rule) (α r) (r .three) z s dz ds step ≡ computeBarrierOf r z s dz ds step
-  unfolding three.computeBarrierOf blocks.rowsOf computeBarrierOf combinedBarrierOf computeRows
+  unfolding three.computeBarrierOf computeBarrierOf combinedBarrierOf computeRows
   compute-barrier-3D z s dz ds step = simp (ne-eqb _ _ k, cone-3D (r .cone) k, numel-3D (r .cone) k, record-3D r k)
 
   pub get-hs-3D
       : (serial : ℕ) (block : List Float)
       → blocks.getHsOf (r .cone .kind) (r .cone .rule) (α r) (neverScaled r) (otherSerial serial r) (r .three) block
       ≡ getHsOf r serial block
-  unfolding blocks.getHsOf blocks.rowsOf getHsOf blockRows
+  unfolding blocks.getHsOf getHsOf blockRows
   get-hs-3D serial block = simp (ne-eqb _ _ k, cone-3D (r .cone) k, block-3D (r .cone) k, record-3D r k)
 
   pub mul-hs-3D
       : (serial : ℕ) (y x : List Float)
       → blocks.mulHsOf (r .cone .kind) (r .cone .rule) (α r) (neverScaled r) (otherSerial serial r) (r .three) y x ≡ mulHsOf r serial y x
-  unfolding blocks.mulHsOf blocks.rowsOf mulHsOf productRows
+  unfolding blocks.mulHsOf mulHsOf productRows
   mul-hs-3D serial y x = simp (ne-eqb _ _ k, cone-3D (r .cone) k, numel-3D (r .cone) k, record-3D r k)
 
 -- ---- kind 3
 
 module _ (r : Scaling) (k : r .cone .kind ≡ 3) where
   pub gradient-primal-wide : (g s : List Float) → primal.gradientPrimalOf r g s ≡ gradientPrimalOf r g s
-  unfolding primal.gradientPrimalOf rowsIn gradientPrimalOf gradientRows
+  unfolding primal.gradientPrimalOf gradientPrimalOf gradientRows
   gradient-primal-wide g s = simp (eq-eqb _ _ k, cone-wide (r .cone) k, numel-wide (r .cone) k, record-wide r k)
 
   pub barrier-primal-wide : (s : List Float) → primal.barrierPrimalOf r s ≡ barrierPrimalOf r s
-  unfolding primal.barrierPrimalOf rowsIn barrierPrimalOf primalBarrierOf barrierRows judgedOf
+  unfolding primal.barrierPrimalOf barrierPrimalOf primalBarrierOf barrierRows judgedOf
   barrier-primal-wide s = simp (eq-eqb _ _ k, cone-wide (r .cone) k, numel-wide (r .cone) k, record-wide r k)
 
   pub compute-barrier-wide
       : (z s dz ds : List Float) (step : Float)
       → wide.computeBarrierOf r z s dz ds step ≡ computeBarrierOf r z s dz ds step
-  unfolding wide.computeBarrierOf rowsIn computeBarrierOf combinedBarrierOf computeRows judgedOf
+  unfolding wide.computeBarrierOf computeBarrierOf combinedBarrierOf computeRows judgedOf
   compute-barrier-wide z s dz ds step = simp (eq-eqb _ _ k, cone-wide (r .cone) k, numel-wide (r .cone) k, record-wide r k)
 
   pub get-hs-wide : (serial : ℕ) (block : List Float) → wide.getHsOf r serial block ≡ getHsOf r serial block
-  unfolding wide.getHsOf rowsIn getHsOf blockRows
+  unfolding wide.getHsOf getHsOf blockRows
   get-hs-wide serial block = simp (eq-eqb _ _ k, cone-wide (r .cone) k, block-wide (r .cone) k, record-wide r k)
 
   pub mul-hs-wide : (serial : ℕ) (y x : List Float) → wide.mulHsOf r serial y x ≡ mulHsOf r serial y x
-  unfolding wide.mulHsOf rowsIn mulHsOf productRows
+  unfolding wide.mulHsOf mulHsOf productRows
   mul-hs-wide serial y x = simp (eq-eqb _ _ k, cone-wide (r .cone) k, numel-wide (r .cone) k, record-wide r k)
 
 -- ---- kinds 1 and 2 alone: for kind 3 both sides give 1
@@ -102,18 +102,19 @@ and-false false = refl
 module _ (r : Scaling) (serial : ℕ) where
   abbrev rows : Bool → Bool → ℕ
   rows lengths numbers =
-      blocks.rowsOf (r .cone .kind) (r .cone .rule) (α r) (r .three) lengths (neverScaled r) (otherSerial serial r) numbers
+      recordRows (blocks.badThree (r .cone .kind) (r .cone .rule) (α r)) lengths (not (numbers && threeFinite (r .three))) (neverScaled r)
+      (otherSerial serial r)
 
   module _ (out : ℕ) (a b : List Float) (numbers : Bool) where
     abbrev lengths : Bool
     lengths = not (eqb out 3) || otherLength 3 a || otherLength 3 b
 
     rows-wide : r .cone .kind ≡ 3 → rows lengths numbers ≡ correctionRows r serial out a b numbers
-    unfolding blocks.rowsOf correctionRows firstRow threeOk
+    unfolding correctionRows firstRow threeOk
     rows-wide k = simp (k, and-false (ruleOk (r .cone .rule)), or-true (not (coneOk (r .cone))))
 
     rows-3D : (r .cone .kind ≡ 3 → ⊥) → rows lengths numbers ≡ correctionRows r serial out a b numbers
-    unfolding blocks.rowsOf correctionRows
+    unfolding correctionRows
     rows-3D k =
         let ok = ruleOk (r .cone .rule) && threeOk (r .cone .kind) (α r) in
         simp (ne-eqb _ _ k, cone-3D (r .cone) k, or-false (not ok), record-3D r k)

@@ -15,17 +15,17 @@ use contract.Lifetimes.{Lfts}
 use borrow.Fn.Kinds.{Dens, resT, endedOf}
 use Rattle.cone.specs.declared.Number.{Number}
 use Rattle.cone.specs.declared.Rounds.{Rounds}
-use Rattle.cone.specs.declared.table.Faults.{Faults}
 use Rattle.judges.specs.Judges.{allFinite}
 use Rattle.cone.specs.table.Table.{firstRow, settle}
 use Rattle.judges.specs.Refusals.{Lent, publishOf, numberOf, judgedOf, countedOf, withRounds}
 use Rattle.judges.specs.Refusals.{refuse, refuseNumber, refuseRounds}
 use Rattle.judges.proofs.Outcomes.{one}
 use Rattle.cone.specs.Points.{threeOf}
-use Rattle.kinds.specs.declared.three.Gradient.{Gradient}
+use Rattle.kinds.specs.declared.three.ThreeGradient.{ThreeGradient}
 use Rattle.kinds.specs.Cones.{alphaOf}
 use Rattle.kinds.specs.Three as three
 use Rattle.kinds.specs.Wide as wide
+use Rattle.call_record.specs.Rows.{recordRows}
 use Rattle.call_record.specs.three.Entries.{published}
 use Rattle.call_record.specs.entries.Rows.{gradientRows, barrierRows, computeRows}
 use Rattle.call_record.specs.entries.Entries.{gradientPrimalOf, primalBarrierOf, barrierPrimalOf, combinedBarrierOf, computeBarrierOf}
@@ -100,11 +100,7 @@ not-7 : NotFive 7
 not-7 e = omega arith
 
 -- rows that look at no scaling and no serial
-abbrev primal-faults : Bool → Bool → Bool → Faults
-primal-faults cone length number =
-    record { cone = cone; length = length; number = number; setting = false; spent = false; unscaled = false; serial = false }
-
-row-not-five : (cone length number : Bool) → NotFive (firstRow (primal-faults cone length number))
+row-not-five : (cone length number : Bool) → NotFive (recordRows cone length number false false)
 unfolding firstRow
 row-not-five true length number e = omega arith
 row-not-five false true number e = omega arith
@@ -132,7 +128,7 @@ published-not-five old ans n =
     not-7
 
 -- 6 too
-three-not-five : (old : List Float) (a : Gradient) → NotFive (published old a .answer .code)
+three-not-five : (old : List Float) (a : ThreeGradient) → NotFive (published old a .answer .code)
 three-not-five old a =
     either-not-five (λ (l : Lent Rounds). l .answer .code) (a .panics) (refuseRounds old 6) (withRounds (a .rounds) (publishOf old (a .g)))
     not-6

@@ -1,27 +1,15 @@
--- What a call has that its rows let through: dims of at most 32 and slices of the lengths that it needs. Assumes nothing.
-use mathlib.Core.Path.{_≡_, _∙_, sym}
-use mathlib.Core.Bool.{Bool, false}
-use mathlib.Core.List.{List}
-use Prim.Native.Nat.{ℕ, _≤_}
-use lib.Ieee.{Float}
+-- A cone of kind 3 that row 1 takes has dims of at most 32. Assumes nothing.
+use mathlib.Core.Path.{_≡_}
+use mathlib.Core.Bool.{false}
+use Prim.Native.Nat.{_≤_}
 use borrow.Author.Tests.{not-false}
 use Rattle.arith.proofs.Branches.{and-right}
-use Rattle.cone.specs.declared.Wide.{Wide}
+use Rattle.cone.specs.declared.Cone.{Cone}
 use Rattle.judges.specs.Judges.{ruleOk}
-use Rattle.cone.proofs.table.Settled.{no-fault}
 use Rattle.judges.proofs.Lengths.{dim1-at-most, dim2-at-most}
-use Rattle.call_record.specs.wide_rows.Rows.{rowsIn}
+use Rattle.call_record.specs.wide_rows.Rows.{badParts}
 
-module _
-    (n m rule : ℕ) (e : List Float) (w : Wide) (lengths unscaled serial finite : Bool) {k : ℕ}
-    (r : k ≡ rowsIn n m rule e w lengths unscaled serial finite) (z : k ≡ 0)
-  where
-    pub lengths-right : lengths ≡ false
-    unfolding rowsIn
-    lengths-right = no-fault _ (sym r ∙ z) .length
-
-    pub small-dims : (n ≤ 32) × (m ≤ 32)
-    unfolding rowsIn
-    small-dims =
-        let ok = and-right (ruleOk rule) _ (not-false _ (no-fault _ (sym r ∙ z) .cone)) in
-        (dim1-at-most n m e _ ok, dim2-at-most n m e _ ok)
+pub small-dims : (c : Cone) → badParts (c .dim1) (c .dim2) (c .rule) (c .exps) ≡ false → (c .dim1 ≤ 32) × (c .dim2 ≤ 32)
+small-dims c e =
+    let ok = and-right (ruleOk (c .rule)) _ (not-false _ e) in
+    (dim1-at-most _ _ (c .exps) _ ok, dim2-at-most _ _ (c .exps) _ ok)

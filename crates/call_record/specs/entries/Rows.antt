@@ -9,8 +9,8 @@ use lib.Ieee.Scale.{finite}
 use Rattle.cone.specs.declared.Scaling.{Scaling}
 use Rattle.cone.specs.Codes.{numelOf, blockOf}
 use Rattle.judges.specs.Judges.{allFinite, sidesFinite, recordFinite}
-use Rattle.cone.specs.table.Table.{firstRow}
 use Rattle.judges.specs.Refusals.{badCone, badCone3D, otherLength, neverScaled, otherSerial}
+use Rattle.call_record.specs.Rows.{recordRows}
 
 -- A slice that is only written is given by its length.
 
@@ -20,81 +20,48 @@ use Rattle.judges.specs.Refusals.{badCone, badCone3D, otherLength, neverScaled,
 unfoldable pub gradientRows : Scaling → ℕ → List Float → ℕ
 gradientRows r g s =
     let n = numelOf (r .cone) in
-    firstRow (record {
-      cone = badCone (r .cone);
-      length = not (eqb g n) || otherLength n s;
-      number = not (allFinite s && recordFinite r);
-      setting = false;
-      spent = false;
-      unscaled = false;
-      serial = false;
-    })
+    recordRows (badCone (r .cone)) (not (eqb g n) || otherLength n s) (not (allFinite s && recordFinite r)) false false
 
 -- barrier_primal
 unfoldable pub barrierRows : Scaling → List Float → ℕ
 barrierRows r s =
-    firstRow (record {
-      cone = badCone (r .cone);
-      length = otherLength (numelOf (r .cone)) s;
-      number = not (allFinite s && recordFinite r);
-      setting = false;
-      spent = false;
-      unscaled = false;
-      serial = false;
-    })
+    recordRows (badCone (r .cone))
+    (otherLength (numelOf (r .cone)) s)
+    (not (allFinite s && recordFinite r))
+    false false
 
 -- compute_barrier; the step, the Rust's α, may be any finite number
 unfoldable pub computeRows : Scaling → List Float → List Float → List Float → List Float → Float → ℕ
 computeRows r z s dz ds step =
     let n = numelOf (r .cone) in
-    firstRow (record {
-      cone = badCone (r .cone);
-      length = otherLength n z || otherLength n s || otherLength n dz || otherLength n ds;
-      number = not (sidesFinite dz ds z s && finite step && recordFinite r);
-      setting = false;
-      spent = false;
-      unscaled = false;
-      serial = false;
-    })
+    recordRows (badCone (r .cone))
+    (otherLength n z || otherLength n s || otherLength n dz || otherLength n ds)
+    (not (sidesFinite dz ds z s && finite step && recordFinite r))
+    false false
 
 -- 02, Order 6: "`get_Hs`, `mul_Hs`, correction and combined shift name the serial they expect."
 
 -- get_Hs
 unfoldable pub blockRows : Scaling → ℕ → ℕ → ℕ
 blockRows r serial block =
-    firstRow (record {
-      cone = badCone (r .cone);
-      length = not (eqb block (blockOf (r .cone)));
-      number = not (recordFinite r);
-      setting = false;
-      spent = false;
-      unscaled = neverScaled r;
-      serial = otherSerial serial r;
-    })
+    recordRows (badCone (r .cone))
+    (not (eqb block (blockOf (r .cone))))
+    (not (recordFinite r))
+    (neverScaled r) (otherSerial serial r)
 
 -- mul_Hs
 unfoldable pub productRows : Scaling → ℕ → ℕ → List Float → ℕ
 productRows r serial y x =
     let n = numelOf (r .cone) in
-    firstRow (record {
-      cone = badCone (r .cone);
-      length = not (eqb y n) || otherLength n x;
-      number = not (allFinite x && recordFinite r);
-      setting = false;
-      spent = false;
-      unscaled = neverScaled r;
-      serial = otherSerial serial r;
-    })
+    recordRows (badCone (r .cone))
+    (not (eqb y n) || otherLength n x)
+    (not (allFinite x && recordFinite r))
+    (neverScaled r) (otherSerial serial r)
 
 -- higher_correction and combined_ds_shift; `numbers` says whether the call's own are finite
 unfoldable pub correctionRows : Scaling → ℕ → ℕ → List Float → List Float → Bool → ℕ
 correctionRows r serial out a b numbers =
-    firstRow (record {
-      cone = badCone3D (r .cone);
-      length = not (eqb out 3) || otherLength 3 a || otherLength 3 b;
-      number = not (numbers && recordFinite r);
-      setting = false;
-      spent = false;
-      unscaled = neverScaled r;
-      serial = otherSerial serial r;
-    })
+    recordRows (badCone3D (r .cone))
+    (not (eqb out 3) || otherLength 3 a || otherLength 3 b)
+    (not (numbers && recordFinite r))
+    (neverScaled r) (otherSerial serial r)

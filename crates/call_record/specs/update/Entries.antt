@@ -1,6 +1,6 @@
 -- What update_scaling answers, for all arguments. Definitions only.
 use Prim.Native.Nat.{ℕ, _+_}
-use mathlib.Core.Bool.{false, _||_, _&&_, not}
+use mathlib.Core.Bool.{_||_, _&&_, not}
 use mathlib.Core.List.{List}
 use lib.Ieee.{Float}
 use lib.Ieee.Scale.{finite}
@@ -9,7 +9,7 @@ use Rattle.cone.specs.declared.Updated.{Updated}
 use Rattle.cone.specs.declared.Attempt.{Attempt}
 use Rattle.cone.specs.Codes.{numelOf}
 use Rattle.judges.specs.Judges.{allFinite, recordFinite}
-use Rattle.cone.specs.table.Table.{firstRow, settle}
+use Rattle.cone.specs.table.Table.{updateFaults, firstRow, settle}
 use Rattle.judges.specs.Refusals.{badCone, otherLength, badStrategy, isSpent, lastRows, refuseUpdate}
 use Rattle.scaling.specs.Updates.{newRecordOf}
 
@@ -17,15 +17,12 @@ use Rattle.scaling.specs.Updates.{newRecordOf}
 unfoldable pub updateRows : Scaling → List Float → List Float → Float → ℕ → ℕ
 updateRows r s z μ strategy =
     let n = numelOf (r .cone) in
-    firstRow (record {
-      cone = badCone (r .cone);
-      length = otherLength n s || otherLength n z;
-      number = not (allFinite s && allFinite z && finite μ && recordFinite r);
-      setting = badStrategy strategy;
-      spent = isSpent r;
-      unscaled = false;
-      serial = false;
-    })
+    firstRow
+    (updateFaults (badCone (r .cone))
+    (otherLength n s || otherLength n z)
+    (not (allFinite s && allFinite z && finite μ && recordFinite r))
+    (badStrategy strategy)
+    (isSpent r))
 
 -- the record with this serial
 abbrev pub numbered : ℕ → Scaling → Scaling

@@ -1,7 +1,7 @@
 -- What each entry over a record answers and leaves for kind 3, but for the two of `wide_primal`. Definitions only; that they are the
 -- entries' own for this kind is proved in `entries`.
 use Prim.Native.Nat.{ℕ}
-use mathlib.Core.Bool.{true, false, _||_, _&&_}
+use mathlib.Core.Bool.{false, not, _||_, _&&_}
 use mathlib.Core.List.{List}
 use lib.Ieee.{Float}
 use lib.Ieee.Scale.{finite}
@@ -14,14 +14,16 @@ use Rattle.cone.specs.table.Table.{settle}
 use Rattle.judges.specs.Refusals.{Lent, refuse, refuseNumber, publishOf, numberOf}
 use Rattle.genpowcone.specs.Rank3 as genRank3
 use Rattle.kinds.specs.Wide as wide
-use Rattle.call_record.specs.wide_rows.Rows.{dims, rowsOf}
+use Rattle.call_record.specs.Rows.{recordRows}
+use Rattle.call_record.specs.wide_rows.Rows.{badWide, dims, numbersFinite}
 
 -- 002 compute_barrier; the step is the Rust's α
 unfoldable pub computeBarrierOf : Scaling → List Float → List Float → List Float → List Float → Float → Number
 computeBarrierOf r z s dz ds step =
     let n = dims r in
     let lengths = otherLength n z || otherLength n s || otherLength n dz || otherLength n ds in
-    settle (rowsOf r lengths false false (sidesFinite dz ds z s && finite step))
+    let number = not (sidesFinite dz ds z s && finite step && numbersFinite r) in
+    settle (recordRows (badWide r) lengths number false false)
     (numberOf (wide.computeBarrierOf (r .cone .exps) (r .cone .dim1) z s dz ds step))
     refuseNumber
 
@@ -31,13 +33,14 @@ computeBarrierOf r z s dz ds step =
 unfoldable pub getHsOf : Scaling → ℕ → List Float → Lent ℕ
 getHsOf r serial block =
     let diagonal = wide.getHsOf (r .wide .mu) (r .wide .d1) (r .cone .dim1) (r .wide .d2) (r .cone .dim2) in
-    settle (rowsOf r (otherLength (dims r) block) (neverScaled r) (otherSerial serial r) true)
+    settle (recordRows (badWide r) (otherLength (dims r) block) (not (numbersFinite r)) (neverScaled r) (otherSerial serial r))
     (publishOf block (take (length block) diagonal))
     (refuse block)
 
 -- 002 mul_Hs
 unfoldable pub mulHsOf : Scaling → ℕ → List Float → List Float → Lent ℕ
 mulHsOf r serial y x =
-    settle (rowsOf r (otherLength (dims r) y || otherLength (dims r) x) (neverScaled r) (otherSerial serial r) (allFinite x))
+    let lengths = otherLength (dims r) y || otherLength (dims r) x in
+    settle (recordRows (badWide r) lengths (not (allFinite x && numbersFinite r)) (neverScaled r) (otherSerial serial r))
     (publishOf y (take (length y) (genRank3.mulHsOf (r .wide) (r .cone .dim1) x)))
     (refuse y)

@@ -1,6 +1,6 @@
 -- What the primal gradient and the primal barrier over a record answer and leave for kind 3. Definitions only; that they are the entries'
 -- own for this kind is proved in `entries`.
-use mathlib.Core.Bool.{false, _||_}
+use mathlib.Core.Bool.{false, not, _||_, _&&_}
 use mathlib.Core.List.{List}
 use lib.Ieee.{Float}
 use lib.ListN.{length, take}
@@ -12,7 +12,8 @@ use Rattle.judges.specs.Refusals.{otherLength}
 use Rattle.cone.specs.table.Table.{settle}
 use Rattle.judges.specs.Refusals.{Lent, refuseNumber, refuseRounds, publishOf, numberOf, withRounds}
 use Rattle.kinds.specs.Wide as wide
-use Rattle.call_record.specs.wide_rows.Rows.{dims, rowsOf}
+use Rattle.call_record.specs.Rows.{recordRows}
+use Rattle.call_record.specs.wide_rows.Rows.{badWide, dims, numbersFinite}
 
 -- ---- the primal side: of the record, the cone alone (02, Order 4)
 
@@ -20,13 +21,14 @@ use Rattle.call_record.specs.wide_rows.Rows.{dims, rowsOf}
 unfoldable pub gradientPrimalOf : Scaling → List Float → List Float → Lent Rounds
 gradientPrimalOf r g s =
     let a = wide.gradientPrimalOf (r .cone .exps) (r .cone .dim1) s in
-    settle (rowsOf r (otherLength (dims r) g || otherLength (dims r) s) false false (allFinite s))
+    let lengths = otherLength (dims r) g || otherLength (dims r) s in
+    settle (recordRows (badWide r) lengths (not (allFinite s && numbersFinite r)) false false)
     (withRounds (a .rounds) (publishOf g (take (length g) (a .g))))
     (refuseRounds g)
 
 -- 002 barrier_primal
 unfoldable pub barrierPrimalOf : Scaling → List Float → Number
 barrierPrimalOf r s =
-    settle (rowsOf r (otherLength (dims r) s) false false (allFinite s))
+    settle (recordRows (badWide r) (otherLength (dims r) s) (not (allFinite s && numbersFinite r)) false false)
     (numberOf (wide.barrierPrimalOf (r .cone .exps) (r .cone .dim1) s))
     refuseNumber

@@ -1,6 +1,6 @@
 -- What can be wrong with a plan's arguments, a row of the table each; and the first row that applies. Definitions only.
 use Prim.Native.Nat.{ℕ}
-use mathlib.Core.Bool.{Bool, false, _||_, _&&_, not}
+use mathlib.Core.Bool.{_||_, _&&_, not}
 use mathlib.Core.List.{List}
 use lib.Dec.{eqb}
 use lib.Ieee.{Float}
@@ -8,7 +8,7 @@ use Rattle.cone.specs.declared.Cone.{Cone}
 use Rattle.cone.specs.declared.Settings.{Settings}
 use Rattle.cone.specs.declared.table.Faults.{Faults}
 use Rattle.judges.specs.Judges.{allFinite, sidesFinite, settingsFinite}
-use Rattle.cone.specs.table.Table.{firstRow}
+use Rattle.cone.specs.table.Table.{settingFaults, firstRow}
 use Rattle.judges.specs.Refusals.{otherLength, badSettings}
 use Rattle.plan.specs.Plans.{planOk, totalOf}
 
@@ -17,15 +17,10 @@ use Rattle.plan.specs.Plans.{planOk, totalOf}
 unfoldable pub planFaults : List Cone → List Float → List Float → ℕ → Settings → Faults
 planFaults cs dq q point s =
     let n = totalOf cs in
-    record {
-      cone = not (planOk cs);
-      length = otherLength n dq || otherLength n q || not (eqb point n);
-      number = not (allFinite dq && allFinite q && settingsFinite s);
-      setting = badSettings s;
-      spent = false;
-      unscaled = false;
-      serial = false;
-    }
+    settingFaults (not (planOk cs))
+    (otherLength n dq || otherLength n q || not (eqb point n))
+    (not (allFinite dq && allFinite q && settingsFinite s))
+    (badSettings s)
 
 abbrev pub planRows : List Cone → List Float → List Float → ℕ → Settings → ℕ
 planRows cs dq q point s = firstRow (planFaults cs dq q point s)
@@ -34,16 +29,10 @@ planRows cs dq q point s = firstRow (planFaults cs dq q point s)
 unfoldable pub sidesFaults : List Cone → List Float → List Float → List Float → List Float → ℕ → ℕ → Settings → Faults
 sidesFaults cs dz ds z s dualPoint primalPoint settings =
     let n = totalOf cs in
-    record {
-      cone = not (planOk cs);
-      length =
-          otherLength n dz || otherLength n ds || otherLength n z || otherLength n s || not (eqb dualPoint n) || not (eqb primalPoint n);
-      number = not (sidesFinite dz ds z s && settingsFinite settings);
-      setting = badSettings settings;
-      spent = false;
-      unscaled = false;
-      serial = false;
-    }
+    settingFaults (not (planOk cs))
+    (otherLength n dz || otherLength n ds || otherLength n z || otherLength n s || not (eqb dualPoint n) || not (eqb primalPoint n))
+    (not (sidesFinite dz ds z s && settingsFinite settings))
+    (badSettings settings)
 
 abbrev pub sidesRows : List Cone → List Float → List Float → List Float → List Float → ℕ → ℕ → Settings → ℕ
 sidesRows cs dz ds z s dualPoint primalPoint settings = firstRow (sidesFaults cs dz ds z s dualPoint primalPoint settings)

@@ -3,8 +3,8 @@ ghost use mathlib.Core.Path.{_≡_};
 ghost use Rattle.call_search.specs.single.Rows.{searchRows, stepRows};
 use cone::Cone;
 use cone::Settings;
-use cone::table::Faults;
 use cone::table::first_row;
+use cone::table::no_faults;
 use judges::all_finite;
 use judges::cone_ok;
 use judges::numel;
@@ -16,15 +16,12 @@ pub fn search_rows(cone: Cone, dq: &[f64], q: &[f64], point: usize, settings: Se
     ensures { λ r. ⌜ r ≡ searchRows cone (now (dq .entry)) (now (q .entry)) point settings ⌝ }
 {
     let n = numel(cone);
-    first_row(Faults {
-        cone: !cone_ok(cone),
-        length: (dq.len() != n) | (q.len() != n) | (point != n),
-        number: !(all_finite(dq) & all_finite(q) & settings_finite(settings)),
-        setting: !settings_ok(settings),
-        spent: false,
-        unscaled: false,
-        serial: false,
-    })
+    let mut faults = no_faults();
+    faults.cone = !cone_ok(cone);
+    faults.length = (dq.len() != n) | (q.len() != n) | (point != n);
+    faults.number = !(all_finite(dq) & all_finite(q) & settings_finite(settings));
+    faults.setting = !settings_ok(settings);
+    first_row(faults)
 }
 
 pub fn step_rows(
@@ -41,18 +38,15 @@ pub fn step_rows(
         ≡ stepRows cone (now (dz .entry)) (now (ds .entry)) (now (z .entry)) (now (s .entry)) dualpoint primalpoint settings ⌝ }
 {
     let n = numel(cone);
-    first_row(Faults {
-        cone: !cone_ok(cone),
-        length: (dz.len() != n)
-            | (ds.len() != n)
-            | (z.len() != n)
-            | (s.len() != n)
-            | (dualpoint != n)
-            | (primalpoint != n),
-        number: !(sides_finite(dz, ds, z, s) & settings_finite(settings)),
-        setting: !settings_ok(settings),
-        spent: false,
-        unscaled: false,
-        serial: false,
-    })
+    let mut faults = no_faults();
+    faults.cone = !cone_ok(cone);
+    faults.length = (dz.len() != n)
+        | (ds.len() != n)
+        | (z.len() != n)
+        | (s.len() != n)
+        | (dualpoint != n)
+        | (primalpoint != n);
+    faults.number = !(sides_finite(dz, ds, z, s) & settings_finite(settings));
+    faults.setting = !settings_ok(settings);
+    first_row(faults)
 }

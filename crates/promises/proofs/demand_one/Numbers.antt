@@ -30,7 +30,7 @@ use Rattle.judges.proofs.Lengths.{cone-is-ok}
 use Rattle.judges.specs.Refusals as shared
 use Rattle.judges.specs.Refusals.{Lent, LentTwo, lastRows, refuse, refuseTwo, refuseNumber, refuseRounds, refuseUpdate}
 use Rattle.judges.specs.Refusals.{publishOf, judgedOf, countedOf, withRounds}
-use Rattle.kinds.specs.declared.three.Gradient.{Gradient}
+use Rattle.kinds.specs.declared.three.ThreeGradient.{ThreeGradient}
 use Rattle.kinds.specs.Cones.{alphaOf}
 use Rattle.kinds.specs.Three as three
 use Rattle.call_cone.specs.formulas.Rows.{freshFaults, readFaults, unitFaults, copyFaults, offsetFaults}
@@ -151,7 +151,7 @@ module _ (ns : List ℕ) where
         go true = zero-in
         go false = seven
 
-    by-panics : In 6 → (g : List Float) (t : Gradient) → In (three-entries.published g t .answer .code)
+    by-panics : In 6 → (g : List Float) (t : ThreeGradient) → In (three-entries.published g t .answer .code)
     by-panics six g t =
         either (λ (l : Lent Rounds). l .answer .code) (t .panics) (refuseRounds g 6) (withRounds (t .rounds) (publishOf g (t .g))) six
         (with-rounds (t .rounds) g (t .g))

@@ -26,7 +26,7 @@ use Rattle.judges.specs.Judges.{allFinite}
 use Rattle.judges.specs.Refusals as shared
 use Rattle.judges.specs.Refusals.{Lent, LentTwo, refuse, refuseTwo, refuseNumber, refuseRounds, refuseUpdate, publishOf, publishTwoOf}
 use Rattle.judges.specs.Refusals.{judgedOf, countedOf, withRounds}
-use Rattle.kinds.specs.declared.three.Gradient.{Gradient}
+use Rattle.kinds.specs.declared.three.ThreeGradient.{ThreeGradient}
 use Rattle.kinds.specs.Cones.{alphaOf}
 use Rattle.kinds.specs.Three as three
 use Rattle.call_cone.specs.formulas.Entries as cones
@@ -122,7 +122,7 @@ with-rounds n old ans = go (allFinite ans)
     go false = λ e. refl
 
 -- 6: "Wright omega argument below 0"
-by-panics : (g : List Float) (t : Gradient) → Refuses rounds-code (refuseRounds g) (three-entries.published g t)
+by-panics : (g : List Float) (t : ThreeGradient) → Refuses rounds-code (refuseRounds g) (three-entries.published g t)
 by-panics g t =
     either rounds-code (refuseRounds g) (t .panics) (refuseRounds g 6) (withRounds (t .rounds) (publishOf g (t .g)))
     (with-number rounds-code (refuseRounds g) (λ k. refl) 6) (with-rounds (t .rounds) g (t .g))

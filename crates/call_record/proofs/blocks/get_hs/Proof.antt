@@ -4,7 +4,7 @@ use lib.ListN.{length}
 use Rattle.cone.proofs.table.Settled.{refused, through}
 use Rattle.judges.proofs.Lengths.{same-1}
 use Rattle.call_record.specs.blocks.Blocks.{getHsOf}
-use Rattle.call_record.proofs.blocks.Judging.{lengths-right}
+use Rattle.call_record.proofs.Judging.{let-through}
 use borrow.Author.Needs.{needs}
 use Rattle.call_record.proofs.blocks.get_hs.Statement.{statement}
 use Rattle.call_record.proofs.blocks.get_hs.Tie as tie
@@ -17,7 +17,7 @@ publish-requires : tie.Need-publish-requires
 publish-requires c κs =
     let past = c .before .before .before .before in
     let start = past .before .before .before in
-    let right = lengths-right _ _ _ _ _ _ _ _ (past .before .rows .ensures) (past .if1 .left) in
+    let right = let-through _ (past .before .rows .ensures) (past .if1 .left) .length in
     omega (arith, same-1 6 (length (start .args .block .now)) right)
 
 returns-2 : tie.Need-returns-2

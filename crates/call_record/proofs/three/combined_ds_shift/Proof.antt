@@ -1,12 +1,10 @@
 -- A call that its rows refuse leaves with their number, one that they let through publishes the shift. Assumes nothing.
-use mathlib.Core.Path.{_∙_, ap}
 use native.Mathlib.Omega.{arith}
 use lib.ListN.{length}
 use Rattle.cone.proofs.table.Settled.{both, refused, through}
 use Rattle.judges.proofs.Lengths.{same-3}
-use Rattle.call_record.specs.blocks.Blocks.{rowsOf}
 use Rattle.call_record.specs.three.Entries.{combinedDsShiftOf}
-use Rattle.call_record.proofs.blocks.Judging.{lengths-right}
+use Rattle.call_record.proofs.Judging.{let-through, own-numbers}
 use borrow.Author.Needs.{needs}
 use Rattle.call_record.proofs.three.combined_ds_shift.Statement.{statement}
 use Rattle.call_record.proofs.three.combined_ds_shift.Tie as tie
@@ -32,13 +30,13 @@ returns c =
     let judged = c .before in
     let number = judged .before in
     let points = both (number .before .before .all-finite .ensures) (number .before .all-finite2 .ensures) in
-    refused _ _ _ _ (judged .rows .ensures ∙ ap (rowsOf _ _ _ _ _ _ _) (both points (number .is-finite .ensures))) (c .if1 .taken)
+    refused _ _ _ _ (own-numbers _ _ _ _ _ (judged .rows .ensures) (both points (number .is-finite .ensures))) (c .if1 .taken)
 
 publish-requires : tie.Need-publish-requires
 publish-requires c κs =
-    let let-through = past (c .before .before) in
-    let a = start (let-through .before) .args in
-    let right = lengths-right _ _ _ _ _ _ _ _ (let-through .before .rows .ensures) (let-through .if1 .left) in
+    let went-on = past (c .before .before) in
+    let a = start (went-on .before) .args in
+    let right = let-through _ (went-on .before .rows .ensures) (went-on .if1 .left) .length in
     omega (arith, same-3 3 (length (a .shifted .now)) (length (a .stepz .now)) (length (a .steps .now)) right .0)
 
 returns-2 : tie.Need-returns-2
@@ -50,7 +48,7 @@ returns-2 c =
     let number = judged .before in
     let points = both (number .before .before .all-finite .ensures) (number .before .all-finite2 .ensures) in
     through _ _ _ _
-    (judged .rows .ensures ∙ ap (rowsOf _ _ _ _ _ _ _) (both points (number .is-finite .ensures)))
+    (own-numbers _ _ _ _ _ (judged .rows .ensures) (both points (number .is-finite .ensures)))
     (past computed .if1 .left)
     (simp (← computed .before .before .three-of .ensures, ← computed .before .three-of2 .ensures, ← computed .combined-ds-shift .ensures)
     (published .publish .ensures))

@@ -1,8 +1,7 @@
 -- A call that its rows refuse leaves with their number, one that they let through with the finished barrier. Assumes nothing.
-use mathlib.Core.Path.{_∙_, ap}
 use Rattle.cone.proofs.table.Settled.{both, refused, through}
-use Rattle.call_record.specs.blocks.Blocks.{rowsOf}
 use Rattle.call_record.specs.three.Entries.{computeBarrierOf}
+use Rattle.call_record.proofs.Judging.{own-numbers}
 use borrow.Author.Needs.{needs}
 use Rattle.call_record.proofs.three.compute_barrier.Statement.{statement}
 use Rattle.call_record.proofs.three.compute_barrier.Tie as tie
@@ -13,7 +12,7 @@ returns c =
     let judged = c .before in
     let step = judged .before in
     let numbers = both (step .before .sides-finite .ensures) (step .is-finite .ensures) in
-    refused _ _ _ _ (judged .rows .ensures ∙ ap (rowsOf _ _ _ _ _ _ _) numbers) (c .if1 .taken)
+    refused _ _ _ _ (own-numbers _ _ _ _ _ (judged .rows .ensures) numbers) (c .if1 .taken)
 
 returns-2 : tie.Need-returns-2
 unfolding computeBarrierOf
@@ -24,7 +23,7 @@ returns-2 c =
     let judged = past .before in
     let step = judged .before in
     let numbers = both (step .before .sides-finite .ensures) (step .is-finite .ensures) in
-    through _ _ _ _ (judged .rows .ensures ∙ ap (rowsOf _ _ _ _ _ _ _) numbers) (past .if1 .left)
+    through _ _ _ _ (own-numbers _ _ _ _ _ (judged .rows .ensures) numbers) (past .if1 .left)
     (simp (
       ← of-s .before .three-of .ensures,
       ← of-s .three-of2 .ensures,

@@ -1,6 +1,6 @@
 -- A call that its rows refuse leaves with their number; where the Rust would panic the answer is 6, else the published gradient with
 -- its count. Assumes nothing.
-use mathlib.Core.Path.{_≡_, _∙_, ap, refl}
+use mathlib.Core.Path.{_≡_, refl}
 use mathlib.Core.Bool.{true, false}
 use mathlib.Core.List.{List}
 use Prim.Native.Nat.{ℕ}
@@ -13,15 +13,14 @@ use Rattle.judges.specs.Refusals.{Lent, refuseRounds, publishOf, countedOf}
 use Rattle.cone.proofs.table.Settled.{refused, through}
 use Rattle.judges.proofs.Outcomes.{with-count}
 use Rattle.judges.proofs.Lengths.{same-2}
-use Rattle.kinds.specs.declared.three.Gradient.{Gradient}
-use Rattle.call_record.specs.blocks.Blocks.{rowsOf}
+use Rattle.kinds.specs.declared.three.ThreeGradient.{ThreeGradient}
 use Rattle.call_record.specs.three.Entries.{published, gradientPrimalOf}
-use Rattle.call_record.proofs.blocks.Judging.{lengths-right}
+use Rattle.call_record.proofs.Judging.{let-through, own-numbers}
 use borrow.Author.Needs.{needs}
 use Rattle.call_record.proofs.three.gradient_primal.Statement.{statement}
 use Rattle.call_record.proofs.three.gradient_primal.Tie as tie
 
-module _ (old : List Float) (a : Gradient) where
+module _ (old : List Float) (a : ThreeGradient) where
   panicked : a .panics ≡ true → refuseRounds old 6 ≡ published old a
   panicked p = taken _ p refl
 
@@ -48,12 +47,12 @@ settled
 unfolding gradientPrimalOf
 settled c p =
     let judged = past c .before in
-    through _ _ _ _ (judged .rows .ensures ∙ ap (rowsOf _ _ _ _ _ _ _) (judged .before .all-finite .ensures)) (past c .if1 .left)
+    through _ _ _ _ (own-numbers _ _ _ _ _ (judged .rows .ensures) (judged .before .all-finite .ensures)) (past c .if1 .left)
     (simp (← c .before .three-of .ensures, ← c .gradient-primal .ensures) p)
 
 returns : tie.Need-returns
 unfolding gradientPrimalOf
-returns c = refused _ _ _ _ (c .before .rows .ensures ∙ ap (rowsOf _ _ _ _ _ _ _) (c .before .before .all-finite .ensures)) (c .if1 .taken)
+returns c = refused _ _ _ _ (own-numbers _ _ _ _ _ (c .before .rows .ensures) (c .before .before .all-finite .ensures)) (c .if1 .taken)
 
 returns-2 : tie.Need-returns-2
 returns-2 c = settled (c .before) (panicked _ _ (c .if2 .taken))
@@ -63,7 +62,7 @@ publish-requires c κs =
     let went-on = c .before .before .before .before in
     let judged = past (went-on .before) in
     let a = start (went-on .before) .args in
-    let right = lengths-right _ _ _ _ _ _ _ _ (judged .before .rows .ensures) (judged .if1 .left) in
+    let right = let-through _ (judged .before .rows .ensures) (judged .if1 .left) .length in
     omega (arith, same-2 3 (length (a .g .now)) (length (a .s .now)) right .0)
 
 returns-3 : tie.Need-returns-3

@@ -1,12 +1,10 @@
 -- A call that its rows refuse leaves with their number, one that they let through publishes the correction. Assumes nothing.
-use mathlib.Core.Path.{_∙_, ap}
 use native.Mathlib.Omega.{arith}
 use lib.ListN.{length}
 use Rattle.cone.proofs.table.Settled.{both, refused, through}
 use Rattle.judges.proofs.Lengths.{same-3}
-use Rattle.call_record.specs.blocks.Blocks.{rowsOf}
 use Rattle.call_record.specs.three.Entries.{higherCorrectionOf}
-use Rattle.call_record.proofs.blocks.Judging.{lengths-right}
+use Rattle.call_record.proofs.Judging.{let-through, own-numbers}
 use borrow.Author.Needs.{needs}
 use Rattle.call_record.proofs.three.higher_correction.Statement.{statement}
 use Rattle.call_record.proofs.three.higher_correction.Tie as tie
@@ -27,13 +25,13 @@ unfolding higherCorrectionOf
 returns c =
     let judged = c .before in
     let numbers = both (judged .before .before .all-finite .ensures) (judged .before .all-finite2 .ensures) in
-    refused _ _ _ _ (judged .rows .ensures ∙ ap (rowsOf _ _ _ _ _ _ _) numbers) (c .if1 .taken)
+    refused _ _ _ _ (own-numbers _ _ _ _ _ (judged .rows .ensures) numbers) (c .if1 .taken)
 
 publish-requires : tie.Need-publish-requires
 publish-requires c κs =
-    let let-through = past (c .before .before) in
-    let a = start (let-through .before) .args in
-    let right = lengths-right _ _ _ _ _ _ _ _ (let-through .before .rows .ensures) (let-through .if1 .left) in
+    let went-on = past (c .before .before) in
+    let a = start (went-on .before) .args in
+    let right = let-through _ (went-on .before .rows .ensures) (went-on .if1 .left) .length in
     omega (arith, same-3 3 (length (a .eta .now)) (length (a .ds .now)) (length (a .v .now)) right .0)
 
 returns-2 : tie.Need-returns-2
@@ -43,7 +41,7 @@ returns-2 c =
     let computed = published .before .before .before in
     let judged = past computed .before in
     let numbers = both (judged .before .before .all-finite .ensures) (judged .before .all-finite2 .ensures) in
-    through _ _ _ _ (judged .rows .ensures ∙ ap (rowsOf _ _ _ _ _ _ _) numbers) (past computed .if1 .left)
+    through _ _ _ _ (own-numbers _ _ _ _ _ (judged .rows .ensures) numbers) (past computed .if1 .left)
     (simp (← computed .before .before .three-of .ensures, ← computed .before .three-of2 .ensures, ← computed .higher-correction .ensures)
     (published .publish .ensures))
 

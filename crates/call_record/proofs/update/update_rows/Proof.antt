@@ -19,7 +19,8 @@ returns c =
       points .all-finite2 .ensures,
       points .before .all-finite .ensures,
       cone .cone-ok .ensures,
-      cone .before .numel .ensures,
+      cone .before .no-faults .ensures,
+      cone .before .before .numel .ensures,
     )
 
 pub update-rows-spec : {M : Type 1} → statement M
@@ -27,5 +28,5 @@ update-rows-spec =
     tie.close
     (tie.spec
     (λ c κs. search needs) (λ c κs. search needs) (λ c κs. search needs) (λ c κs. search needs) (λ c κs. search needs)
-    (λ c κs. search needs) (λ c κs. search needs) (λ c κs. search needs)
+    (λ c κs. search needs) (λ c κs. search needs) (λ c κs. search needs) (λ c κs. search needs)
     returns)

@@ -5,9 +5,10 @@ use lib.ListN.{length}
 use Rattle.judges.specs.Refusals.{numberOf}
 use Rattle.cone.proofs.table.Settled.{both, refused, through}
 use Rattle.judges.proofs.Lengths.{same-4}
-use Rattle.call_record.specs.wide_rows.Rows.{dims, rowsIn}
+use Rattle.call_record.specs.wide_rows.Rows.{dims}
 use Rattle.call_record.specs.wide.Entries.{computeBarrierOf}
-use Rattle.call_record.proofs.wide_rows.Judging.{lengths-right, small-dims}
+use Rattle.call_record.proofs.wide_rows.Judging.{small-dims}
+use Rattle.call_record.proofs.Judging.{let-through, own-numbers}
 use borrow.Author.Needs.{needs}
 use Rattle.call_record.proofs.wide.compute_barrier.Statement.{statement}
 use Rattle.call_record.proofs.wide.compute_barrier.Tie as tie
@@ -25,7 +26,7 @@ unfolding computeBarrierOf
 returns c =
     let n = numbers (c .before) in
     let finite = both (n .before .sides-finite .ensures) (n .is-finite .ensures) in
-    refused _ _ _ _ (c .before .rows .ensures ∙ ap (rowsIn _ _ _ _ _ _ _ _) finite) (c .if1 .taken)
+    refused _ _ _ _ (own-numbers _ _ _ _ _ (c .before .rows .ensures) finite) (c .if1 .taken)
 
 compute-barrier-requires : tie.Need-compute-barrier-requires
 compute-barrier-requires c κs =
@@ -33,9 +34,9 @@ compute-barrier-requires c κs =
     let judged = past .before in
     let slices-known = numbers judged .before .before in
     let a = slices-known .before .before .before .before .args in
-    let small = small-dims _ _ _ _ _ _ _ _ _ (judged .rows .ensures) (past .if1 .left) in
-    let right = lengths-right _ _ _ _ _ _ _ _ _ (judged .rows .ensures) (past .if1 .left) in
-    let same = same-4 (dims (a .t1)) (length (a .z .now)) (length (a .s .now)) (length (a .dz .now)) (length (a .ds .now)) right in
+    let right = let-through _ (judged .rows .ensures) (past .if1 .left) in
+    let small = small-dims (a .t1 .cone) (right .cone) in
+    let same = same-4 (dims (a .t1)) (length (a .z .now)) (length (a .s .now)) (length (a .dz .now)) (length (a .ds .now)) (right .length) in
     (omega (arith, same .1, small .0, small .1), omega (arith, same .0, small .0, small .1))
 
 returns-2 : tie.Need-returns-2
@@ -45,7 +46,7 @@ returns-2 c =
     let past = computed .before .before .before in
     let n = numbers (past .before) in
     let finite = both (n .before .sides-finite .ensures) (n .is-finite .ensures) in
-    through _ _ _ _ (past .before .rows .ensures ∙ ap (rowsIn _ _ _ _ _ _ _ _) finite) (past .if1 .left)
+    through _ _ _ _ (own-numbers _ _ _ _ _ (past .before .rows .ensures) finite) (past .if1 .left)
     (c .finished .ensures ∙ ap numberOf (computed .compute-barrier .ensures))
 
 pub compute-barrier-spec : {M : Type 1} → statement M

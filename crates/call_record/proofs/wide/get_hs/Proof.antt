@@ -5,7 +5,8 @@ use Rattle.cone.proofs.table.Settled.{refused, through}
 use Rattle.judges.proofs.Lengths.{same-1}
 use Rattle.call_record.specs.wide_rows.Rows.{dims}
 use Rattle.call_record.specs.wide.Entries.{getHsOf}
-use Rattle.call_record.proofs.wide_rows.Judging.{lengths-right, small-dims}
+use Rattle.call_record.proofs.wide_rows.Judging.{small-dims}
+use Rattle.call_record.proofs.Judging.{let-through}
 use borrow.Author.Needs.{needs}
 use Rattle.call_record.proofs.wide.get_hs.Statement.{statement}
 use Rattle.call_record.proofs.wide.get_hs.Tie as tie
@@ -24,16 +25,16 @@ returns c = refused _ _ _ _ (c .before .rows .ensures) (c .if1 .taken)
 get-hs-requires : tie.Need-get-hs-requires
 get-hs-requires c κs =
     let past = c .before .before in
-    small-dims _ _ _ _ _ _ _ _ _ (past .before .rows .ensures) (past .if1 .left)
+    small-dims (start (past .before) .args .t1 .cone) (let-through _ (past .before .rows .ensures) (past .if1 .left) .cone)
 
 publish-wide-requires : tie.Need-publish-wide-requires
 publish-wide-requires c κs =
     let past = c .before .before .before .before .before in
     let judged = past .before in
     let a = start judged .args in
-    let small = small-dims _ _ _ _ _ _ _ _ _ (judged .rows .ensures) (past .if1 .left) in
-    let right = lengths-right _ _ _ _ _ _ _ _ _ (judged .rows .ensures) (past .if1 .left) in
-    omega (arith, same-1 (dims (a .t1)) (length (a .block .now)) right, small .0, small .1)
+    let right = let-through _ (judged .rows .ensures) (past .if1 .left) in
+    let small = small-dims (a .t1 .cone) (right .cone) in
+    omega (arith, same-1 (dims (a .t1)) (length (a .block .now)) (right .length), small .0, small .1)
 
 returns-2 : tie.Need-returns-2
 unfolding getHsOf

@@ -1,14 +1,15 @@
 -- A call that its rows refuse leaves with their number, one that they let through publishes the product. Assumes nothing.
-use mathlib.Core.Path.{_≡_, _∙_, ap}
+use mathlib.Core.Path.{_≡_}
 use Prim.Native.Nat.{_≤_}
 use native.Mathlib.Omega.{arith}
 use lib.ListN.{length}
 use Rattle.cone.proofs.table.Settled.{refused, through}
 use Rattle.judges.proofs.Lengths.{same-2}
 use Rattle.genpowcone.specs.Rank3 as genRank3
-use Rattle.call_record.specs.wide_rows.Rows.{dims, rowsIn}
+use Rattle.call_record.specs.wide_rows.Rows.{dims}
 use Rattle.call_record.specs.wide.Entries.{mulHsOf}
-use Rattle.call_record.proofs.wide_rows.Judging.{lengths-right, small-dims}
+use Rattle.call_record.proofs.wide_rows.Judging.{small-dims}
+use Rattle.call_record.proofs.Judging.{let-through, own-numbers}
 use borrow.Author.Needs.{needs}
 use Rattle.call_record.proofs.wide.mul_hs.Statement.{statement}
 use Rattle.call_record.proofs.wide.mul_hs.Tie as tie
@@ -29,19 +30,19 @@ abbrev lent : tie.After-mul-hs-arg4 → tie.Else1
 lent c = c .before .before .before .before .before
 
 small : (c : tie.Else1) → (let r = start (c .before) .args .t1 in (r .cone .dim1 ≤ 32) × (r .cone .dim2 ≤ 32))
-small c = small-dims _ _ _ _ _ _ _ _ _ (c .before .rows .ensures) (c .if1 .left)
+small c = small-dims (start (c .before) .args .t1 .cone) (let-through _ (c .before .rows .ensures) (c .if1 .left) .cone)
 
 sized : (c : tie.Else1) → (let a = start (c .before) .args in (length (a .y .now) ≡ dims (a .t1)) × (length (a .x .now) ≡ dims (a .t1)))
 sized c =
     let a = start (c .before) .args in
-    let right = lengths-right _ _ _ _ _ _ _ _ _ (c .before .rows .ensures) (c .if1 .left) in
+    let right = let-through _ (c .before .rows .ensures) (c .if1 .left) .length in
     same-2 (dims (a .t1)) (length (a .y .now)) (length (a .x .now)) right
 
 returns : tie.Need-returns
 unfolding mulHsOf
 returns c =
     let judged = c .before in
-    refused _ _ _ _ (judged .rows .ensures ∙ ap (rowsIn _ _ _ _ _ _ _ _) (numbers judged .all-finite .ensures)) (c .if1 .taken)
+    refused _ _ _ _ (own-numbers _ _ _ _ _ (judged .rows .ensures) (numbers judged .all-finite .ensures)) (c .if1 .taken)
 
 mul-hs-requires : tie.Need-mul-hs-requires
 mul-hs-requires c κs =
@@ -60,7 +61,7 @@ returns-2 c =
     let computed = published .before .before .before in
     let past = lent (computed .before) in
     let judged = past .before in
-    through _ _ _ _ (judged .rows .ensures ∙ ap (rowsIn _ _ _ _ _ _ _ _) (numbers judged .all-finite .ensures)) (past .if1 .left)
+    through _ _ _ _ (own-numbers _ _ _ _ _ (judged .rows .ensures) (numbers judged .all-finite .ensures)) (past .if1 .left)
     (simp (← computed .mul-hs .ensures) (published .publish-wide .ensures))
 
 pub mul-hs-spec : {M : Type 1} → statement M

@@ -5,9 +5,10 @@ use lib.ListN.{length}
 use Rattle.judges.specs.Refusals.{numberOf}
 use Rattle.cone.proofs.table.Settled.{refused, through}
 use Rattle.judges.proofs.Lengths.{same-1}
-use Rattle.call_record.specs.wide_rows.Rows.{dims, rowsIn}
+use Rattle.call_record.specs.wide_rows.Rows.{dims}
 use Rattle.call_record.specs.wide_primal.Entries.{barrierPrimalOf}
-use Rattle.call_record.proofs.wide_rows.Judging.{lengths-right, small-dims}
+use Rattle.call_record.proofs.wide_rows.Judging.{small-dims}
+use Rattle.call_record.proofs.Judging.{let-through, own-numbers}
 use borrow.Author.Needs.{needs}
 use Rattle.call_record.proofs.wide_primal.barrier_primal.Statement.{statement}
 use Rattle.call_record.proofs.wide_primal.barrier_primal.Tie as tie
@@ -27,16 +28,16 @@ returns : tie.Need-returns
 unfolding barrierPrimalOf
 returns c =
     let judged = c .before in
-    refused _ _ _ _ (judged .rows .ensures ∙ ap (rowsIn _ _ _ _ _ _ _ _) (numbers judged .all-finite .ensures)) (c .if1 .taken)
+    refused _ _ _ _ (own-numbers _ _ _ _ _ (judged .rows .ensures) (numbers judged .all-finite .ensures)) (c .if1 .taken)
 
 barrier-primal-requires : tie.Need-barrier-primal-requires
 barrier-primal-requires c κs =
     let past = c .before .before in
     let judged = past .before in
     let a = start judged .args in
-    let small = small-dims _ _ _ _ _ _ _ _ _ (judged .rows .ensures) (past .if1 .left) in
-    let right = lengths-right _ _ _ _ _ _ _ _ _ (judged .rows .ensures) (past .if1 .left) in
-    omega (arith, same-1 (dims (a .t1)) (length (a .s .now)) right, small .0, small .1)
+    let right = let-through _ (judged .rows .ensures) (past .if1 .left) in
+    let small = small-dims (a .t1 .cone) (right .cone) in
+    omega (arith, same-1 (dims (a .t1)) (length (a .s .now)) (right .length), small .0, small .1)
 
 returns-2 : tie.Need-returns-2
 unfolding barrierPrimalOf
@@ -44,7 +45,7 @@ returns-2 c =
     let computed = c .before in
     let past = computed .before .before .before in
     let judged = past .before in
-    through _ _ _ _ (judged .rows .ensures ∙ ap (rowsIn _ _ _ _ _ _ _ _) (numbers judged .all-finite .ensures)) (past .if1 .left)
+    through _ _ _ _ (own-numbers _ _ _ _ _ (judged .rows .ensures) (numbers judged .all-finite .ensures)) (past .if1 .left)
     (c .finished .ensures ∙ ap numberOf (computed .barrier-primal .ensures))
 
 pub barrier-primal-spec : {M : Type 1} → statement M

@@ -1,5 +1,4 @@
 -- A call that its rows refuse leaves with their number, one that they let through publishes the gradient with its count. Assumes nothing.
-use mathlib.Core.Path.{_∙_, ap}
 use Prim.Native.Nat.{_≤_}
 use native.Mathlib.Omega.{arith}
 use lib.ListN.{length, take}
@@ -7,9 +6,10 @@ use Rattle.judges.specs.Refusals.{publishOf}
 use Rattle.cone.proofs.table.Settled.{refused, through}
 use Rattle.judges.proofs.Outcomes.{with-count}
 use Rattle.judges.proofs.Lengths.{same-2}
-use Rattle.call_record.specs.wide_rows.Rows.{dims, rowsIn}
+use Rattle.call_record.specs.wide_rows.Rows.{dims}
 use Rattle.call_record.specs.wide_primal.Entries.{gradientPrimalOf}
-use Rattle.call_record.proofs.wide_rows.Judging.{lengths-right, small-dims}
+use Rattle.call_record.proofs.wide_rows.Judging.{small-dims}
+use Rattle.call_record.proofs.Judging.{let-through, own-numbers}
 use borrow.Author.Needs.{needs}
 use Rattle.call_record.proofs.wide_primal.gradient_primal.Statement.{statement}
 use Rattle.call_record.proofs.wide_primal.gradient_primal.Tie as tie
@@ -29,16 +29,16 @@ start c = numbers c .before .before .before
 both-fit : (c : tie.Else1) → (let a = start (c .before) .args in (length (a .g .now) ≤ 64) × (length (a .s .now) ≤ 64))
 both-fit c =
     let a = start (c .before) .args in
-    let small = small-dims _ _ _ _ _ _ _ _ _ (c .before .rows .ensures) (c .if1 .left) in
-    let right = lengths-right _ _ _ _ _ _ _ _ _ (c .before .rows .ensures) (c .if1 .left) in
-    let same = same-2 (dims (a .t1)) (length (a .g .now)) (length (a .s .now)) right in
+    let right = let-through _ (c .before .rows .ensures) (c .if1 .left) in
+    let small = small-dims (a .t1 .cone) (right .cone) in
+    let same = same-2 (dims (a .t1)) (length (a .g .now)) (length (a .s .now)) (right .length) in
     (omega (arith, same .0, small .0, small .1), omega (arith, same .1, small .0, small .1))
 
 returns : tie.Need-returns
 unfolding gradientPrimalOf
 returns c =
     let judged = c .before in
-    refused _ _ _ _ (judged .rows .ensures ∙ ap (rowsIn _ _ _ _ _ _ _ _) (numbers judged .all-finite .ensures)) (c .if1 .taken)
+    refused _ _ _ _ (own-numbers _ _ _ _ _ (judged .rows .ensures) (numbers judged .all-finite .ensures)) (c .if1 .taken)
 
 gradient-primal-requires : tie.Need-gradient-primal-requires
 gradient-primal-requires c κs = both-fit (c .before .before) .1
@@ -57,7 +57,7 @@ returns-2 c =
     let judged = past .before in
     let old = start judged .args .g .now in
     let a = computed .gradient-primal .result in
-    through _ _ _ _ (judged .rows .ensures ∙ ap (rowsIn _ _ _ _ _ _ _ _) (numbers judged .all-finite .ensures)) (past .if1 .left)
+    through _ _ _ _ (own-numbers _ _ _ _ _ (judged .rows .ensures) (numbers judged .all-finite .ensures)) (past .if1 .left)
     (simp (← computed .gradient-primal .ensures)
     (with-count (publishOf old (take (length old) (a .g))) (a .rounds) (published .publish-wide .ensures) (c .counted .ensures)))
 

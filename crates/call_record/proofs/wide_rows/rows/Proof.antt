@@ -1,11 +1,9 @@
 -- `rows` asks the table of its definition. Assumes nothing.
-use Rattle.call_record.specs.wide_rows.Rows.{rowsIn}
 use borrow.Author.Needs.{needs}
 use Rattle.call_record.proofs.wide_rows.rows.Statement.{statement}
 use Rattle.call_record.proofs.wide_rows.rows.Tie as tie
 
 returns : tie.Need-returns
-unfolding rowsIn
 returns c =
     let wide-ok = c .before .before in
     let tolerance = wide-ok .before in
@@ -15,6 +13,7 @@ returns c =
       wide-ok .wide-ok .ensures,
       tolerance .tolerance-of .ensures,
       tolerance .before .before .rule-ok .ensures,
+      tolerance .before .before .before .no-faults .ensures,
     )
 
 pub rows-spec : {M : Type 1} → statement M
@@ -22,4 +21,5 @@ rows-spec =
     tie.close
     (tie.spec
     (λ c κs. search needs) (λ c κs. search needs) (λ c κs. search needs) (λ c κs. search needs) (λ c κs. search needs)
+    (λ c κs. search needs)
     returns)

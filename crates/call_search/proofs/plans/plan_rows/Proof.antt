@@ -20,7 +20,8 @@ returns-2 c =
     let settings-read = settings-judged .before in
     let second-read = settings-read .before in
     let first-read = second-read .before in
-    let added = first-read .before in
+    let none = first-read .before in
+    let added = none .before in
     let good = added .before in
     let good-plan = sym (good .before .plan-ok .ensures) ∙ not-false _ (good .if1 .left) in
     simp (
@@ -29,6 +30,7 @@ returns-2 c =
       settings-read .settings-finite .ensures,
       second-read .all-finite2 .ensures,
       first-read .all-finite .ensures,
+      none .no-faults .ensures,
       added .total .ensures,
       good-plan,
     )
@@ -40,5 +42,5 @@ plan-rows-spec =
     (λ c κs. search needs)
     returns
     total-requires
-    (λ c κs. search needs) (λ c κs. search needs) (λ c κs. search needs) (λ c κs. search needs) (λ c κs. search needs)
+    (λ c κs. search needs) (λ c κs. search needs) (λ c κs. search needs) (λ c κs. search needs) (λ c κs. search needs) (λ c κs. search needs)
     returns-2)

@@ -15,7 +15,8 @@ returns c =
     let settings-judged = c .before in
     let settings-read = settings-judged .before in
     let sides-read = settings-read .before in
-    let added = sides-read .before in
+    let none = sides-read .before in
+    let added = none .before in
     let good = added .before in
     let good-plan = sym (good .before .plan-ok .ensures) ∙ good .if1 .taken in
     simp (
@@ -23,6 +24,7 @@ returns c =
       settings-judged .settings-ok .ensures,
       settings-read .settings-finite .ensures,
       sides-read .sides-finite .ensures,
+      none .no-faults .ensures,
       added .total .ensures,
       good-plan,
     )
@@ -36,6 +38,6 @@ sides-rows-spec =
     (tie.spec
     (λ c κs. search needs)
     total-requires
-    (λ c κs. search needs) (λ c κs. search needs) (λ c κs. search needs) (λ c κs. search needs)
+    (λ c κs. search needs) (λ c κs. search needs) (λ c κs. search needs) (λ c κs. search needs) (λ c κs. search needs)
     returns
     returns-2)

@@ -12,7 +12,7 @@ returns c =
     let second-read = settings-read .before in
     let first-read = second-read .before in
     let cone-judged = first-read .before in
-    let counted = cone-judged .before in
+    let none = cone-judged .before in
     simp (
       c .first-row .ensures,
       settings-judged .settings-ok .ensures,
@@ -20,7 +20,8 @@ returns c =
       second-read .all-finite2 .ensures,
       first-read .all-finite .ensures,
       cone-judged .cone-ok .ensures,
-      counted .numel .ensures,
+      none .no-faults .ensures,
+      none .before .numel .ensures,
     )
 
 pub search-rows-spec : {M : Type 1} → statement M
@@ -28,5 +29,5 @@ search-rows-spec =
     tie.close
     (tie.spec
     (λ c κs. search needs) (λ c κs. search needs) (λ c κs. search needs) (λ c κs. search needs) (λ c κs. search needs)
-    (λ c κs. search needs) (λ c κs. search needs)
+    (λ c κs. search needs) (λ c κs. search needs) (λ c κs. search needs)
     returns)

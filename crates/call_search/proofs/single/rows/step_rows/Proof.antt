@@ -11,14 +11,15 @@ returns c =
     let settings-read = settings-judged .before in
     let sides-read = settings-read .before in
     let cone-judged = sides-read .before in
-    let counted = cone-judged .before in
+    let none = cone-judged .before in
     simp (
       c .first-row .ensures,
       settings-judged .settings-ok .ensures,
       settings-read .settings-finite .ensures,
       sides-read .sides-finite .ensures,
       cone-judged .cone-ok .ensures,
-      counted .numel .ensures,
+      none .no-faults .ensures,
+      none .before .numel .ensures,
     )
 
 pub step-rows-spec : {M : Type 1} → statement M
@@ -26,5 +27,5 @@ step-rows-spec =
     tie.close
     (tie.spec
     (λ c κs. search needs) (λ c κs. search needs) (λ c κs. search needs) (λ c κs. search needs) (λ c κs. search needs)
-    (λ c κs. search needs)
+    (λ c κs. search needs) (λ c κs. search needs)
     returns)

@@ -1,0 +1,2 @@
+-- What every call over a record has that its rows let through.
+pub mod Judging

@@ -20,6 +20,7 @@ use cone::Number;
 use cone::Updated;
 use cone::YesNo;
 use cone::empty_cone;
+use cone::is_wide;
 use cone::no_three;
 use cone::no_wide;
 use equilibration::rectified;
@@ -100,7 +101,7 @@ pub fn unit_initialization(cone: Cone, z: &mut [f64], s: &mut [f64]) -> u32
         return code;
     }
     let kind = cone.kind;
-    if kind == 3 {
+    if is_wide(kind) {
         let point = wide::unit_initialization(&cone.exps, cone.dim1 as usize);
         let start = head(&point, z.len());
         return publish_two(z, s, start, start);

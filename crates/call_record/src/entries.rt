@@ -7,6 +7,7 @@ ghost use Rattle.call_record.specs.entries.Entries.{higherCorrectionOf, 
 use cone::Number;
 use cone::Rounds;
 use cone::Scaling;
+use cone::is_wide;
 
 // ---- the primal side
 
@@ -15,7 +16,7 @@ pub fn gradient_primal(scaling: Scaling, g: &mut [f64], s: &[f64]) -> Rounds
     ensures { λ r. ⌜ record { answer = r; slice = now (g .exit) } ≡ gradientPrimalOf scaling (now (g .entry)) (now (s .entry)) ⌝ }
 {
     let kind = scaling.cone.kind;
-    if kind == 3 {
+    if is_wide(kind) {
         return crate::wide_primal::gradient_primal(scaling, g, s);
     }
     let exps = scaling.cone.exps;
@@ -27,7 +28,7 @@ pub fn barrier_primal(scaling: Scaling, s: &[f64]) -> Number
     ensures { λ r. ⌜ r ≡ barrierPrimalOf scaling (now (s .entry)) ⌝ }
 {
     let kind = scaling.cone.kind;
-    if kind == 3 {
+    if is_wide(kind) {
         return crate::wide_primal::barrier_primal(scaling, s);
     }
     let exps = scaling.cone.exps;
@@ -46,7 +47,7 @@ pub fn compute_barrier(
     ensures { λ r. ⌜ r ≡ computeBarrierOf scaling (now (z .entry)) (now (s .entry)) (now (dz .entry)) (now (ds .entry)) alpha ⌝ }
 {
     let kind = scaling.cone.kind;
-    if kind == 3 {
+    if is_wide(kind) {
         return crate::wide::compute_barrier(scaling, z, s, dz, ds, alpha);
     }
     let exps = scaling.cone.exps;
@@ -60,7 +61,7 @@ pub fn get_hs(scaling: Scaling, serial: u32, block: &mut [f64]) -> u32
     ensures { λ r. ⌜ record { answer = r; slice = now (block .exit) } ≡ getHsOf scaling serial (now (block .entry)) ⌝ }
 {
     let kind = scaling.cone.kind;
-    if kind == 3 {
+    if is_wide(kind) {
         return crate::wide::get_hs(scaling, serial, block);
     }
     let exps = scaling.cone.exps;
@@ -80,7 +81,7 @@ pub fn mul_hs(scaling: Scaling, serial: u32, y: &mut [f64], x: &[f64]) -> u32
     ensures { λ r. ⌜ record { answer = r; slice = now (y .exit) } ≡ mulHsOf scaling serial (now (y .entry)) (now (x .entry)) ⌝ }
 {
     let kind = scaling.cone.kind;
-    if kind == 3 {
+    if is_wide(kind) {
         return crate::wide::mul_hs(scaling, serial, y, x);
     }
     let exps = scaling.cone.exps;

@@ -8,7 +8,7 @@ use lib.Ieee.{Float}
 use lib.Ieee.Scale.{finite}
 use Rattle.double.specs.Operators.{_≺_, _≼_}
 use Rattle.double.specs.Numbers.{#0, #largestStep, #smallestNormal}
-use Rattle.cone.specs.Codes.{dual, primalDual}
+use Rattle.cone.specs.Codes.{isWide, dual, primalDual}
 use Rattle.cone.specs.declared.Settings.{Settings}
 use Rattle.cone.specs.declared.Three.{Three}
 use Rattle.cone.specs.declared.Wide.{Wide}
@@ -44,7 +44,7 @@ wideFinite w n₁ n₂ =
 
 -- 01: "a passed record's numbers under 3 included"; "Places that a kind does not use are neither read nor judged"
 unfoldable pub recordFinite : Scaling → Bool
-recordFinite s = cond (eqb (s .cone .kind) 3) (wideFinite (s .wide) (s .cone .dim1) (s .cone .dim2)) (threeFinite (s .three))
+recordFinite s = cond (isWide (s .cone .kind)) (wideFinite (s .wide) (s .cone .dim1) (s .cone .dim2)) (threeFinite (s .three))
 
 -- ---- number 4
 

@@ -7,6 +7,7 @@ use lib.Ieee.{Float}
 use lib.Ieee.Scale.{finite}
 use lib.ListN.{length}
 use Rattle.double.specs.Numbers.{#0}
+use Rattle.cone.specs.Codes.{isWide}
 use Rattle.cone.specs.declared.Cone.{Cone}
 use Rattle.cone.specs.declared.Settings.{Settings}
 use Rattle.cone.specs.declared.Scaling.{Scaling}
@@ -24,7 +25,7 @@ badCone c = not (coneOk c)
 
 -- 1: "or is 3 in a correction or combined shift"
 abbrev pub badCone3D : Cone → Bool
-badCone3D c = not (coneOk c) || eqb (c .kind) 3
+badCone3D c = not (coneOk c) || isWide (c .kind)
 
 -- 2: "a lent slice has another length than needed (3, 6 for a packed block, or dim1+dim2)"
 abbrev pub otherLength : ℕ → List Float → Bool

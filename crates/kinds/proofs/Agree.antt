@@ -1,6 +1,7 @@
 -- 01: "For each, show that any two outcomes allowed by it agree". Every contract here is one equation. Assumes nothing.
 use mathlib.Core.Path.{_∙_, sym}
 use Rattle.arith.specs.Outcomes.{OneAnswer}
+use Rattle.kinds.proofs.used.Reads as used
 use Rattle.kinds.proofs.answer.Reads as answer
 use Rattle.kinds.proofs.passes.Reads as passes
 use Rattle.kinds.proofs.barrier_dual.Reads as barrier-dual
@@ -17,6 +18,9 @@ use Rattle.kinds.proofs.wide.gradient_primal.Reads as wide-gradient-pri
 use Rattle.kinds.proofs.wide.barrier_primal.Reads as wide-barrier-primal
 use Rattle.kinds.proofs.wide.compute_barrier.Reads as wide-compute-barrier
 use Rattle.kinds.proofs.wide.get_hs.Reads as wide-get-hs
+
+pub used-agrees : OneAnswer used.Post
+used-agrees κs a x y s t p q = p ∙ sym q
 
 pub answer-agrees : OneAnswer answer.Post
 answer-agrees κs a x y s t p q = p ∙ sym q

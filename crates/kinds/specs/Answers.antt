@@ -2,13 +2,14 @@
 use Prim.Native.Nat.{ℕ}
 use mathlib.Core.Bool.{Bool, cond}
 use mathlib.Core.List.{List}
+use lib.Dec.{eqb, ltb}
 use lib.ListN.{take}
 use lib.Ieee.{Float}
 use Rattle.double.specs.Operators.{at}
 use Rattle.cone.specs.declared.verdict.Answer.{Answer}
 use Rattle.cone.specs.declared.verdict.Answer.the-variants.{No}
 use Rattle.cone.specs.declared.Cone.{Cone}
-use Rattle.cone.specs.Codes.{byKind}
+use Rattle.cone.specs.Codes.{isWide, byKind}
 use Rattle.cone.specs.Points.{threeOf}
 use Rattle.expcone.specs.feasible.Feasible as expcone
 use Rattle.powcone.specs.Feasible as powcone
@@ -30,6 +31,10 @@ genpowAnswer α primal p = cond primal (genpowcone.primalFeasible α p) (genpowc
 unfoldable pub answerIn : ℕ → ℕ → List Float → Bool → List Float → Answer
 answerIn kind dim1 exps primal p =
     byKind kind (expAnswer primal (threeOf p)) (powAnswer (at exps 0) primal (threeOf p)) (genpowAnswer (take dim1 exps) primal p) No
+
+-- how many exponent places the test of a kind reads: 32 are all that there are
+unfoldable pub usedOf : ℕ → ℕ → ℕ
+usedOf kind dim1 = cond (eqb kind 2) 1 (cond (isWide kind) (cond (ltb dim1 32) dim1 32) 0)
 
 abbrev pub answerOf : Cone → Bool → List Float → Answer
 answerOf c primal p = answerIn (c .kind) (c .dim1) (c .exps) primal p

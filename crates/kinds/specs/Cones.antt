@@ -1,7 +1,6 @@
 -- The formulas that a cone of any kind has, chosen by kind. Definitions only; each has the name of the Rust function.
 use mathlib.Core.Bool.{cond, false}
 use mathlib.Core.List.{List}
-use lib.Dec.{eqb}
 use lib.Ieee.{Float}
 use lib.ListN.{take}
 use Rattle.double.specs.Operators.{at}
@@ -9,7 +8,7 @@ use Rattle.double.specs.Numbers.{#0}
 use Rattle.cone.specs.declared.Cone.{Cone}
 use Rattle.cone.specs.declared.Attempt.{Attempt}
 use Rattle.cone.specs.Fresh.{noThree, noWide, attemptOf}
-use Rattle.cone.specs.Codes.{byKind}
+use Rattle.cone.specs.Codes.{isWide, byKind}
 use Rattle.cone.specs.Points.{threeOf}
 use Rattle.expcone.specs.Barriers as expBarriers
 use Rattle.powcone.specs.Barriers as powBarriers
@@ -37,6 +36,6 @@ barrierDualOf c z =
 unfoldable pub dualGradHOf : Cone → List Float → Attempt
 dualGradHOf c z =
     let gen = genDual.updateDualGradHOf (alphasOf c) z in
-    cond (eqb (c .kind) 3)
+    cond (isWide (c .kind))
     (attemptOf c (gen .panics) noThree (gen .wide))
     (attemptOf c false (three.updateDualGradHOf (c .kind) (alphaOf c) (threeOf z)) noWide)

@@ -2,7 +2,7 @@
 // through kinds 1, 2 and 3 alone.
 ghost use mathlib.Core.Path.{_≡_};
 ghost use Rattle.cone.specs.Calls.{WideCall};
-ghost use Rattle.kinds.specs.Answers.{expAnswer, powAnswer, genpowAnswer, answerIn};
+ghost use Rattle.kinds.specs.Answers.{expAnswer, powAnswer, genpowAnswer, usedOf, answerIn};
 ghost use Rattle.kinds.specs.Passes.{passesIn};
 ghost use Rattle.kinds.specs.Cones.{barrierDualOf, dualGradHOf};
 use algebra::vector::head;
@@ -48,6 +48,22 @@ fn genpow_answer(alpha: &[f64], primal: bool, p: &[f64]) -> Answer
     } else {
         genpowcone::is_dual_feasible(alpha, p)
     }
+}
+
+// How many exponent places a test of the kind reads.
+pub fn used(kind: u32, dim1: u32) -> usize
+    ensures { λ r. ⌜ r ≡ usedOf kind dim1 ⌝ }
+{
+    if kind == 2 {
+        return 1;
+    }
+    if kind == 3 {
+        if dim1 < 32 {
+            return dim1 as usize;
+        }
+        return 32;
+    }
+    0
 }
 
 // Whether the point lies in the cone, or in its dual. The cone comes in parts, so that a search copies none for a test.

@@ -3,7 +3,7 @@ use Prim.Native.Nat.{ℕ, zero, suc, _+_, _≤_}
 use mathlib.Core.Path.{_≡_}
 use mathlib.Core.Bool.{Bool, true, false, cond, _&&_}
 use mathlib.Core.List.{List, [], _∷_}
-use lib.Dec.{eqb, leb, ltb}
+use lib.Dec.{leb}
 use lib.ListN.{length, take, drop}
 use lib.Ieee.{Float}
 use Rattle.cone.specs.declared.Cone.{Cone}
@@ -40,10 +40,6 @@ planOk cs = leb 1 (length cs) && leb (length cs) mostCones && allConesOk cs
 -- the test of one cone that a search makes
 abbrev pub conePasses : Cone → Bool → List Float → Bool
 conePasses c primal p = passesIn (c .kind) (c .dim1) (c .exps) primal p
-
--- how many exponent places it reads: 32 are all that there are
-unfoldable pub usedOf : ℕ → ℕ → ℕ
-usedOf kind dim1 = cond (eqb kind 2) 1 (cond (eqb kind 3) (cond (ltb dim1 32) dim1 32) 0)
 
 -- 02, Order 10: "at which every cone's point passes". The first numelOf places are the first cone's
 unfoldable pub allPass : List Cone → Bool → List Float → Bool

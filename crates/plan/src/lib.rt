@@ -8,7 +8,7 @@ ghost use lib.ListN.{length};
 ghost use Rattle.cone.specs.words.Words.{coneOfWords, conesOf};
 ghost use Rattle.search.specs.trials.Search.{outcome};
 ghost use Rattle.search.specs.trials.Costed.{costedOf};
-ghost use Rattle.plan.specs.Plans.{usedOf, conePasses, totalOf, planOk, testedOf, planOf, Plannable};
+ghost use Rattle.plan.specs.Plans.{conePasses, totalOf, planOk, testedOf, planOf, Plannable};
 ghost use Rattle.plan.specs.Sides.{OnSide, trialTested, sidesOf, inSides};
 use algebra::vector::head;
 use algebra::vector::tail;
@@ -21,6 +21,7 @@ use cone::words::places;
 use judges::cone_ok;
 use judges::refusal::store;
 use kinds::passes;
+use kinds::used;
 use search::Searched;
 use search::put_trial;
 
@@ -55,22 +56,6 @@ pub fn total(cones: &[[u64; 34]]) -> usize
         t += numel_of(cones[i]);
     }
     t
-}
-
-// How many exponent places a test of the kind reads.
-fn used(kind: u32, dim1: u32) -> usize
-    ensures { λ r. ⌜ r ≡ usedOf kind dim1 ⌝ }
-{
-    if kind == 2 {
-        return 1;
-    }
-    if kind == 3 {
-        if dim1 < 32 {
-            return dim1 as usize;
-        }
-        return 32;
-    }
-    0
 }
 
 // Whether the cone in these words passes on its part of a point. Exponent places that its kind does not use are not even read: they are

@@ -2,8 +2,8 @@
 use Prim.Native.Nat.{ℕ}
 use mathlib.Core.Bool.{cond}
 use mathlib.Core.List.{List}
-use lib.Dec.{eqb}
 use lib.Ieee.{Float}
+use Rattle.cone.specs.Codes.{isWide}
 use Rattle.cone.specs.declared.Cone.{Cone}
 use Rattle.cone.specs.declared.Wide.{Wide}
 use Rattle.cone.specs.declared.Attempt.{Attempt}
@@ -31,4 +31,4 @@ newWide c z μ =
     attemptOf c (dual .panics) noThree (wideAt (dual .wide) (wideOf z) μ)
 
 unfoldable pub newRecordOf : Cone → List Float → List Float → Float → ℕ → Attempt
-newRecordOf c s z μ strategy = cond (eqb (c .kind) 3) (newWide c z μ) (newThree c (threeOf s) (threeOf z) μ strategy)
+newRecordOf c s z μ strategy = cond (isWide (c .kind)) (newWide c z μ) (newThree c (threeOf s) (threeOf z) μ strategy)

@@ -12,6 +12,7 @@ use cone::Cone;
 use cone::Three;
 use cone::Wide;
 use cone::attempted;
+use cone::is_wide;
 use cone::no_three;
 use cone::no_wide;
 use cone::three_of;
@@ -59,7 +60,7 @@ pub fn new_record(cone: Cone, s: &[f64], z: &[f64], mu: f64, strategy: u32) -> A
     ensures { λ r. ⌜ r ≡ newRecordOf cone (now (s .entry)) (now (z .entry)) mu strategy ⌝ }
 {
     let kind = cone.kind;
-    if kind == 3 {
+    if is_wide(kind) {
         return new_wide(cone, z, mu);
     }
     new_three(cone, three_of(s), three_of(z), mu, strategy)

@@ -3,13 +3,14 @@
 // records already"
 ghost use mathlib.Core.Path.{_≡_};
 ghost use mathlib.Core.Bool.{cond};
-ghost use lib.Dec.{eqb};
+ghost use Rattle.cone.specs.Codes.{isWide};
 ghost use Rattle.trace.specs.places.Given.{entryOf};
 ghost use Rattle.trace.specs.places.Places.{openFront, entryOk, placeFor, hasRoom};
 use crate::judge::MOST_COUNT;
 use cone::Cone;
 use cone::Settings;
 use cone::Steps;
+use cone::is_wide;
 use cone::table::trace_row;
 use double::to_bits;
 use octets::words::front;
@@ -21,9 +22,9 @@ use trace_layout::pieces::layout::step_ok;
 
 // A dim that is written: the cone's own for kind 3.
 fn dim(kind: u32, own: u32, other: u32) -> u32
-    ensures { λ r. ⌜ r ≡ cond (eqb kind 3) own other ⌝ }
+    ensures { λ r. ⌜ r ≡ cond (isWide kind) own other ⌝ }
 {
-    if kind == 3 { own } else { other }
+    if is_wide(kind) { own } else { other }
 }
 
 // The numbers of a record beside its vectors; of a double, its bits.

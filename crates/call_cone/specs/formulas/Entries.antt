@@ -5,6 +5,7 @@ use mathlib.Core.List.{List}
 use lib.Dec.{eqb}
 use lib.Ieee.{Float}
 use lib.ListN.{length, take}
+use Rattle.cone.specs.Codes.{isWide}
 use Rattle.cone.specs.declared.Cone.{Cone}
 use Rattle.cone.specs.declared.Updated.{Updated}
 use Rattle.cone.specs.declared.YesNo.{YesNo}
@@ -61,7 +62,7 @@ unitInitializationOf c z s =
     let generalized = take (length z) (wide.unitInitializationOf (c .exps) (c .dim1)) in
     let unit = three.unitInitializationOf (c .kind) (alphaOf c) in
     settle (unitRows c (length z) (length s))
-    (cond (eqb (c .kind) 3) (publishTwoOf z s generalized generalized) (publishTwoOf z s unit unit))
+    (cond (isWide (c .kind)) (publishTwoOf z s generalized generalized) (publishTwoOf z s unit unit))
     (refuseTwo z s)
 
 -- 000, 001, 002 rectify_equilibration. It says yes, always: where the port refuses, it says no

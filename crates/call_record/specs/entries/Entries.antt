@@ -2,11 +2,11 @@
 use Prim.Native.Nat.{ℕ}
 use mathlib.Core.Bool.{cond, _&&_}
 use mathlib.Core.List.{List}
-use lib.Dec.{eqb}
 use lib.Ieee.{Float}
 use lib.Ieee.Scale.{finite}
 use lib.ListN.{length, take}
 use Rattle.algebra.specs.Packed.{mulOf}
+use Rattle.cone.specs.Codes.{isWide}
 use Rattle.cone.specs.declared.Scaling.{Scaling}
 use Rattle.cone.specs.declared.Number.{Number}
 use Rattle.cone.specs.declared.Rounds.{Rounds}
@@ -31,14 +31,14 @@ gradientPrimalOf r g s =
     let w = wide.gradientPrimalOf (c .exps) (c .dim1) s in
     let t = three.gradientPrimalOf (c .kind) (alphaOf c) (threeOf s) in
     settle (gradientRows r (length g) s)
-    (cond (eqb (c .kind) 3) (withRounds (w .rounds) (publishOf g (take (length g) (w .g)))) (published g t))
+    (cond (isWide (c .kind)) (withRounds (w .rounds) (publishOf g (take (length g) (w .g)))) (published g t))
     (refuseRounds g)
 
 -- 000, 001, 002 barrier_primal
 unfoldable pub primalBarrierOf : Scaling → List Float → Valued
 primalBarrierOf r s =
     let c = r .cone in
-    cond (eqb (c .kind) 3)
+    cond (isWide (c .kind))
     (three.safe (wide.barrierPrimalOf (c .exps) (c .dim1) s))
     (three.barrierPrimalOf (c .kind) (alphaOf c) (threeOf s))
 
@@ -49,7 +49,7 @@ barrierPrimalOf r s = settle (barrierRows r s) (judged (primalBarrierOf r s)) re
 unfoldable pub combinedBarrierOf : Scaling → List Float → List Float → List Float → List Float → Float → Valued
 combinedBarrierOf r z s dz ds step =
     let c = r .cone in
-    cond (eqb (c .kind) 3)
+    cond (isWide (c .kind))
     (three.safe (wide.computeBarrierOf (c .exps) (c .dim1) z s dz ds step))
     (three.computeBarrierOf (c .kind) (alphaOf c) (threeOf z) (threeOf s) (threeOf dz) (threeOf ds) step)
 
@@ -63,7 +63,7 @@ unfoldable pub getHsOf : Scaling → ℕ → List Float → Lent ℕ
 getHsOf r serial block =
     let diagonal = wide.getHsOf (r .wide .mu) (r .wide .d1) (r .cone .dim1) (r .wide .d2) (r .cone .dim2) in
     settle (blockRows r serial (length block))
-    (cond (eqb (r .cone .kind) 3) (publishOf block (take (length block) diagonal)) (publishOf block (r .three .hs)))
+    (cond (isWide (r .cone .kind)) (publishOf block (take (length block) diagonal)) (publishOf block (r .three .hs)))
     (refuse block)
 
 -- 000, 001, 002 mul_Hs
@@ -71,7 +71,7 @@ unfoldable pub mulHsOf : Scaling → ℕ → List Float → List Float → Lent 
 mulHsOf r serial y x =
     let product = genRank3.mulHsOf (r .wide) (r .cone .dim1) x in
     settle (productRows r serial (length y) x)
-    (cond (eqb (r .cone .kind) 3) (publishOf y (take (length y) product)) (publishOf y (mulOf (r .three .hs) (threeOf x))))
+    (cond (isWide (r .cone .kind)) (publishOf y (take (length y) product)) (publishOf y (mulOf (r .three .hs) (threeOf x))))
     (refuse y)
 
 -- ---- kinds 1 and 2 alone

@@ -8,6 +8,7 @@ use lib.Ieee.{Float, neg}
 use Rattle.double.specs.Operators.{_⊖_, _≺_, _≼_, at}
 use Rattle.double.specs.Numbers.{#0, #1, #tolerance1, #tolerance2}
 use Rattle.algebra.specs.Vectors.{sumOf}
+use Rattle.cone.specs.Codes.{isWide}
 use Rattle.cone.specs.declared.Cone.{Cone}
 
 -- every element passes the test
@@ -56,7 +57,7 @@ threeOk kind α = cond (eqb kind 1) true (cond (eqb kind 2) (powerOk α) false)
 -- and of all, where this is the tolerance
 unfoldable pub coneOkWithin : Float → Cone → Bool
 coneOkWithin tolerance c =
-    cond (eqb (c .kind) 3) (wideOk (c .dim1) (c .dim2) (c .exps) tolerance) (threeOk (c .kind) (at (c .exps) 0))
+    cond (isWide (c .kind)) (wideOk (c .dim1) (c .dim2) (c .exps) tolerance) (threeOk (c .kind) (at (c .exps) 0))
 
 -- the rule is judged for every kind; its tolerance is kind 3's alone
 unfoldable pub coneOk : Cone → Bool

@@ -7,9 +7,10 @@ use native.Mathlib.Omega.{arith}
 use lib.Ieee.{Float}
 use borrow.Author.Needs.{needs}
 use Rattle.cone.specs.words.Words.{word, lowHalf, highHalf, placesOf, coneOfWords}
+use Rattle.kinds.specs.Answers.{usedOf}
 use Rattle.kinds.specs.Passes.{passesIn}
-use Rattle.plan.specs.Plans.{usedOf, conePasses}
-use Rattle.plan.proofs.UsedPlaces.{used-most, used-suffice}
+use Rattle.kinds.proofs.UsedPlaces.{used-most, used-suffice}
+use Rattle.plan.specs.Plans.{conePasses}
 use Rattle.plan.proofs.cone_passes.Statement.{statement}
 use Rattle.plan.proofs.cone_passes.Tie as tie
 

@@ -5,6 +5,7 @@ use mathlib.Core.List.{List}
 use lib.Dec.{eqb}
 use lib.Ieee.{Float, binary64, toBits}
 use lib.ListN.{length, take}
+use Rattle.cone.specs.Codes.{isWide}
 use Rattle.cone.specs.declared.Cone.{Cone}
 use Rattle.cone.specs.declared.Settings.{Settings}
 use Rattle.cone.specs.declared.Steps.{Steps}
@@ -14,10 +15,10 @@ use Rattle.trace_layout.specs.pieces.Entries.{recordOf}
 
 -- 02: "kind, dim1, dim2 (u32 each; 3 and 0 for kinds 1 and 2)", whatever the cone holds there
 abbrev pub dim1Of : Cone → ℕ
-dim1Of c = cond (eqb (c .kind) 3) (c .dim1) 3
+dim1Of c = cond (isWide (c .kind)) (c .dim1) 3
 
 abbrev pub dim2Of : Cone → ℕ
-dim2Of c = cond (eqb (c .kind) 3) (c .dim2) 0
+dim2Of c = cond (isWide (c .kind)) (c .dim2) 0
 
 -- The numbers beside the vectors
 unfoldable pub entryOf : Cone → ℕ → Settings → Steps → Entry

@@ -11,6 +11,7 @@ use Rattle.judges.specs.Refusals.{LentTwo, publishTwoOf, refuseTwo}
 use Rattle.kinds.specs.Cones.{alphaOf}
 use Rattle.kinds.specs.Three as three
 use Rattle.kinds.specs.Wide as wide
+use Rattle.cone.proofs.AskedKind.{wide-kind, other-kind}
 use Rattle.cone.proofs.table.Settled.{refused}
 use Rattle.judges.proofs.Lengths.{numel-at-most, numel-3D, cut}
 use Rattle.cone.proofs.table.Choices.{done-taken, done-left}
@@ -74,7 +75,7 @@ returns c = refused _ _ _ _ (c .before .unit-rows .ensures) (c .if1 .taken)
 publish-two-requires : tie.Need-publish-two-requires
 publish-two-requires c κs =
     let lent = c .before .before in
-    let let-through = by-kind-3 (made lent) .before in
+    let let-through = by-kind-3 (made lent) .before .before in
     let judged = let-through .before in
     both-cut _ _ _ _ (sym (judged .unit-rows .ensures) ∙ let-through .if1 .left) (search needs) (lent .head .ensures)
 
@@ -84,30 +85,32 @@ returns-2 c =
     let lent = published .before .before .before in
     let point = made lent in
     let kind-3 = by-kind-3 point in
-    let let-through = kind-3 .before in
+    let let-through = kind-3 .before .before in
     let judged = let-through .before in
     let a = start judged .args in
-    wide-answer _ (a .z .now) (a .s .now) _ (judged .unit-rows .ensures) (let-through .if1 .left) (kind-3 .if2 .taken)
+    wide-answer _ (a .z .now) (a .s .now) _ (judged .unit-rows .ensures) (let-through .if1 .left)
+    (wide-kind (kind-3 .before .is-wide .ensures) (kind-3 .if2 .taken))
     (published .publish-two .ensures) (lent .head .ensures) (point .unit-initialization .ensures)
 
 publish-two-requires-2 : tie.Need-publish-two-requires-2
 publish-two-requires-2 c κs =
     let point = three-made c in
     let other = by-kind point in
-    let let-through = other .before in
+    let let-through = other .before .before in
     let judged = let-through .before in
     both-three _ _ _ (point .unit-initialization2 .result) (sym (judged .unit-rows .ensures) ∙ let-through .if1 .left)
-    (other .if2 .left) (search needs)
+    (other-kind (other .before .is-wide .ensures) (other .if2 .left)) (search needs)
 
 returns-3 : tie.Need-returns-3
 returns-3 c =
     let published = c .before .before .before .before in
     let point = three-made (published .before) in
     let other = by-kind point in
-    let let-through = other .before in
+    let let-through = other .before .before in
     let judged = let-through .before in
     let a = start judged .args in
-    three-answer _ (a .z .now) (a .s .now) _ (judged .unit-rows .ensures) (let-through .if1 .left) (other .if2 .left)
+    three-answer _ (a .z .now) (a .s .now) _ (judged .unit-rows .ensures) (let-through .if1 .left)
+    (other-kind (other .before .is-wide .ensures) (other .if2 .left))
     (published .publish-two2 .ensures) (point .unit-initialization2 .ensures)
 
 pub unit-initialization-spec : {M : Type 1} → statement M
@@ -116,7 +119,7 @@ unit-initialization-spec =
     (tie.spec
     (λ c κs. search needs)
     returns
-    (λ c. search needs) (λ c κs. search needs) (λ c. search needs) (λ c κs. search needs)
+    (λ c κs. search needs) (λ c. search needs) (λ c κs. search needs) (λ c. search needs) (λ c κs. search needs)
     publish-two-requires
     (λ c. search needs) (λ c. search needs)
     returns-2

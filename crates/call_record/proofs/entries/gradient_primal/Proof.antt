@@ -1,5 +1,6 @@
 -- By kind, the entry is `wide_primal`'s or `three`'s of its name. Assumes nothing.
 use mathlib.Core.Path.{_∙_}
+use Rattle.cone.proofs.AskedKind.{wide-kind, other-kind}
 use Rattle.call_record.proofs.entries.ByKind.{gradient-primal-3D, gradient-primal-wide}
 use borrow.Author.Needs.{needs}
 use Rattle.call_record.proofs.entries.gradient_primal.Statement.{statement}
@@ -8,19 +9,19 @@ use Rattle.call_record.proofs.entries.gradient_primal.Tie as tie
 returns : tie.Need-returns
 returns c =
     let called = c .before .before in
-    called .gradient-primal .ensures ∙ gradient-primal-wide _ (called .before .before .if1 .taken) _ _
+    called .gradient-primal .ensures ∙ gradient-primal-wide _ (wide-kind (called .before .before .before .is-wide .ensures) (called .before .before .if1 .taken)) _ _
 
 returns-2 : tie.Need-returns-2
 returns-2 c =
     let called = c .before .before in
     let by-kind = called .before .before .before .before in
-    called .gradient-primal2 .ensures ∙ gradient-primal-3D _ (by-kind .if1 .left) _ _
+    called .gradient-primal2 .ensures ∙ gradient-primal-3D _ (other-kind (by-kind .before .is-wide .ensures) (by-kind .if1 .left)) _ _
 
 pub gradient-primal-spec : {M : Type 1} → statement M
 gradient-primal-spec =
     tie.close
     (tie.spec
-    (λ c κs. search needs) (λ c. search needs)
+    (λ c κs. search needs) (λ c κs. search needs) (λ c. search needs)
     returns
     (λ c. search needs) (λ c κs. search needs) (λ c. search needs)
     returns-2)

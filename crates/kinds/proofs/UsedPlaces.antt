@@ -16,9 +16,8 @@ use Rattle.cone.specs.verdict.Answers.{isYes}
 use Rattle.cone.specs.Points.{threeOf}
 use Rattle.cone.specs.words.Words.{placesOf}
 use Rattle.cone.proofs.words.Words.{places-same}
-use Rattle.kinds.specs.Answers.{expAnswer, powAnswer, genpowAnswer, answerIn}
+use Rattle.kinds.specs.Answers.{expAnswer, powAnswer, genpowAnswer, usedOf, answerIn}
 use Rattle.kinds.specs.Passes.{passesIn}
-use Rattle.plan.specs.Plans.{usedOf}
 
 abbrev fewOf : ℕ → ℕ
 fewOf dim1 = cond (ltb dim1 32) dim1 32

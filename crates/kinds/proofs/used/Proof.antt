@@ -1,8 +1,8 @@
 -- `used` branches as its definition does. Assumes nothing.
 use borrow.Author.Tests.{eq-eqb, ne-eqb, lt-ltb, le-ltb}
-use Rattle.plan.specs.Plans.{usedOf}
-use Rattle.plan.proofs.used.Statement.{statement}
-use Rattle.plan.proofs.used.Tie as tie
+use Rattle.kinds.specs.Answers.{usedOf}
+use Rattle.kinds.proofs.used.Statement.{statement}
+use Rattle.kinds.proofs.used.Tie as tie
 
 returns : tie.Need-returns
 unfolding usedOf

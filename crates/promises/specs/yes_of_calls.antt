@@ -1,3 +1,4 @@
 pub mod Points
 pub mod Feasibility
 pub mod Searches
+pub mod Calls

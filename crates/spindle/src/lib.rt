@@ -12,7 +12,7 @@ ghost use Rattle.call_record.specs.update.Entries.{updateScalingOf};
 ghost use Rattle.call_record.specs.entries.Entries.{gradientPrimalOf, barrierPrimalOf, computeBarrierOf, getHsOf, mulHsOf};
 ghost use Rattle.call_record.specs.entries.Entries.{higherCorrectionOf, combinedDsShiftOf};
 ghost use Rattle.octets.specs.words.Words.{AllBelow};
-ghost use Rattle.trace.specs.entries.Values.{Passed};
+ghost use Rattle.trace.specs.entries.Values.{Doubles, Passed};
 ghost use Rattle.trace.specs.entries.Writing.{createOf, appendOf};
 ghost use Rattle.trace.specs.entries.Opened.{openedOf};
 ghost use Rattle.trace.specs.value.Recorded.{recordedIn};
@@ -106,16 +106,18 @@ pub extern "C" fn spindle_fresh(cone: Cone) -> Updated
     call_cone::formulas::fresh(cone)
 }
 
+// Beside the equation the contracts of the two tests say what every call has, and what Order 12 asks: the point's numbers are doubles.
+
 #[no_mangle]
 pub extern "C" fn spindle_is_primal_feasible(cone: Cone, s: &[f64]) -> Verdict
-    ensures { λ r. ⌜ r ≡ isPrimalFeasibleOf cone (now (s .entry)) ⌝ }
+    ensures { λ r. ⌜ (r ≡ isPrimalFeasibleOf cone (now (s .entry))) × Doubles (now (s .entry)) ⌝ }
 {
     call_cone::formulas::is_primal_feasible(cone, s)
 }
 
 #[no_mangle]
 pub extern "C" fn spindle_is_dual_feasible(cone: Cone, z: &[f64]) -> Verdict
-    ensures { λ r. ⌜ r ≡ isDualFeasibleOf cone (now (z .entry)) ⌝ }
+    ensures { λ r. ⌜ (r ≡ isDualFeasibleOf cone (now (z .entry))) × Doubles (now (z .entry)) ⌝ }
 {
     call_cone::formulas::is_dual_feasible(cone, z)
 }

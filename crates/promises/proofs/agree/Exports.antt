@@ -79,10 +79,10 @@ pub fresh-agrees : OneAnswer fresh.Post
 fresh-agrees κs a x y s t p q = p ∙ sym q
 
 pub is-primal-feasible-agrees : OneAnswer is-primal-feasible.Post
-is-primal-feasible-agrees κs a x y s t p q = p ∙ sym q
+is-primal-feasible-agrees κs a x y s t p q = p .0 ∙ sym (q .0)
 
 pub is-dual-feasible-agrees : OneAnswer is-dual-feasible.Post
-is-dual-feasible-agrees κs a x y s t p q = p ∙ sym q
+is-dual-feasible-agrees κs a x y s t p q = p .0 ∙ sym (q .0)
 
 pub barrier-dual-agrees : OneAnswer barrier-dual.Post
 barrier-dual-agrees κs a x y s t p q = p ∙ sym q

@@ -34,8 +34,8 @@ pub of-exports : OfExports
 unfolding made call
 of-exports = record {
   fresh = λ κs a r x p. of-made _ _ (ap (λ (l : Updated). answered (updated l)) p);
-  is-primal-feasible = λ κs a r x p. of-made _ _ (ap (λ (l : Verdict). answered (verdict l)) p);
-  is-dual-feasible = λ κs a r x p. of-made _ _ (ap (λ (l : Verdict). answered (verdict l)) p);
+  is-primal-feasible = λ κs a r x p. of-made _ _ (ap (λ (l : Verdict). answered (verdict l)) (p .0));
+  is-dual-feasible = λ κs a r x p. of-made _ _ (ap (λ (l : Verdict). answered (verdict l)) (p .0));
   barrier-dual = λ κs a r x p. of-made _ _ (ap (λ (l : Number). answered (number l)) p);
   dual-grad-h = λ κs a r x p. of-made _ _ (ap (λ (l : DualGrad). answered (dualGrad l)) p);
   unit-initialization = λ κs a r x p. of-made _ _ (ap (λ (l : LentTwo ℕ). answered (writtenTwo l)) p);

@@ -132,16 +132,30 @@ pub record OfExports : Type 0 where
       (λ κs a. traceCreate (now (a .0)))
       (λ κs r x. wrote (record { answer = r; bytes = now (x .0) }))
   pub trace-append : Demanded trace-append.Post
-      (λ κs a. traceAppend (now (a .0)) (a .1 .0) (record { cone = a .1 .1 .0; flag = a .1 .1 .1 .0; settings = a .1 .1 .1 .1 .0;
-      dz = now (a .1 .1 .1 .1 .1 .0); ds = now (a .1 .1 .1 .1 .1 .1 .0); z = now (a .1 .1 .1 .1 .1 .1 .1 .0);
-      s = now (a .1 .1 .1 .1 .1 .1 .1 .1 .0); steps = a .1 .1 .1 .1 .1 .1 .1 .1 .1 .0 }))
+      (λ κs a. traceAppend (now (a .0)) (a .1 .0) (record {
+        cone = a .1 .1 .0;
+        flag = a .1 .1 .1 .0;
+        settings = a .1 .1 .1 .1 .0;
+        dz = now (a .1 .1 .1 .1 .1 .0);
+        ds = now (a .1 .1 .1 .1 .1 .1 .0);
+        z = now (a .1 .1 .1 .1 .1 .1 .1 .0);
+        s = now (a .1 .1 .1 .1 .1 .1 .1 .1 .0);
+        steps = a .1 .1 .1 .1 .1 .1 .1 .1 .1 .0;
+      }))
       (λ κs r x. wrote (record { answer = r; bytes = now (x .0) }))
   pub trace-open : Demanded trace-open.Post (λ κs a. traceOpen (now (a .0))) (λ κs r x. opened r)
   pub trace-record : Demanded trace-record.Post (λ κs a. traceRecord (now (a .0)) (a .1 .0)) (λ κs r x. recorded r)
   pub record-put : Demanded record-put.Post
-      (λ κs a. recordPut (now (a .0)) (a .1 .0) (a .1 .1 .0) (record { cone = a .1 .1 .1 .0; flag = a .1 .1 .1 .1 .0;
-      settings = a .1 .1 .1 .1 .1 .0; dz = now (a .1 .1 .1 .1 .1 .1 .0); ds = now (a .1 .1 .1 .1 .1 .1 .1 .0);
-      z = now (a .1 .1 .1 .1 .1 .1 .1 .1 .0); s = now (a .1 .1 .1 .1 .1 .1 .1 .1 .1 .0); steps = a .1 .1 .1 .1 .1 .1 .1 .1 .1 .1 .0 }))
+      (λ κs a. recordPut (now (a .0)) (a .1 .0) (a .1 .1 .0) (record {
+        cone = a .1 .1 .1 .0;
+        flag = a .1 .1 .1 .1 .0;
+        settings = a .1 .1 .1 .1 .1 .0;
+        dz = now (a .1 .1 .1 .1 .1 .1 .0);
+        ds = now (a .1 .1 .1 .1 .1 .1 .1 .0);
+        z = now (a .1 .1 .1 .1 .1 .1 .1 .1 .0);
+        s = now (a .1 .1 .1 .1 .1 .1 .1 .1 .1 .0);
+        steps = a .1 .1 .1 .1 .1 .1 .1 .1 .1 .1 .0;
+      }))
       (λ κs r x. wrote (record { answer = r; bytes = now (x .0) }))
   pub record-at : Demanded record-at.Post (λ κs a. recordAt (now (a .0)) (a .1 .0) (a .1 .1 .0)) (λ κs r x. recorded r)
   pub trace-seal : Demanded trace-seal.Post
@@ -165,10 +179,18 @@ pub record OfExports : Type 0 where
       (λ κs r x. summed (record { totals = r; dual = now (x .1 .0); primal = now (x .1 .1 .0); skipped = now (x .1 .1 .1 .0) }))
   pub sheet-join : Demanded sheet-join.Post
       (λ κs a. sheetJoin (record { totals = a .0; dual = now (a .1 .0); primal = now (a .1 .1 .0); skipped = now (a .1 .1 .1 .0) })
-      (record { totals = a .1 .1 .1 .1 .0; dual = now (a .1 .1 .1 .1 .1 .0); primal = now (a .1 .1 .1 .1 .1 .1 .0);
-      skipped = now (a .1 .1 .1 .1 .1 .1 .1 .0) }))
+      (record {
+        totals = a .1 .1 .1 .1 .0;
+        dual = now (a .1 .1 .1 .1 .1 .0);
+        primal = now (a .1 .1 .1 .1 .1 .1 .0);
+        skipped = now (a .1 .1 .1 .1 .1 .1 .1 .0);
+      }))
       (λ κs r x. summed (record { totals = r; dual = now (x .1 .0); primal = now (x .1 .1 .0); skipped = now (x .1 .1 .1 .0) }))
   pub sheet-text : Demanded sheet-text.Post
-      (λ κs a. sheetText (now (a .0)) (record { totals = a .1 .0; dual = now (a .1 .1 .0); primal = now (a .1 .1 .1 .0);
-      skipped = now (a .1 .1 .1 .1 .0) }))
+      (λ κs a. sheetText (now (a .0)) (record {
+        totals = a .1 .0;
+        dual = now (a .1 .1 .0);
+        primal = now (a .1 .1 .1 .0);
+        skipped = now (a .1 .1 .1 .1 .0);
+      }))
       (λ κs r x. printed (record { answer = r; text = now (x .0) }))

@@ -5,7 +5,7 @@ use mathlib.Core.Bool.{Bool, true, false, cond, _&&_}
 use mathlib.Core.List.{List}
 use native.Mathlib.Omega.{arith}
 use lib.Dec.{eqb, leb}
-use lib.Ieee.{Float, binary64, toBits, ofBits}
+use lib.Ieee.{Float, binary64, ofBits}
 use lib.ListN.{length, take, length-map}
 use borrow.Author.Tests.{eqb-true, not-false}
 use Rattle.arith.proofs.Branches.{and-left, and-right, and-both, false-not-true}
@@ -19,22 +19,11 @@ use Rattle.call_search.specs.single.Entries.{refuseSteps, stepLengthOf}
 use Rattle.call_search.proofs.single.Demand3.{let-through}
 use Rattle.trace_layout.specs.Records.{Record, Laid, dimsOk, shapeOk}
 use Rattle.trace.specs.value.Recorded.{padded, valuesOf, coneOf, settingsOf, stepsOf, recordedOf}
-use Rattle.trace_replay.specs.rerun.Rerun.{sameAnswers, blankPoint, rerunOf, agreesOf}
+use Rattle.trace_replay.specs.rerun.Rerun.{blankPoint, rerunOf, agreesOf}
 use Rattle.trace_replay.specs.slices.Replay.{sameRecord}
 use Rattle.promises.specs.replay_kept.Refused.{RefusedDiffers}
 use Rattle.promises.proofs.replay_kept.Cones.{take-padded}
-
--- the number is compared first
-same-done : (a b : Steps) → sameAnswers a b ≡ true → a .code ≡ 0
-unfolding sameAnswers
-same-done a b h =
-    let code = eqb (a .code) 0 in
-    let dual = eqb (toBits binary64 (a .dualstep)) (toBits binary64 (b .dualstep)) in
-    let tests = eqb (a .dualcount) (b .dualcount) in
-    let primal = eqb (toBits binary64 (a .primalstep)) (toBits binary64 (b .primalstep)) in
-    eqb-true (a .code) 0
-    (and-left code dual (and-left (code && dual) tests (and-left (code && dual && tests) primal
-    (and-left (code && dual && tests && primal) (eqb (a .primalcount) (b .primalcount)) h))))
+use Rattle.promises.proofs.replay_kept.Exactly.{compared}
 
 -- ---- the vectors of a record that can be laid out have the cone's length
 
@@ -82,7 +71,8 @@ module _ (e : ℕ) (r : Record) (laid : Laid e r) where
       (settingsOf e r))
   unfolding sameRecord agreesOf rerunOf recordedOf stepLengthOf
   no-row h =
-      no-fault _ (let-through (λ (l : LentTwo Steps). l .answer .code) _ (refuseSteps point point) (λ k. refl) _ (same-done _ (stepsOf r) h))
+      no-fault _
+      (let-through (λ (l : LentTwo Steps). l .answer .code) _ (refuseSteps point point) (λ k. refl) _ (compared _ (stepsOf r) h .done))
 
   has : sameRecord e r ≡ true → Has e r
   unfolding stepFaults

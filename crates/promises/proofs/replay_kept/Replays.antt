@@ -27,6 +27,7 @@ use Rattle.trace_replay.specs.rerun.Rerun.{sameAnswers, blankPoint, rerunOf, ag
 use Rattle.trace_replay.specs.slices.Replay.{sameRecord, noted, differing}
 use Rattle.promises.specs.replay_kept.Replays.{Searched, ReplaysSame, NoRuleDiffers}
 use Rattle.promises.proofs.replay_kept.Cones.{keptCone, Alike, take-padded, kept-alike}
+use Rattle.promises.proofs.replay_kept.Exactly.{same-gives, gives-same}
 use Rattle.promises.proofs.replay_kept.Again.{Taken, taken, other-cone, same-kept, blank-length}
 
 same-vectors : (k : Cone) (point : List Float) (how : Settings) (x : Steps) (dz′ ds′ z′ s′ dz ds z s : List Float)
@@ -81,6 +82,8 @@ one-more e at (x ∷ rs) r h = ap (λ (l : List ℕ). noted (sameRecord e x) at 
 
 pub replays-same : ReplaysSame
 replays-same = record {
+  only = same-gives;
+  all = gives-same;
   one = λ e c flag settings dz ds z s steps passed made. searched-same e c flag settings dz ds z s steps passed made;
   appended = λ bs used c flag settings dz ds z s steps bytes passed made done.
       ap (differing _ 0) (append-done c flag settings dz ds z s steps passed bs used bytes done .records)

@@ -1,10 +1,10 @@
--- A search that was recorded as it was made replays the same. Statements; proofs/replay_kept/Replays has the proofs.
+-- When a record replays the same, and that a search which was recorded as it was made does. Statements; proofs/Replays has the proofs.
 use Prim.Native.Nat.{ℕ}
 use mathlib.Core.Path.{_≡_}
 use mathlib.Core.Bool.{true, false, cond}
 use mathlib.Core.List.{List}
 use lib.Dec.{eqb}
-use lib.Ieee.{Float}
+use lib.Ieee.{Float, binary64, toBits}
 use lib.ListN.{take}
 use Rattle.cone.specs.declared.Cone.{Cone}
 use Rattle.cone.specs.declared.Settings.{Settings}
@@ -12,13 +12,15 @@ use Rattle.cone.specs.declared.Steps.{Steps}
 use Rattle.judges.specs.Judges.{ruleOk}
 use Rattle.octets.specs.words.Words.{AllBelow}
 use Rattle.call_search.specs.single.Entries.{stepLengthOf}
-use Rattle.trace_layout.specs.Records.{Record}
+use Rattle.trace_layout.specs.Records.{Record, Laid}
 use Rattle.trace_layout.specs.Traces.{editionAt, recordsOf}
 use Rattle.trace.specs.places.Given.{givenOf}
 use Rattle.trace.specs.entries.Writing.{appendOf}
 use Rattle.trace.specs.entries.Values.{Passed}
 use Rattle.trace.specs.value.Defaults.{defaultOf}
+use Rattle.trace.specs.value.Recorded.{recordedOf}
 use Rattle.trace.specs.kept.Appended.{traceIn}
+use Rattle.trace_replay.specs.rerun.Rerun.{rerunOf}
 use Rattle.trace_replay.specs.slices.Replay.{sameRecord, differing}
 
 -- what a record holds comes of a search that was made: `step_length` was called with these arguments, with the edition's default settings
@@ -29,7 +31,18 @@ pub record Searched (e : ℕ) (c : Cone) (flag : ℕ) (settings : Settings) (dz 
   pub answer : stepLengthOf c dz ds z s dualPoint primalPoint (cond (eqb flag 0) settings (defaultOf e (settings .start))) .answer ≡ steps
   pub done : steps .code ≡ 0
 
+-- 02, Order 2: "compare steps and counts bit for bit". A search is done, and answers with the bits that the record holds
+pub record GivesHeld (a : Steps) (r : Record) : Type 0 where
+  pub done : a .code ≡ 0
+  pub dual-step : toBits binary64 (a .dualstep) ≡ r .dualstep
+  pub dual-count : a .dualcount ≡ r .dualcount
+  pub primal-step : toBits binary64 (a .primalstep) ≡ r .primalstep
+  pub primal-count : a .primalcount ≡ r .primalcount
+
 pub record ReplaysSame : Type 0 where
+  -- a record that can be laid out, as each one of a good trace is, counts as the same exactly if its search, run again, gives what it holds
+  pub only : (e : ℕ) (r : Record) → Laid e r → sameRecord e r ≡ true → GivesHeld (rerunOf (recordedOf e 0 r)) r
+  pub all : (e : ℕ) (r : Record) → Laid e r → GivesHeld (rerunOf (recordedOf e 0 r)) r → sameRecord e r ≡ true
   -- of one record, in a trace of any edition: whatever the cone holds in places that its kind does not use
   pub one : (e : ℕ) (c : Cone) (flag : ℕ) (settings : Settings) (dz ds z s : List Float) (steps : Steps)
       → Passed c flag settings dz ds z s steps

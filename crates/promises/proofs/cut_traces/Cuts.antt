@@ -1,5 +1,5 @@
--- A good trace that is cut at a byte: the bytes of the records that end at or before it, and then what is no record, since a cut record says
--- a length that is not there, and list and trailer begin with zeros. Assumes nothing.
+-- A good trace that is cut at a byte: the bytes of the records that end at or before it, and then what is no record, since a cut record
+-- says a length that is not there, and list and trailer begin with zeros. Assumes nothing.
 use Prim.Native.Nat.{ℕ, zero, suc, _+_, _-_, _≤_, _<_}
 use mathlib.Core.Path.{_≡_, refl, sym, ap, _∙_}
 use mathlib.Core.Bool.{Bool, true, false, not}
@@ -15,7 +15,8 @@ use Rattle.octets.specs.words.Words.{le, spelled, wordAt, rowBytes, AllBelow}
 use Rattle.octets.specs.words.Runs.{runsBytes}
 use Rattle.octets.proofs.words.Words.{below-take}
 use Rattle.trace_layout.specs.Records.{Record, Laid, Sized, bytesOf, sizeIn, sizeAt, laidAt, kindAt, dim1At, dim2At, flagAt}
-use Rattle.trace_layout.specs.Traces.{mostRecords, recordsBytes, offsetsFrom, trailerOf, traceOf, known, AllLaid, editionAt, goodTrace, recordsOf}
+use Rattle.trace_layout.specs.Traces.{mostRecords, recordsBytes, offsetsFrom, trailerOf, traceOf, known, AllLaid, editionAt, goodTrace}
+use Rattle.trace_layout.specs.Traces.{recordsOf}
 use Rattle.trace_layout.proofs.Records.{found, size-back, laid-back, length-bytesOf, size-least}
 use Rattle.trace_layout.proofs.Traces.{good-ends, good-laid, good-count, good-is-written, edition-written, read-written}
 use Rattle.trace.specs.whole.Whole.{wholeIn, wholeRecords}
@@ -114,7 +115,13 @@ module _ (e : ℕ) (tail : List ℕ) (no-tail : (j : ℕ) → laidAt e (take j t
         let more : k - at ≡ length (bytesOf e r) + (k - end) = omega (arith, leb-true end k on, size) in
         record {
           rest = later .rest;
-          bytes = rw (on, append-assoc (bytesOf e r) (recordsBytes e rs) tail, more, take-append-add (bytesOf e r) behind (k - end), later .bytes)
+          bytes = rw (
+            on,
+            append-assoc (bytesOf e r) (recordsBytes e rs) tail,
+            more,
+            take-append-add (bytesOf e r) behind (k - end),
+            later .bytes,
+          )
               (sym (append-assoc (bytesOf e r) (recordsBytes e (endingBy e k end rs)) (later .rest)));
           no-record = later .no-record;
           laid = rw on (l, s, later .laid);
@@ -190,9 +197,14 @@ module _ (bs old : List ℕ) (given : ℕ) (bytes : AllBelow 256 bs) (on : rescu
       )
 
 pub cut-anywhere : CutAnywhere
-cut-anywhere bs old k given bytes good edition on =
+cut-anywhere bs old k given bytes good edition room =
     let below = below-take 256 k bs bytes in
+    let e = editionFor (take k bs) given in
+    let saved : savedOf e (take k bs) ≡ traceOf (editionAt bs) (endingBy (editionAt bs) k 0 (recordsOf bs)) =
+    ap (λ (i : ℕ). savedOf i (take k bs)) edition ∙ ap (traceOf (editionAt bs)) (cut-kept bs bytes good k) in
+    let is-known : known e ≡ true = ap known edition ∙ good-ends bs bytes good .edition in
+    let on = rescues .long (take k bs) old given is-known (omega (arith, ap length saved, room)) in
     let d = rescues .done (take k bs) old given below on in
     let left = left-walked (take k bs) old given below on in
     let records = left .1 ∙ ap (λ (e : ℕ). wholeRecords e (take k bs)) edition ∙ cut-kept bs bytes good k in
-    record { good = d .good; edition = left .0 ∙ edition; records = records; told = d .kept ∙ ap length records }
+    record { done = on; good = d .good; edition = left .0 ∙ edition; records = records; told = d .kept ∙ ap length records }

@@ -1,6 +1,6 @@
 -- 02, Order 7: "keep every whole record until the first that is cut or malformed". Of a good trace that is cut at a byte, whichever it is,
--- these are exactly the records that end at or before it. The definition, and the statement; proofs/cut_traces/Cuts has the proof.
-use Prim.Native.Nat.{ℕ, _+_}
+-- these are exactly the records that end at or before it. The definition, and the statement; proofs/Cuts has the proof.
+use Prim.Native.Nat.{ℕ, _+_, _≤_}
 use mathlib.Core.Path.{_≡_}
 use mathlib.Core.Bool.{true, cond}
 use mathlib.Core.List.{List, [], _∷_}
@@ -8,7 +8,7 @@ use lib.Dec.{leb}
 use lib.ListN.{length, take}
 use Rattle.octets.specs.words.Words.{AllBelow}
 use Rattle.trace_layout.specs.Records.{Record, sizeIn}
-use Rattle.trace_layout.specs.Traces.{editionAt, goodTrace, recordsOf}
+use Rattle.trace_layout.specs.Traces.{traceOf, editionAt, goodTrace, recordsOf}
 use Rattle.trace_rescue.specs.slices.Rescue.{Saved, editionFor, rescueOf}
 use Rattle.trace_rescue.specs.slices.Rescues.{traceIn}
 
@@ -22,6 +22,7 @@ endingBy e k at (r ∷ rs) =
 
 -- what the rescue of bs, cut at k, leaves
 pub record KeptOfCut (bs : List ℕ) (k : ℕ) (left : Saved) : Type 0 where
+  pub done : left .answer .code ≡ 0
   pub good : goodTrace (traceIn left) ≡ true
   pub edition : editionAt (traceIn left) ≡ editionAt bs
   pub records : recordsOf (traceIn left) ≡ endingBy (editionAt bs) k 0 (recordsOf bs)
@@ -29,9 +30,10 @@ pub record KeptOfCut (bs : List ℕ) (k : ℕ) (left : Saved) : Type 0 where
   pub told : left .answer .kept ≡ length (endingBy (editionAt bs) k 0 (recordsOf bs))
 
 -- The bytes are read by the trace's own edition, which the caller names, or the cut bytes end in it and `BACK` (Order 8). A cut inside a
--- record can leave bytes at its end that spell another known edition and `BACK`: then that one is taken, and this promises nothing.
+-- record can leave bytes at its end that spell another known edition and `BACK`: then that one is taken, and this promises nothing. The
+-- output has room for the trace of those records.
 abbrev pub CutAnywhere : Type 0
 CutAnywhere =
     (bs old : List ℕ) (k given : ℕ) → AllBelow 256 bs → goodTrace bs ≡ true → editionFor (take k bs) given ≡ editionAt bs
-    → rescueOf (take k bs) old given .answer .code ≡ 0
+    → length (traceOf (editionAt bs) (endingBy (editionAt bs) k 0 (recordsOf bs))) ≤ length old
     → KeptOfCut bs k (rescueOf (take k bs) old given)

@@ -2,12 +2,12 @@
 use mathlib.Core.Path.{_≡_, refl, sym, ap, _∙_, subst}
 use mathlib.Core.Bool.{true, false, not}
 use mathlib.Core.List.{List, [], _++_}
-use Prim.Native.Nat.{ℕ, zero, suc, _-_, _≤_}
+use Prim.Native.Nat.{ℕ, zero, suc, _-_, _≤_, _<_}
 use native.Mathlib.Omega.{arith}
 use lib.Dec.{ltb}
 use lib.ListN.{length, drop}
 use lib.Seq.{take-at, drop-at}
-use borrow.Author.Tests.{le-ltb, ltb-false, not-false}
+use borrow.Author.Tests.{le-ltb, lt-ltb, ltb-false, not-false}
 use Rattle.cone.specs.table.Table.{traceRow, settle}
 use Rattle.cone.proofs.table.Settled.{trace-row-off}
 use Rattle.octets.specs.words.Words.{AllBelow}
@@ -18,16 +18,24 @@ use Rattle.trace_layout.proofs.Traces.{trace-below, good-written, edition-writt
 use Rattle.trace.proofs.seal.Sealing.{length-trace}
 use Rattle.trace.proofs.whole.Whole.{no-more}
 use Rattle.trace.proofs.whole.Longest.{none-laid, whole-holds}
-use Rattle.trace_rescue.specs.slices.Rescue.{endsKnown, editionFor, keptOf, savedOf, droppedOf, Saved, reportOf, refuse, leave, rescueOf}
+use Rattle.trace_rescue.specs.slices.Rescue.{endsKnown, editionFor, keptOf, savedOf, droppedOf, Saved, reportOf, refuse, leave}
+use Rattle.trace_rescue.specs.slices.Rescue.{rescueOf}
 use Rattle.trace_rescue.specs.slices.Rescues.{traceIn, rightAgain, Done, Rescues, Editions}
-use Rattle.trace_rescue.proofs.slices.Saving.{kept-edition, callers-edition, own-edition, makes, own-records, same-bytes, nothing-dropped}
-use Rattle.trace_rescue.proofs.slices.Saving.{rest-dropped}
+use Rattle.trace_rescue.proofs.slices.Saving.{kept-edition, callers-edition, own-edition, makes, own-records, same-bytes}
+use Rattle.trace_rescue.proofs.slices.Saving.{nothing-dropped}
+use Rattle.trace_rescue.proofs.slices.Saving.{rest-dropped, end-inside, saved-length}
 
 -- a call that has room, in an edition that is known
 pub room-rescued : (bs old : List ℕ) (given e : ℕ) → editionFor bs given ≡ e → known e ≡ true → length (savedOf e bs) ≤ length old
     → rescueOf bs old given ≡ leave e bs old
 unfolding rescueOf traceRow settle
 room-rescued bs old given e is k h = rw (is, k, le-ltb (length old) (length (savedOf e bs)) h)
+
+-- one that has not
+short-rescued : (bs old : List ℕ) (given e : ℕ) → editionFor bs given ≡ e → known e ≡ true → length old < length (savedOf e bs)
+    → rescueOf bs old given ≡ refuse old 8
+unfolding rescueOf traceRow settle
+short-rescued bs old given e is k h = rw (is, k, lt-ltb (length old) (length (savedOf e bs)) h)
 
 -- one in another edition
 pub other-rescued : (bs old : List ℕ) (given e : ℕ) → editionFor bs given ≡ e → known e ≡ false → rescueOf bs old given ≡ refuse old 9
@@ -140,12 +148,21 @@ of-empty old given h k =
     ap traceIn (room-rescued [] old given given (callers-edition [] given none-known) k (omega (arith, size)))
     ∙ trace-left given [] old ∙ empty-saved given
 
+has-room : (bs old : List ℕ) (given : ℕ) → let e = editionFor bs given in
+    known e ≡ true → length (savedOf e bs) ≤ length old → rescueOf bs old given .answer .code ≡ 0
+has-room bs old given k h = ap (λ (x : Saved). x .answer .code) (room-rescued bs old given (editionFor bs given) refl k h)
+
 pub rescues : Rescues
 rescues = record {
   done = λ bs old given bytes on. done bs old given on bytes;
   good = λ bs old given bytes good on. of-good bs old given on bytes good;
   cut = λ bs old given bytes cut on. of-cut bs old given on bytes cut;
   empty = of-empty;
+  short = λ bs old given known h. short-rescued bs old given (editionFor bs given) refl known h;
+  long = has-room;
+  enough = λ bs old given bytes known h.
+      let e = editionFor bs given in
+      has-room bs old given known (omega (arith, saved-length e bs bytes, end-inside e bs bytes));
 }
 
 -- ---- the edition

@@ -1,5 +1,5 @@
--- What a done rescue leaves, and which edition it has. Statements; proofs/slices/Rescues has the proofs.
-use Prim.Native.Nat.{ℕ, _-_, _≤_}
+-- What a done rescue leaves, when there is no room, and which edition it has. Statements; proofs/slices/Rescues has the proofs.
+use Prim.Native.Nat.{ℕ, _+_, _-_, _*_, _≤_, _<_}
 use mathlib.Core.Path.{_≡_}
 use mathlib.Core.Bool.{true, false}
 use mathlib.Core.List.{List, [], _++_}
@@ -8,7 +8,7 @@ use Rattle.octets.specs.words.Words.{AllBelow}
 use Rattle.trace_layout.specs.Traces.{trailerSize, known, recordsBytes, traceOf, editionAt, goodTrace, recordsOf}
 use Rattle.trace.specs.whole.Longest.{Longest}
 use Rattle.trace_rescue.specs.declared.slices.Rescued.{Rescued}
-use Rattle.trace_rescue.specs.slices.Rescue.{endsKnown, Saved, refuse, rescueOf}
+use Rattle.trace_rescue.specs.slices.Rescue.{endsKnown, editionFor, keptOf, savedOf, Saved, refuse, rescueOf}
 
 -- the trace that a call leaves at the front of the output
 abbrev pub traceIn : Saved → List ℕ
@@ -45,6 +45,14 @@ pub record Rescues : Type 0 where
   -- an empty input gives the empty trace of the caller's edition
   pub empty : (old : List ℕ) (given : ℕ) → trailerSize ≤ length old → known given ≡ true
       → traceIn (rescueOf [] old given) ≡ traceOf given []
+  -- "8 if the output has no room": in an edition that is known, exactly if the output is shorter than the new trace
+  pub short : (bs old : List ℕ) (given : ℕ) → let e = editionFor bs given in
+      known e ≡ true → length old < length (savedOf e bs) → rescueOf bs old given ≡ refuse old 8
+  pub long : (bs old : List ℕ) (given : ℕ) → let e = editionFor bs given in
+      known e ≡ true → length (savedOf e bs) ≤ length old → rescueOf bs old given .answer .code ≡ 0
+  -- so the input's length, 8 bytes for each whole record and the trailer's size are enough
+  pub enough : (bs old : List ℕ) (given : ℕ) → AllBelow 256 bs → let e = editionFor bs given in
+      known e ≡ true → length bs + 8 * length (keptOf e bs) + trailerSize ≤ length old → rescueOf bs old given .answer .code ≡ 0
 
 -- 02, Order 8, of any input, a broken one too
 pub record Editions : Type 0 where

@@ -1,13 +1,15 @@
--- The larger of the first search and the largest of the others: the first where it is no smaller, and else that one, which the first is before
--- with fewer tests. Assumes nothing.
+-- The larger of the first search and the largest of the others: the first where it is no smaller, and else that one, which the first is
+-- before with fewer tests. Assumes nothing.
 use Prim.Native.Nat.{ℕ, _+_, _≤_, _<_}
-use mathlib.Core.Path.{refl, ap}
-use mathlib.Core.Bool.{true, false}
-use mathlib.Core.List.{List, [], _∷_, _++_}
+use mathlib.Core.Path.{_≡_, refl, ap}
+use mathlib.Core.Bool.{Bool, true, false}
+use mathlib.Core.List.{List, [], _∷_, _++_, map}
 use native.Mathlib.Omega.{arith}
+use Rattle.trace_layout.specs.Records.{Record, sizeIn}
+use Rattle.trace_layout.specs.Traces.{offsetsFrom, editionAt, recordsOf}
 use Rattle.trace_sheet.specs.declared.counts.Largest.{Largest}
 use Rattle.trace_sheet.specs.counts.Counts.{Entry, largestIn, largestOf}
-use Rattle.trace_sheet.specs.counts.Sheet.{entriesFrom, sheetOf}
+use Rattle.trace_sheet.specs.counts.Sheet.{taken, entryOf, entriesIn, entriesOf, entriesFrom, sheetOf}
 use Rattle.trace_sheet.proofs.counts.Tops.{larger-cases, larger-none}
 use Rattle.promises.specs.sheet_lines.Most.{AllFewer, AllAtMost, FirstLargest, OfSide, MostIsFirst}
 
@@ -53,8 +55,8 @@ none-behind e es t f h =
     let size = ap (λ (x : Largest). x .size) (f .told) in
     let few : f .search .tests ≤ e .tests = omega (arith, size) in
     rw (f .all)
-    (at-most-append (e .tests) (f .before) (f .search) (f .behind) (at-most-of-fewer (f .search .tests) (e .tests) (f .before) few (f .fewer-before))
-    few (at-most-more (f .search .tests) (e .tests) (f .behind) few (f .no-more-behind)))
+    (at-most-append (e .tests) (f .before) (f .search) (f .behind)
+    (at-most-of-fewer (f .search .tests) (e .tests) (f .before) few (f .fewer-before)) few (at-most-more (f .search .tests) (e .tests) (f .behind) few (f .no-more-behind)))
 
 first-largest : (e : Entry) (es : List Entry) → FirstLargest (e ∷ es) (largestOf (e ∷ es))
 unfolding largestOf
@@ -69,6 +71,23 @@ unfolding largestOf
 of-side [] = record { some = λ h. absurd (omega arith); no-records = λ h. refl }
 of-side (e ∷ es) = record { some = λ h. first-largest e es; no-records = λ h. absurd (omega arith) }
 
+-- ---- where the searches stand
+
+offsets-in : (primal : Bool) (file e at : ℕ) (rs : List Record)
+    → map (λ (x : Entry). x .at) (entriesIn primal file e at rs) ≡ offsetsFrom e at rs
+unfolding entriesIn entryOf offsetsFrom
+offsets-in primal file e at [] = refl
+offsets-in primal file e at (r ∷ rs) = ap (λ (l : List ℕ). at ∷ l) (offsets-in primal file e (at + sizeIn e r) rs)
+
+offsets-of : (primal : Bool) (file : ℕ) (bs : List ℕ) → taken bs ≡ true
+    → map (λ (x : Entry). x .at) (entriesOf primal file bs) ≡ offsetsFrom (editionAt bs) 0 (recordsOf bs)
+unfolding entriesOf
+offsets-of primal file bs h = rw h (offsets-in primal file (editionAt bs) 0 (recordsOf bs))
+
 pub most-is-first : MostIsFirst
 unfolding sheetOf
-most-is-first = record { dual = λ files. of-side (entriesFrom false 1 files); primal = λ files. of-side (entriesFrom true 1 files) }
+most-is-first = record {
+  offsets = offsets-of;
+  dual = λ files. of-side (entriesFrom false 1 files);
+  primal = λ files. of-side (entriesFrom true 1 files);
+}

@@ -2,12 +2,13 @@
 -- proofs/sheet_lines/Most has the proof.
 use Prim.Native.Nat.{ℕ, _≤_, _<_}
 use mathlib.Core.Path.{_≡_}
-use mathlib.Core.Bool.{true, false}
-use mathlib.Core.List.{List, [], _∷_, _++_}
+use mathlib.Core.Bool.{Bool, true, false}
+use mathlib.Core.List.{List, [], _∷_, _++_, map}
 use lib.ListN.{length}
+use Rattle.trace_layout.specs.Traces.{offsetsFrom, editionAt, recordsOf}
 use Rattle.trace_sheet.specs.declared.counts.Largest.{Largest}
 use Rattle.trace_sheet.specs.counts.Counts.{Entry, none, largestIn}
-use Rattle.trace_sheet.specs.counts.Sheet.{entriesFrom, sheetOf}
+use Rattle.trace_sheet.specs.counts.Sheet.{taken, entriesOf, entriesFrom, sheetOf}
 
 -- every search of the list has fewer tests than n, or at most n
 unfoldable pub AllFewer : ℕ → List Entry → Type 0
@@ -35,5 +36,8 @@ pub record OfSide (es : List Entry) (t : Largest) : Type 0 where
   pub no-records : length es ≡ 0 → t ≡ none
 
 pub record MostIsFirst : Type 0 where
+  -- the searches of a file stand where its own list says that its records begin: "the list of all record offsets in order" (Order 1)
+  pub offsets : (primal : Bool) (file : ℕ) (bs : List ℕ) → taken bs ≡ true
+      → map (λ (e : Entry). e .at) (entriesOf primal file bs) ≡ offsetsFrom (editionAt bs) 0 (recordsOf bs)
   pub dual : (files : List (List ℕ)) → OfSide (entriesFrom false 1 files) (sheetOf files .dual .largest)
   pub primal : (files : List (List ℕ)) → OfSide (entriesFrom true 1 files) (sheetOf files .primal .largest)

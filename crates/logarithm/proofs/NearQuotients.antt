@@ -13,7 +13,8 @@ use Rattle.rounding.specs.errors.Errors.{Rounded}
 use Rattle.rounding.proofs.errors.Divided.{div-is}
 use Rattle.rounding.proofs.errors.Rounded.{rounded-near}
 
--- ---- the quotient, over plain variables: d/W is to be divided by k, W = 2^59; P is 2^53, H is 2^52, v is 2^1074 and Z is v / W; u is x / y
+-- ---- the quotient, over plain variables: d/W is to be divided by k, W = 2^59; P is 2^53, H is 2^52, v is 2^1074 and Z is v / W; u is
+-- x / y
 -- in units, and q its digits
 
 first-above :
@@ -75,7 +76,8 @@ module _ (d k : ℕ) (x y : Float) (X : Units x (d * 2 ^ 1074)) (Y : Units y (k 
 
   pub quotient-near : Rounded binary64 (div binary64 x y) false (d * 2 ^ 1074) (k * 2 ^ 1015)
   quotient-near =
-      subst (λ (r : Float). Rounded binary64 r false (d * 2 ^ 1074) (k * 2 ^ 1015)) (sym (div-is binary64 x y false false (d * 2 ^ 1074) (k * 2 ^ 1015) y-pos X Y))
+      subst (λ (r : Float). Rounded binary64 r false (d * 2 ^ 1074) (k * 2 ^ 1015))
+      (sym (div-is binary64 x y false false (d * 2 ^ 1074) (k * 2 ^ 1015) y-pos X Y))
       (rounded-near binary64 false (d * 2 ^ 1074) (k * 2 ^ 1015) y-pos
       (le-trans (mul-le-mul fewer (leb→le (2 ^ 1074) (2 ^ 1023 * 2 ^ 1015) tt)) (le-of-eq (turned (2 ^ 1023) (2 ^ 1015)))))
     where

@@ -1,4 +1,5 @@
--- Doubles that are not negative, in units of 2^-1074: the digits of a sum with 2^52 are the other number, within 1; and a product of a number up to 2^52 is off by less than one in that number. Assumes nothing.
+-- Doubles that are not negative, in units of 2^-1074: the digits of a sum with 2^52 are the other number, within 1; and a product of a
+-- number up to 2^52 is off by less than one in that number. Assumes nothing.
 use mathlib.Core.Path.{_≡_, refl, sym, ap, _∙_, subst}
 use mathlib.Core.Bool.{Bool, false, not}
 use Prim.Native.Nat.{ℕ, zero, suc, _+_, _*_, _^_, _≤_, _<_}
@@ -66,7 +67,8 @@ of-mag (suc j) t h lo hi = go (decLt j 1074) (decLt 1074 j)
     go (no a) (yes b) = absurd (above-field (2 ^ 1074) t (2 ^ j) (pow-mono b) hi)
     go (no a) (no b) = ap (λ (x : ℕ). (2 ^ 52 + t) * 2 ^ x) (same j a b)
 
--- ---- the sum of 2^52 and a number of u units, over plain variables: P is 2^53, H and C are 2^52, v is 2^1074; g are its units, q its digits
+-- ---- the sum of 2^52 and a number of u units, over plain variables: P is 2^53, H and C are 2^52, v is 2^1074; g are its units, q its
+-- digits
 
 sum-small :
     (v P H C M u g : ℕ) → 0 < P → u ≤ M * v → H ≤ v → M + C + 1 ≤ P → g * P ≤ (u + C * v) * P + (u + C * v + H) → g ≤ (M + C + 1) * v
@@ -140,7 +142,8 @@ module _ (z : Float) (u : ℕ) (is : Units z u) (small : u ≤ (2 ^ 51 + 2) * 2 
 
   g-is : g ≡ (2 ^ 52 + q) * 2 ^ 1074
   g-is =
-      let r : Read false g (toBits binary64 s) = read s false g (add-fits binary64 z (ofBits binary64 0x4330_0000_0000_0000)) (sum-near .is) in
+      let r : Read false g (toBits binary64 s) =
+      read s false g (add-fits binary64 z (ofBits binary64 0x4330_0000_0000_0000)) (sum-near .is) in
       r .size
       ∙ of-mag (fieldOf (toBits binary64 s)) q (digits-lt (toBits binary64 s)) (subst (λ (t : ℕ). 2 ^ 52 * 2 ^ 1074 ≤ t) (r .size) g-from)
       (subst (λ (t : ℕ). t < 2 ^ 53 * 2 ^ 1074) (r .size) g-to)

@@ -217,7 +217,8 @@ added-most {f} {r} {s} {a} {t} {b} d = go (d .sign) (d .near)
 -- ---- two numbers that are not negative
 
 -- the sum is rounded from a + b
-pub add-is : (f : Format) (x y : Float) (a b : ℕ) → InUnits f x false a → InUnits f y false b → add f x y ≡ round f false (a + b) (2 ^ low f)
+pub add-is :
+    (f : Format) (x y : Float) (a b : ℕ) → InUnits f x false a → InUnits f y false b → add f x y ≡ round f false (a + b) (2 ^ low f)
 unfolding add sum
 add-is f nan y a b h k = absurd h
 add-is f (inf i) y a b h k = absurd h

@@ -8,6 +8,7 @@ ghost use Prim.Native.Nat.{_+_, _-_, _≤_, _<_};
 ghost use lib.ListN.{length, take, drop, set, replicate};
 ghost use lib.Seq.{sets};
 ghost use Rattle.octets.specs.equal_bytes.Equal.{equalBytes, among, numberOf};
+ghost use Rattle.trace_layout.specs.Traces.{mostRecords};
 ghost use Rattle.trace_thin.specs.firsts.Pieces.{pieceAt, piecesAt, firstAt, joined, offsets, Ahead};
 ghost use Rattle.trace_thin.specs.firsts.Firsts.{startsIn, firstsIn, numbersAt, chosenOf};
 use octets::equal_bytes::number_of;
@@ -101,7 +102,7 @@ pub fn choose(
     places: &mut [u64],
     numbers: &mut [u64],
 ) -> Chosen
-    requires { ⌜ (4096 ≤ length (now places)) × (4096 ≤ length (now numbers)) ⌝ }
+    requires { ⌜ (mostRecords ≤ length (now places)) × (mostRecords ≤ length (now numbers)) ⌝ }
     ensures { λ r. ⌜ (r ≡ chosenOf (now (bytes .entry)) (firstsIn (now (bytes .entry)) list edition))
         × (now (places .exit) ≡ sets (sets (now (places .entry)) 0 (startsIn (now (bytes .entry)) list edition)) 0
         (firstsIn (now (bytes .entry)) list edition))

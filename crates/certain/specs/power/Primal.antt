@@ -1,5 +1,5 @@
 -- The test of the power cone on three numbers, and the exact number beside it. Definitions only. The formulas are powcone's
--- (specs/Feasible); here the margin's part is a parameter.
+-- (powcone/specs/Feasible); here the margin's part is a parameter.
 use Prim.Native.Nat.{_<_}
 use lib.Ieee.{Float}
 use lib.Ieee.Positive.{num}

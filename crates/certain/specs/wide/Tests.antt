@@ -1,5 +1,5 @@
 -- The exact numbers beside the generalized power cone's test and its dual's. Definitions only. The formulas are genpowcone's
--- (specs/Feasible, specs/loops/Folds); here the margin's part is a parameter.
+-- (genpowcone/specs/Feasible, genpowcone/specs/loops/Folds); here the margin's part is a parameter.
 use Prim.Native.Nat.{ℕ, _<_}
 use mathlib.Core.List.{List}
 use lib.ListN.{length}

@@ -1,5 +1,5 @@
 -- 02, Order 7: "keep every whole record until the first that is cut or malformed". Of a good trace that is cut at a byte, whichever it is,
--- these are exactly the records that end at or before it. The definition, and the statement; proofs/Cuts has the proof.
+-- these are exactly the records that end at or before it. The definition, and the statement; proofs/cut_traces/Cuts has the proof.
 use Prim.Native.Nat.{ℕ, _+_, _≤_}
 use mathlib.Core.Path.{_≡_}
 use mathlib.Core.Bool.{true, cond}

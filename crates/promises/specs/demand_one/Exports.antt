@@ -1,6 +1,6 @@
 -- Demand 1 of the 35 calls of include/spindle.h, whatever their callers pass: `Post` is the claim of a call's `ensures`. Each field names
--- the call that the arguments make, and the outcome that the answer and the lent slices at exit are. Statements; proofs/Exports has the
--- proofs.
+-- the call that the arguments make, and the outcome that the answer and the lent slices at exit are. Statements; proofs/demand_one/Exports
+-- has the proofs.
 use mathlib.Core.Path.{_≡_}
 use mathlib.Core.Bool.{true}
 use mathlib.Core.List.{_∷_}

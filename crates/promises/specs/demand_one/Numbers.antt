@@ -1,5 +1,5 @@
 -- Which numbers each call can give at all, a row for each call, 0 aside. 01, "Numbers handed back". Definitions and statements;
--- proofs/Numbers and proofs/Given prove them.
+-- proofs/demand_one/Numbers and proofs/demand_one/Given prove them.
 use Prim.Native.Nat.{ℕ}
 use mathlib.Core.Path.{_≡_}
 use mathlib.Core.Bool.{Bool, true, false, cond, _||_}

@@ -1,6 +1,6 @@
 -- What is put is read back the same, and sealed it is the trace of create and appends: of the calls `spindle_record_put`,
 -- `spindle_record_at` and `spindle_trace_seal` themselves. As in Calls, no hypothesis is left to a caller but that the calls were made, one
--- on what the other left. Statements; proofs/Puts has the proofs.
+-- on what the other left. Statements; proofs/read_back/Puts has the proofs.
 use Prim.Native.Nat.{ℕ, _≤_}
 use mathlib.Core.Path.{_≡_}
 use mathlib.Core.List.{List, [], _∷_, map}

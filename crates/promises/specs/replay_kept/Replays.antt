@@ -1,4 +1,5 @@
--- When a record replays the same, and that a search which was recorded as it was made does. Statements; proofs/Replays has the proofs.
+-- When a record replays the same, and that a search which was recorded as it was made does. Statements; proofs/replay_kept/Replays has the
+-- proofs.
 use Prim.Native.Nat.{ℕ}
 use mathlib.Core.Path.{_≡_}
 use mathlib.Core.Bool.{true, false, cond}

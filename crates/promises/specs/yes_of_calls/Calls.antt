@@ -1,6 +1,6 @@
 -- Order 12 of the six calls of include/spindle.h, whatever their callers pass. `Post` is the claim of a call's `ensures`, and `GoodsP`
 -- what holds of the arguments of every call: a cone that is passed has 32 exponent places, all doubles. That a test's point holds doubles,
--- its contract says itself. So nothing is asked of a caller but Order 12's sizes. Statements; proofs/Exports has the proofs.
+-- its contract says itself. So nothing is asked of a caller but Order 12's sizes. Statements; proofs/yes_of_calls/Exports has the proofs.
 use Prim.Native.Nat.{_<_, ℕ}
 use mathlib.Core.Path.{_≡_}
 use mathlib.Core.Bool.{Bool, true, false}

@@ -152,7 +152,7 @@ module _ (b : List ℕ) (bytes : AllBelow 256 b) (list e : ℕ) where
   laid : AllLaid e rs
   laid = whole-laid e mostRecords body body-bytes
 
-  pub few-records : length rs ≤ 4096
+  pub few-records : length rs ≤ mostRecords
   few-records = whole-few e mostRecords body
 
   abbrev end : ℕ

@@ -11,7 +11,7 @@ use borrow.Author.Needs.{needs}
 use Rattle.octets.specs.words.Words.{AllBelow}
 use Rattle.octets.proofs.words.Words.{below-of-places}
 use Rattle.octets.proofs.words.Stores.{cut-is}
-use Rattle.trace_layout.specs.Traces.{offsetsFrom}
+use Rattle.trace_layout.specs.Traces.{mostRecords, offsetsFrom}
 use Rattle.trace_layout.proofs.Traces.{length-offsets}
 use Rattle.trace.specs.declared.whole.Walked.{Walked}
 use Rattle.trace.specs.whole.Whole.{wholeRecords, walkedOf}
@@ -70,7 +70,7 @@ module _ (c : tie.After-walk Inv-loop μ-loop) where
       ap (λ (w : Walked). w .count) (c .walk .ensures .0) ∙ ap (λ (t : List ℕ). length (wholeRecords e t)) body-is
       ∙ sym (length-offsets e 0 (wholeRecords e (take list b)))
 
-  few : length starts ≤ 4096
+  few : length starts ≤ mostRecords
   few = omega (arith, length-offsets e 0 (wholeRecords e (take list b)), few-records b is-bytes list e)
 
   long : length places ≡ length row

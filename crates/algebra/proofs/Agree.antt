@@ -17,7 +17,6 @@ use Rattle.algebra.proofs.vector.sumsq.Reads as sumsq
 use Rattle.algebra.proofs.vector.norm.Reads as norm
 use Rattle.algebra.proofs.vector.mean.Reads as mean
 use Rattle.algebra.proofs.vector.dot3.Reads as dot3
-use Rattle.algebra.proofs.vector.norm3.Reads as norm3
 use Rattle.algebra.proofs.vector.moved3.Reads as moved3
 use Rattle.algebra.proofs.vector.shift3.Reads as shift3
 use Rattle.algebra.proofs.vector.normalize3.Reads as normalize3
@@ -63,9 +62,6 @@ mean-agrees κs a x y s t p q = p ∙ sym q
 
 pub dot3-agrees : OneAnswer dot3.Post
 dot3-agrees κs a x y s t p q = p ∙ sym q
-
-pub norm3-agrees : OneAnswer norm3.Post
-norm3-agrees κs a x y s t p q = p ∙ sym q
 
 pub moved3-agrees : OneAnswer moved3.Post
 moved3-agrees κs a x y s t p q = p ∙ sym q

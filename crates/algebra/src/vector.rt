@@ -81,7 +81,7 @@ pub fn dot3(x: [f64; 3], y: [f64; 3]) -> f64
     dot(&x, &y)
 }
 
-pub fn norm3(x: [f64; 3]) -> f64
+pub(crate) fn norm3(x: [f64; 3]) -> f64
     ensures { λ r. ⌜ r ≡ normOf x ⌝ }
 {
     norm(&x)

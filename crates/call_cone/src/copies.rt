@@ -12,7 +12,7 @@ use judges::numel;
 use judges::refusal::store;
 
 // rectify_equilibration, affine_ds.
-pub fn copy_rows(cone: Cone, out: usize, s: &[f64]) -> u32
+pub(crate) fn copy_rows(cone: Cone, out: usize, s: &[f64]) -> u32
     ensures { λ r. ⌜ r ≡ copyRows cone out (now (s .entry)) ⌝ }
 {
     let n = numel(cone);

@@ -14,7 +14,7 @@ use judges::numel;
 use kinds::answer;
 
 // is_primal_feasible, is_dual_feasible, barrier_dual, dual_grad_h.
-pub fn read_rows(cone: Cone, s: &[f64]) -> u32
+pub(crate) fn read_rows(cone: Cone, s: &[f64]) -> u32
     ensures { λ r. ⌜ r ≡ readRows cone (now (s .entry)) ⌝ }
 {
     let n = numel(cone);

@@ -1,3 +1,2 @@
--- What the rows of a call ask of its arguments, and that any two outcomes of a public function agree.
+-- What the rows of a call ask of its arguments.
 pub mod Judging
-mod Agree

@@ -18,7 +18,7 @@ use judges::three_finite;
 use judges::three_ok;
 
 // The table, by what is wrong with the call's lengths and its record, and whether its own numbers are finite.
-pub fn rows(
+pub(crate) fn rows(
     kind: u32,
     rule: u32,
     alpha: f64,

@@ -18,7 +18,7 @@ use judges::wide_finite;
 use judges::wide_ok;
 
 // The table, by what is wrong with the call's lengths and its record, and whether its own numbers are finite.
-pub fn rows<'a>(
+pub(crate) fn rows<'a>(
     dim1: u32,
     dim2: u32,
     rule: u32,
@@ -57,7 +57,7 @@ pub fn rows<'a>(
 }
 
 // As many places as the slice has.
-pub fn publish_wide(out: &mut [f64], ans: &[f64; 64]) -> u32
+pub(crate) fn publish_wide(out: &mut [f64], ans: &[f64; 64]) -> u32
     requires { ⌜ length (now out) ≤ 64 ⌝ }
     ensures { λ r. ⌜ record { answer = r; slice = now (out .exit) }
         ≡ publishOf (now (out .entry)) (take (length (now (out .entry))) (now (ans .entry))) ⌝ }

@@ -18,7 +18,7 @@ pub struct Residue {
 }
 
 // `res` of is_primal_feasible.
-pub fn primal_residue(s: [f64; 3]) -> Residue
+pub(crate) fn primal_residue(s: [f64; 3]) -> Residue
     ensures { λ r. ⌜ r ≡ primalResidue s ⌝ }
 {
     let s1 = s[1];
@@ -30,7 +30,7 @@ pub fn primal_residue(s: [f64; 3]) -> Residue
 }
 
 // `res` of is_dual_feasible.
-pub fn dual_residue(z: [f64; 3]) -> Residue
+pub(crate) fn dual_residue(z: [f64; 3]) -> Residue
     ensures { λ r. ⌜ r ≡ dualResidue z ⌝ }
 {
     let z0 = z[0];

@@ -126,7 +126,7 @@ fn wright_omega(z: f64) -> Omega
 }
 
 // The omega of 000 barrier_primal and gradient_primal at the point s.
-pub fn omega_at(s: [f64; 3]) -> Omega
+pub(crate) fn omega_at(s: [f64; 3]) -> Omega
     ensures { λ x. ⌜ x ≡ omegaAt s ⌝ }
 {
     wright_omega(1.0 - s[0] / s[1] - log(s[1] / s[2]))

@@ -32,7 +32,7 @@ fn shifted(m: u64, n: u64) -> u64
 }
 
 // Where the number with these fields is raised to, rounded down: a negative one away from 0. From ½ on it is a whole number of units.
-pub fn locate(negative: bool, f: u64, t: u64) -> Point
+pub(crate) fn locate(negative: bool, f: u64, t: u64) -> Point
     requires { ⌜ NormalFields negative f t ⌝ }
     ensures { λ r. ⌜ r ≡ pointOf (raised negative (mag f t) (2 ^ 1074)) ⌝ }
 {
@@ -73,7 +73,7 @@ fn border(k: u64) -> u64
 }
 
 // The place of y. The quotient by a little more than S(1/3) is the place or one less.
-pub fn place(y: u64) -> u64
+pub(crate) fn place(y: u64) -> u64
     requires { ⌜ InRange y ⌝ }
     ensures { λ r. ⌜ r ≡ placeOf y ⌝ }
 {
@@ -85,7 +85,7 @@ pub fn place(y: u64) -> u64
 }
 
 // How far y and `part` parts of 2048 lie over the place k, in units of 2^-64.
-pub fn rest(y: u64, part: u64, k: u64) -> u64
+pub(crate) fn rest(y: u64, part: u64, k: u64) -> u64
     requires { ⌜ AtPlace y k × (part < 2048) ⌝ }
     ensures { λ r. ⌜ r ≡ rest (y * 2048 + part) k ⌝ }
 {

@@ -137,7 +137,7 @@ fn near_sum(r: u64) -> u64
 }
 
 // The sum in units of 2^-52, to the nearest. The forty terms are summed where the middle between two of them lies within the estimate's error.
-pub fn rounded(r: u64) -> u64
+pub(crate) fn rounded(r: u64) -> u64
     requires { ⌜ r ≤ thirdIn64 + 2048 ⌝ }
     ensures { λ q. ⌜ q ≡ (horner r 39 + 512) / 1024 ⌝ }
 {

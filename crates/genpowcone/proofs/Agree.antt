@@ -5,8 +5,6 @@ use Rattle.genpowcone.proofs.unit_initialization.Reads as unit-initiali
 use Rattle.genpowcone.proofs.get_hs.Reads as get-hs
 use Rattle.genpowcone.proofs.mul_hs.Reads as mul-hs
 use Rattle.genpowcone.proofs.compute_barrier.Reads as compute-barrier
-use Rattle.genpowcone.proofs.primal_residue.Reads as primal-residue
-use Rattle.genpowcone.proofs.dual_residue.Reads as dual-residue
 use Rattle.genpowcone.proofs.is_primal_feasible.Reads as is-primal-feasible
 use Rattle.genpowcone.proofs.is_dual_feasible.Reads as is-dual-feasible
 use Rattle.genpowcone.proofs.barrier_primal.Reads as barrier-primal
@@ -25,12 +23,6 @@ mul-hs-agrees κs a x y s t p q = p ∙ sym q
 
 pub compute-barrier-agrees : OneAnswer compute-barrier.Post
 compute-barrier-agrees κs a x y s t p q = p ∙ sym q
-
-pub primal-residue-agrees : OneAnswer primal-residue.Post
-primal-residue-agrees κs a x y s t p q = p ∙ sym q
-
-pub dual-residue-agrees : OneAnswer dual-residue.Post
-dual-residue-agrees κs a x y s t p q = p ∙ sym q
 
 pub is-primal-feasible-agrees : OneAnswer is-primal-feasible.Post
 is-primal-feasible-agrees κs a x y s t p q = p ∙ sym q

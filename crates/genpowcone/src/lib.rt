@@ -163,7 +163,7 @@ fn residue_at(power: f64, square: f64) -> Residue
 }
 
 // `res` of is_primal_feasible.
-pub fn primal_residue(alpha: &[f64], s: &[f64]) -> Residue
+pub(crate) fn primal_residue(alpha: &[f64], s: &[f64]) -> Residue
     ensures { λ r. ⌜ r ≡ primalResidue (now (alpha .entry)) (now (s .entry)) ⌝ }
 {
     let power = exp(primal_log_sum(alpha, s));
@@ -172,7 +172,7 @@ pub fn primal_residue(alpha: &[f64], s: &[f64]) -> Residue
 }
 
 // `res` of is_dual_feasible, and what barrier_dual begins with.
-pub fn dual_residue(alpha: &[f64], z: &[f64]) -> Residue
+pub(crate) fn dual_residue(alpha: &[f64], z: &[f64]) -> Residue
     ensures { λ r. ⌜ r ≡ dualResidue (now (alpha .entry)) (now (z .entry)) ⌝ }
 {
     let power = exp(dual_log_sum(alpha, z));

@@ -348,7 +348,7 @@ fn of_rows(rows: [[u64; 16]; 16], k: usize, j: usize) -> u64
 }
 
 // The one reader of the table: its 256 numbers stay out of every other proof.
-pub fn entry(i: usize) -> u64
+pub(crate) fn entry(i: usize) -> u64
     requires { ⌜ i < 256 ⌝ }
     ensures { λ r. ⌜ r ≡ getD table i 0 ⌝ }
 {

@@ -3,12 +3,9 @@ use mathlib.Core.Path.{_∙_, sym}
 use Rattle.arith.specs.Outcomes.{OneAnswer}
 use Rattle.powcone.proofs.unit_initialization.Reads as unit-initialization
 use Rattle.powcone.proofs.compute_barrier.Reads as compute-barrier
-use Rattle.powcone.proofs.primal_residue.Reads as primal-residue
-use Rattle.powcone.proofs.dual_residue.Reads as dual-residue
 use Rattle.powcone.proofs.is_primal_feasible.Reads as is-primal-feasible
 use Rattle.powcone.proofs.is_dual_feasible.Reads as is-dual-feasible
 use Rattle.powcone.proofs.barrier_primal.Reads as barrier-primal
-use Rattle.powcone.proofs.dual_phi.Reads as dual-phi
 use Rattle.powcone.proofs.barrier_dual.Reads as barrier-dual
 use Rattle.powcone.proofs.update_dual_grad_h.Reads as update-dual-grad-h
 use Rattle.powcone.proofs.gradient_primal.Reads as gradient-primal
@@ -19,12 +16,6 @@ unit-initialization-agrees κs a x y s t p q = p ∙ sym q
 pub compute-barrier-agrees : OneAnswer compute-barrier.Post
 compute-barrier-agrees κs a x y s t p q = p ∙ sym q
 
-pub primal-residue-agrees : OneAnswer primal-residue.Post
-primal-residue-agrees κs a x y s t p q = p ∙ sym q
-
-pub dual-residue-agrees : OneAnswer dual-residue.Post
-dual-residue-agrees κs a x y s t p q = p ∙ sym q
-
 pub is-primal-feasible-agrees : OneAnswer is-primal-feasible.Post
 is-primal-feasible-agrees κs a x y s t p q = p ∙ sym q
 
@@ -33,9 +24,6 @@ is-dual-feasible-agrees κs a x y s t p q = p ∙ sym q
 
 pub barrier-primal-agrees : OneAnswer barrier-primal.Post
 barrier-primal-agrees κs a x y s t p q = p ∙ sym q
-
-pub dual-phi-agrees : OneAnswer dual-phi.Post
-dual-phi-agrees κs a x y s t p q = p ∙ sym q
 
 pub barrier-dual-agrees : OneAnswer barrier-dual.Post
 barrier-dual-agrees κs a x y s t p q = p ∙ sym q

@@ -82,7 +82,7 @@ fn residue_at(power: f64, s2: f64) -> Residue
 }
 
 // `res` of is_primal_feasible.
-pub fn primal_residue(alpha: f64, s: [f64; 3]) -> Residue
+pub(crate) fn primal_residue(alpha: f64, s: [f64; 3]) -> Residue
     ensures { λ r. ⌜ r ≡ primalResidue alpha s ⌝ }
 {
     let power = exp(2.0 * alpha * log(s[0]) + 2.0 * (1.0 - alpha) * log(s[1]));
@@ -90,7 +90,7 @@ pub fn primal_residue(alpha: f64, s: [f64; 3]) -> Residue
 }
 
 // `res` of is_dual_feasible.
-pub fn dual_residue(alpha: f64, z: [f64; 3]) -> Residue
+pub(crate) fn dual_residue(alpha: f64, z: [f64; 3]) -> Residue
     ensures { λ r. ⌜ r ≡ dualResidue alpha z ⌝ }
 {
     let power = exp(
@@ -149,7 +149,7 @@ fn barrier_primal_at(alpha: f64, g: [f64; 3]) -> f64
 }
 
 // (z1/α)^{2α} * (z2/(1-α))^{2-2α}, with which barrier_dual, higher_correction and update_dual_grad_h each begin
-pub fn dual_phi(alpha: f64, z0: f64, z1: f64) -> f64
+pub(crate) fn dual_phi(alpha: f64, z0: f64, z1: f64) -> f64
     ensures { λ r. ⌜ r ≡ dualPhi alpha z0 z1 ⌝ }
 {
     powf(z0 / alpha, 2.0 * alpha) * powf(z1 / (1.0 - alpha), 2.0 - 2.0 * alpha)

@@ -1,3 +1,2 @@
 -- EstimateRule: each entry is close on its whole interval.
 pub mod EstimateRule
-pub mod Agree

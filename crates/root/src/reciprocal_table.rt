@@ -155,7 +155,7 @@ fn place(m: u64) -> u64
 }
 
 // 2^12 over the root of m / 2^52, to seven bits.
-pub fn estimate(m: u64) -> u64
+pub(crate) fn estimate(m: u64) -> u64
     requires { ⌜ (2 ^ 52 ≤ m) × (m < 2 ^ 54) ⌝ }
     ensures { λ r. ⌜ r ≡ estimateOf m ⌝ }
 {

@@ -1,3 +1,2 @@
--- Packed blocks place by place; any two outcomes of a public function agree.
+-- Packed blocks place by place.
 mod Places
-mod Agree

@@ -27,7 +27,7 @@ pub struct Scaled {
 }
 
 // Choose the scaling strategy: dual, or else primal-dual. grad and h are the dual gradient and Hessian at z.
-pub fn update_hs(
+pub(crate) fn update_hs(
     kind: u32,
     alpha: f64,
     strategy: u32,
@@ -65,7 +65,7 @@ pub fn update_hs(
 }
 
 // implements dual only scaling
-pub fn use_dual_scaling(mu: f64, h: [f64; 6]) -> [f64; 6]
+pub(crate) fn use_dual_scaling(mu: f64, h: [f64; 6]) -> [f64; 6]
     ensures { λ r. ⌜ r ≡ scaledOf mu h ⌝ }
 {
     scaled_from(mu, h)

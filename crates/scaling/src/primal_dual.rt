@@ -17,7 +17,7 @@ pub struct Measures {
     pub de2: f64,
 }
 
-pub fn use_primal_dual_scaling(
+pub(crate) fn use_primal_dual_scaling(
     h: [f64; 6],
     st: [f64; 3],
     zt: [f64; 3],

@@ -1,3 +1,2 @@
 -- Tests of room that say the same (Room).
 pub mod Room
-pub mod Agree

@@ -28,7 +28,7 @@ fn dim(kind: u32, own: u32, other: u32) -> u32
 }
 
 // The numbers of a record beside its vectors; of a double, its bits.
-pub fn entry_of(cone: Cone, flag: u32, settings: Settings, steps: Steps) -> Entry
+pub(crate) fn entry_of(cone: Cone, flag: u32, settings: Settings, steps: Steps) -> Entry
     ensures { λ r. ⌜ r ≡ entryOf cone flag settings steps ⌝ }
 {
     let kind = cone.kind;
@@ -100,7 +100,7 @@ fn has_room(room: usize, used: usize, count: u32, size: usize) -> bool
 }
 
 // Where the record goes, or which number refuses it.
-pub fn place_for(
+pub(crate) fn place_for(
     trace: &[u8],
     used: usize,
     x: Entry,

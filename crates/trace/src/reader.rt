@@ -17,14 +17,14 @@ pub struct Reader<'a> {
 }
 
 // The record at a place, or that none stands there.
-pub fn found_from(bytes: &[u8], at: usize, edition: u32) -> Piece
+pub(crate) fn found_from(bytes: &[u8], at: usize, edition: u32) -> Piece
     ensures { λ r. ⌜ r ≡ foundFrom (now (bytes .entry)) at edition ⌝ }
 {
     found_at(edition, behind(bytes, at))
 }
 
 // The place behind the record at a place; where none stands there, the same place.
-pub fn place_after(bytes: &[u8], at: usize, edition: u32) -> usize
+pub(crate) fn place_after(bytes: &[u8], at: usize, edition: u32) -> usize
     ensures { λ r. ⌜ r ≡ placeAfter (now (bytes .entry)) at edition ⌝ }
 {
     let Piece::Record(shape) = found_from(bytes, at, edition) else {

@@ -95,7 +95,7 @@ fn put_vectors(bytes: &mut [u8], place: usize, dz: &[f64], ds: &[f64], z: &[f64]
 }
 
 // The whole record.
-pub fn put_record(
+pub(crate) fn put_record(
     bytes: &mut [u8],
     place: usize,
     edition: u32,

@@ -1,4 +1,3 @@
 -- Lines one behind the other (Lines), and closed cases of the text (Cases).
 pub mod Lines
 pub mod Cases
-pub mod Agree

@@ -29,7 +29,7 @@ fn blank() -> [f64; 64]
 }
 
 // Whether the search of a record gives the answers that the record holds. The points that it finds are nobody's.
-pub fn agrees(r: Recorded) -> bool
+pub(crate) fn agrees(r: Recorded) -> bool
     requires { ⌜ numelOf (r .cone) ≤ 64 ⌝ }
     ensures { λ same. ⌜ same ≡ agreesOf r ⌝ }
 {

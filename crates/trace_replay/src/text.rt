@@ -30,7 +30,13 @@ fn put_offsets(bytes: &mut [u8], place: usize, offsets: &[u64]) -> usize
 }
 
 // The whole text, from the slice's first byte on. The answer is its length.
-pub fn put_text(bytes: &mut [u8], records: u32, same: u32, differ: u32, offsets: &[u64]) -> usize
+pub(crate) fn put_text(
+    bytes: &mut [u8],
+    records: u32,
+    same: u32,
+    differ: u32,
+    offsets: &[u64],
+) -> usize
     requires { ⌜ 87 + 24 * length (now offsets) ≤ length (now bytes) ⌝ }
     ensures { λ r. ⌜ (r ≡ length (replayText records same differ (now (offsets .entry))))
         × (now (bytes .exit) ≡ sets (now (bytes .entry)) 0 (replayText records same differ (now (offsets .entry)))) ⌝ }

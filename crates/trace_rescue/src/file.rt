@@ -29,7 +29,7 @@ fn put_verdict(text: &mut [u8], place: usize, right: bool) -> usize
 }
 
 // The three lines, from the slice's first byte on. The answer is their length.
-pub fn put_text(text: &mut [u8], kept: u32, dropped: u64, right: bool) -> usize
+pub(crate) fn put_text(text: &mut [u8], kept: u32, dropped: u64, right: bool) -> usize
     requires { ⌜ 63 ≤ length (now text) ⌝ }
     ensures { λ r. ⌜ (r ≡ length (rescueText kept dropped right))
         × (now (text .exit) ≡ sets (now (text .entry)) 0 (rescueText kept dropped right)) ⌝ }

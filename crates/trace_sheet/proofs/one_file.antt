@@ -1,4 +1,3 @@
--- The turns of the loop over the records (Tallying), and what a file adds (Parts), and that any two outcomes agree (Agree).
+-- The turns of the loop over the records (Tallying), and what a file adds (Parts).
 pub mod Tallying
 pub mod Parts
-pub mod Agree

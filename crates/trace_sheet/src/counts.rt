@@ -13,7 +13,7 @@ pub struct Largest {
 }
 
 // The place of a step in its row: 0 of zero, 1 of the subnormal ones, and f + 1 of the exponent field f.
-pub fn place_of(step: u64) -> usize
+pub(crate) fn place_of(step: u64) -> usize
     ensures { λ r. ⌜ r ≡ placeOf step ⌝ }
 {
     if step == 0 {
@@ -23,7 +23,7 @@ pub fn place_of(step: u64) -> usize
 }
 
 // One step more in its place.
-pub fn count(row: &mut [u64], step: u64)
+pub(crate) fn count(row: &mut [u64], step: u64)
     requires { ⌜ (placeOf step < length (now row)) × (getD (now row) (placeOf step) 0 + 1 < 2 ^ 64) ⌝ }
     ensures { λ _. ⌜ now (row .exit) ≡ counted (now (row .entry)) step ⌝ }
 {
@@ -32,14 +32,14 @@ pub fn count(row: &mut [u64], step: u64)
 }
 
 // 02, Order 14: "the earlier largest kept on a tie". s is the earlier.
-pub fn larger_of(s: Largest, t: Largest) -> Largest
+pub(crate) fn larger_of(s: Largest, t: Largest) -> Largest
     ensures { λ r. ⌜ r ≡ largerOf s t ⌝ }
 {
     if s.size < t.size { t } else { s }
 }
 
 // 02, Order 14: "the second group's file numbers moved up by the first's file count". Where there are no records, no number is read.
-pub fn moved_up(files: u32, t: Largest) -> Largest
+pub(crate) fn moved_up(files: u32, t: Largest) -> Largest
     requires { ⌜ ((t .size ≡ 0 → ⊥) → t .file + files < 2 ^ 64) ⌝ }
     ensures { λ r. ⌜ r ≡ movedUp files t ⌝ }
 {

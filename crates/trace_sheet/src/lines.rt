@@ -115,7 +115,7 @@ fn put_most(text: &mut [u8], place: usize, primal: bool, largest: Largest) -> us
 }
 
 // The lines of a side, the first line at a place.
-pub fn put_side(
+pub(crate) fn put_side(
     text: &mut [u8],
     place: usize,
     primal: bool,
@@ -148,7 +148,7 @@ fn put_flag(text: &mut [u8], place: usize, file: u64, flag: u8) -> usize
 }
 
 // 02, Order 14: "is named first in a line `skipped file N`".
-pub fn put_flags(text: &mut [u8], flags: &[u8]) -> usize
+pub(crate) fn put_flags(text: &mut [u8], flags: &[u8]) -> usize
     requires { ⌜ (64 * length (now flags) ≤ length (now text)) × (length (now flags) ≤ mostFiles) ⌝ }
     ensures { λ r. ⌜ (r ≡ 0 + length (skippedLines 1 (now (flags .entry))))
         × (now (text .exit) ≡ sets (now (text .entry)) 0 (skippedLines 1 (now (flags .entry)))) ⌝ }

@@ -64,7 +64,7 @@ fn tests_at(t: &[u8], size: usize, primal: bool) -> u32
 }
 
 // The searches of one side of the whole records at the front of bytes, which of a good trace are all its records: steps counted in the row.
-pub fn tally_side(edition: u32, bytes: &[u8], primal: bool, row: &mut [u64]) -> Tally
+pub(crate) fn tally_side(edition: u32, bytes: &[u8], primal: bool, row: &mut [u64]) -> Tally
     requires { ⌜ Fresh (now row) ⌝ }
     ensures { λ r. ⌜ (r ≡ tallyOf (entriesIn primal 1 edition 0 (wholeRecords edition (now (bytes .entry)))))
         × (now (row .exit) ≡ countsOf (entriesIn primal 1 edition 0 (wholeRecords edition (now (bytes .entry))))) ⌝ }
@@ -121,7 +121,7 @@ fn nothing() -> Part
 // 02, Order 14: "a broken one, or one above 65,536 bytes, is .. left uncounted". Beside the equations the contract says what every call has
 // and the laws ask:
 // the file holds bytes.
-pub fn one_file(bytes: &[u8], dual: &mut [u64], primal: &mut [u64]) -> Part
+pub(crate) fn one_file(bytes: &[u8], dual: &mut [u64], primal: &mut [u64]) -> Part
     requires { ⌜ Fresh (now dual) × Fresh (now primal) ⌝ }
     ensures { λ r. ⌜ (r ≡ partOf (now (bytes .entry))) × (now (dual .exit) ≡ countsOf (entriesOf false 1 (now (bytes .entry))))
         × (now (primal .exit) ≡ countsOf (entriesOf true 1 (now (bytes .entry)))) × AllBelow 256 (now (bytes .entry)) ⌝ }

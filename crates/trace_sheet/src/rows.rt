@@ -31,7 +31,7 @@ pub struct Totals {
 }
 
 // Whether rows of these lengths hold a sheet of so many files.
-pub fn rows_ok(dual: usize, primal: usize, skipped: usize, files: u32) -> bool
+pub(crate) fn rows_ok(dual: usize, primal: usize, skipped: usize, files: u32) -> bool
     ensures { λ r. ⌜ r ≡ rowsOk dual primal skipped files ⌝ }
 {
     (dual == PLACES) & (primal == PLACES) & (files as usize <= skipped)
@@ -87,7 +87,7 @@ fn no_room(files: u32, more: u32, flags: usize, records: u64, others: u64) -> bo
 }
 
 // The table for a call on a sheet, which these three rows alone can refuse.
-pub fn sheet_row(length: bool, broken: bool, full: bool) -> u32
+pub(crate) fn sheet_row(length: bool, broken: bool, full: bool) -> u32
     ensures { λ r. ⌜ r ≡ sheetRow length broken full ⌝ }
 {
     if length {

@@ -1,5 +1,5 @@
 -- Laws of `firsts` (Thinning), of pieces (Pieces) and of records as pieces (Pieced); the loops that look for a piece (Seeking), move (Moving,
--- Sliding), choose (Choosing); and that any two outcomes agree (Agree).
+-- Sliding), choose (Choosing).
 pub mod Thinning
 pub mod Pieces
 pub mod Pieced
@@ -7,4 +7,3 @@ pub mod Seeking
 pub mod Moving
 pub mod Choosing
 pub mod Sliding
-pub mod Agree

@@ -19,7 +19,7 @@ pub struct Lengths {
 }
 
 // The three lines, from the slice's first byte on. The answer is their length.
-pub fn put_text(text: &mut [u8], new: u64, kept: u32, dropped: u32) -> usize
+pub(crate) fn put_text(text: &mut [u8], new: u64, kept: u32, dropped: u32) -> usize
     requires { ⌜ 83 ≤ length (now text) ⌝ }
     ensures { λ r. ⌜ (r ≡ length (thinText new kept dropped))
         × (now (text .exit) ≡ sets (now (text .entry)) 0 (thinText new kept dropped)) ⌝ }

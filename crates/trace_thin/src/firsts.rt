@@ -95,7 +95,7 @@ fn plus(n: usize, k: usize, so: bool) -> usize
 
 // The first of each kind among the records before the list. The walk leaves their places in the one row, the chosen ones come to its front,
 // and their numbers go to the other.
-pub fn choose(
+pub(crate) fn choose(
     bytes: &[u8],
     list: u64,
     edition: u32,
@@ -126,7 +126,7 @@ pub fn choose(
 // ---- moving
 
 // The pieces at the places, copied to the front of another slice. Their new places take the old ones' place.
-pub fn gather(output: &mut [u8], bytes: &[u8], places: &mut [u64], kept: usize)
+pub(crate) fn gather(output: &mut [u8], bytes: &[u8], places: &mut [u64], kept: usize)
     requires { ⌜ (kept ≤ length (now places)) × (length (joined (firstAt (now bytes) kept (now places))) ≤ length (now output)) ⌝ }
     ensures { λ _. ⌜ (now (output .exit) ≡ sets (now (output .entry)) 0 (joined (firstAt (now (bytes .entry)) kept (now (places .entry)))))
         × (now (places .exit) ≡ sets (now (places .entry)) 0 (offsets 0 (firstAt (now (bytes .entry)) kept (now (places .entry))))) ⌝ }
@@ -151,7 +151,7 @@ fn slide(bytes: &mut [u8], to: usize, from: usize, n: usize)
 }
 
 // The same within one slice. No piece lies before where those in front of it end, so that none is overwritten before it is read.
-pub fn move_down(bytes: &mut [u8], places: &mut [u64], kept: usize)
+pub(crate) fn move_down(bytes: &mut [u8], places: &mut [u64], kept: usize)
     requires { ⌜ (kept ≤ length (now places)) × Ahead (now bytes) 0 (take kept (now places)) ⌝ }
     ensures { λ _. ⌜ (now (bytes .exit) ≡ sets (now (bytes .entry)) 0 (joined (firstAt (now (bytes .entry)) kept (now (places .entry)))))
         × (now (places .exit) ≡ sets (now (places .entry)) 0 (offsets 0 (firstAt (now (bytes .entry)) kept (now (places .entry))))) ⌝ }
@@ -167,7 +167,7 @@ pub fn move_down(bytes: &mut [u8], places: &mut [u64], kept: usize)
 }
 
 // Zeros from a place to the end.
-pub fn clear(bytes: &mut [u8], place: usize)
+pub(crate) fn clear(bytes: &mut [u8], place: usize)
     ensures { λ _. ⌜ now (bytes .exit) ≡ sets (now (bytes .entry)) place (replicate (length (now (bytes .entry)) - place) 0) ⌝ }
 {
     for i in place..bytes.len() {

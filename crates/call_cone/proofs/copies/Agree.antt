@@ -6,12 +6,8 @@ use lib.Ieee.{Float}
 use denote.Ref.{now}
 use Rattle.arith.specs.Outcomes.{OneAnswer, OneOutcome}
 use Rattle.judges.proofs.Outcomes.{one}
-use Rattle.call_cone.proofs.copies.copy_rows.Reads as copy-rows
 use Rattle.call_cone.proofs.copies.affine_ds.Reads as affine-ds
 use Rattle.call_cone.proofs.copies.ds_from_dz_offset.Reads as ds-from-dz-offset
-
-pub copy-rows-agrees : OneAnswer copy-rows.Post
-copy-rows-agrees κs a x y s t p q = p ∙ sym q
 
 pub affine-ds-agrees : OneOutcome affine-ds.Post {A = List Float} (λ κs s. now (s .1 .0))
 affine-ds-agrees κs a x y s t p q = one {A = ℕ} (p ∙ sym q)

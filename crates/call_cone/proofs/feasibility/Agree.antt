@@ -1,12 +1,8 @@
 -- 01: "For each, show that any two outcomes allowed by it agree". Every contract here is one equation. Assumes nothing.
 use mathlib.Core.Path.{_∙_, sym}
 use Rattle.arith.specs.Outcomes.{OneAnswer}
-use Rattle.call_cone.proofs.feasibility.read_rows.Reads as read-rows
 use Rattle.call_cone.proofs.feasibility.is_primal_feasible.Reads as is-primal-feasible
 use Rattle.call_cone.proofs.feasibility.is_dual_feasible.Reads as is-dual-feasible
-
-pub read-rows-agrees : OneAnswer read-rows.Post
-read-rows-agrees κs a x y s t p q = p ∙ sym q
 
 pub is-primal-feasible-agrees : OneAnswer is-primal-feasible.Post
 is-primal-feasible-agrees κs a x y s t p q = p ∙ sym q

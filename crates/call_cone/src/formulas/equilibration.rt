@@ -7,7 +7,7 @@ ghost use Rattle.call_cone.specs.formulas.Equilibration.{rectifiedOf};
 use algebra::vector::mean;
 
 // rectify_equilibration: the reciprocals, scaled by the mean.
-pub fn rectified(e: &[f64]) -> [f64; 64]
+pub(crate) fn rectified(e: &[f64]) -> [f64; 64]
     requires { ⌜ length (now e) ≤ 64 ⌝ }
     ensures { λ r. ⌜ r ≡ wideOf (rectifiedOf (now (e .entry))) ⌝ }
 {

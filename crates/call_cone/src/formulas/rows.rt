@@ -8,7 +8,7 @@ use cone::table::no_faults;
 use judges::cone_ok;
 use judges::numel;
 
-pub fn fresh_rows(cone: Cone) -> u32
+pub(crate) fn fresh_rows(cone: Cone) -> u32
     ensures { λ r. ⌜ r ≡ freshRows cone ⌝ }
 {
     let mut faults = no_faults();
@@ -16,7 +16,7 @@ pub fn fresh_rows(cone: Cone) -> u32
     first_row(faults)
 }
 
-pub fn unit_rows(cone: Cone, z: usize, s: usize) -> u32
+pub(crate) fn unit_rows(cone: Cone, z: usize, s: usize) -> u32
     ensures { λ r. ⌜ r ≡ unitRows cone z s ⌝ }
 {
     let n = numel(cone);

@@ -6,12 +6,8 @@ use lib.Ieee.{Float}
 use denote.Ref.{now}
 use Rattle.arith.specs.Outcomes.{OneAnswer, OneOutcome}
 use Rattle.judges.proofs.Outcomes.{one}
-use Rattle.call_record.proofs.blocks.rows.Reads as rows
 use Rattle.call_record.proofs.blocks.get_hs.Reads as get-hs
 use Rattle.call_record.proofs.blocks.mul_hs.Reads as mul-hs
-
-pub rows-agrees : OneAnswer rows.Post
-rows-agrees κs a x y s t p q = p ∙ sym q
 
 pub get-hs-agrees : OneOutcome get-hs.Post {A = List Float} (λ κs s. now (s .1 .1 .1 .1 .1 .1 .0))
 get-hs-agrees κs a x y s t p q = one {A = ℕ} (p ∙ sym q)

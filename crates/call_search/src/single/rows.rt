@@ -12,7 +12,13 @@ use judges::settings_finite;
 use judges::settings_ok;
 use judges::sides_finite;
 
-pub fn search_rows(cone: Cone, dq: &[f64], q: &[f64], point: usize, settings: Settings) -> u32
+pub(crate) fn search_rows(
+    cone: Cone,
+    dq: &[f64],
+    q: &[f64],
+    point: usize,
+    settings: Settings,
+) -> u32
     ensures { λ r. ⌜ r ≡ searchRows cone (now (dq .entry)) (now (q .entry)) point settings ⌝ }
 {
     let n = numel(cone);
@@ -24,7 +30,7 @@ pub fn search_rows(cone: Cone, dq: &[f64], q: &[f64], point: usize, settings: Se
     first_row(faults)
 }
 
-pub fn step_rows(
+pub(crate) fn step_rows(
     cone: Cone,
     dz: &[f64],
     ds: &[f64],

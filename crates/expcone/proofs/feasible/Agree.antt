@@ -1,16 +1,8 @@
 -- 01: "For each, show that any two outcomes allowed by it agree". Every contract here is one equation. Assumes nothing.
 use mathlib.Core.Path.{_∙_, sym}
 use Rattle.arith.specs.Outcomes.{OneAnswer}
-use Rattle.expcone.proofs.feasible.primal_residue.Reads as primal-residue
-use Rattle.expcone.proofs.feasible.dual_residue.Reads as dual-residue
 use Rattle.expcone.proofs.feasible.is_primal_feasible.Reads as is-primal-feasible
 use Rattle.expcone.proofs.feasible.is_dual_feasible.Reads as is-dual-feasible
-
-pub primal-residue-agrees : OneAnswer primal-residue.Post
-primal-residue-agrees κs a x y s t p q = p ∙ sym q
-
-pub dual-residue-agrees : OneAnswer dual-residue.Post
-dual-residue-agrees κs a x y s t p q = p ∙ sym q
 
 pub is-primal-feasible-agrees : OneAnswer is-primal-feasible.Post
 is-primal-feasible-agrees κs a x y s t p q = p ∙ sym q

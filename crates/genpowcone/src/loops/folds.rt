@@ -9,7 +9,7 @@ use kernels::power;
 use kernels::powf;
 
 // Whether every number is above 0. The Rust's `all` stops at the first that is not; the answer is the same.
-pub fn all_above_zero(xs: &[f64]) -> bool
+pub(crate) fn all_above_zero(xs: &[f64]) -> bool
     ensures { λ r. ⌜ r ≡ allAboveZero (now (xs .entry)) ⌝ }
 {
     let mut all = true;
@@ -19,7 +19,7 @@ pub fn all_above_zero(xs: &[f64]) -> bool
     all
 }
 
-pub fn primal_log_sum(alpha: &[f64], s: &[f64]) -> f64
+pub(crate) fn primal_log_sum(alpha: &[f64], s: &[f64]) -> f64
     ensures { λ r. ⌜ r ≡ primalLogSum (now (alpha .entry)) (now (s .entry)) ⌝ }
 {
     let n = shorter(alpha.len(), s.len());
@@ -30,7 +30,7 @@ pub fn primal_log_sum(alpha: &[f64], s: &[f64]) -> f64
     res
 }
 
-pub fn dual_log_sum(alpha: &[f64], z: &[f64]) -> f64
+pub(crate) fn dual_log_sum(alpha: &[f64], z: &[f64]) -> f64
     ensures { λ r. ⌜ r ≡ dualLogSum (now (alpha .entry)) (now (z .entry)) ⌝ }
 {
     let n = shorter(alpha.len(), z.len());
@@ -43,7 +43,7 @@ pub fn dual_log_sum(alpha: &[f64], z: &[f64]) -> f64
 }
 
 // The second loop of barrier_dual, from `start` on.
-pub fn less_logs(start: f64, alpha: &[f64], z: &[f64]) -> f64
+pub(crate) fn less_logs(start: f64, alpha: &[f64], z: &[f64]) -> f64
     ensures { λ r. ⌜ r ≡ lessLogs start (now (alpha .entry)) (now (z .entry)) ⌝ }
 {
     let n = shorter(alpha.len(), z.len());
@@ -55,7 +55,7 @@ pub fn less_logs(start: f64, alpha: &[f64], z: &[f64]) -> f64
 }
 
 // p is the head of the point, and logs are its logarithms, which the Rust's powf takes for itself.
-pub fn primal_phi(alpha: &[f64], p: &[f64], logs: &[f64]) -> f64
+pub(crate) fn primal_phi(alpha: &[f64], p: &[f64], logs: &[f64]) -> f64
     requires { ⌜ now logs ≡ map logOf (now p) ⌝ }
     ensures { λ r. ⌜ r ≡ primalPhi (now (alpha .entry)) (now (p .entry)) ⌝ }
 {
@@ -67,7 +67,7 @@ pub fn primal_phi(alpha: &[f64], p: &[f64], logs: &[f64]) -> f64
     phi
 }
 
-pub fn dual_phi(alpha: &[f64], z: &[f64]) -> f64
+pub(crate) fn dual_phi(alpha: &[f64], z: &[f64]) -> f64
     ensures { λ r. ⌜ r ≡ dualPhi (now (alpha .entry)) (now (z .entry)) ⌝ }
 {
     let n = shorter(alpha.len(), z.len());

@@ -10,7 +10,7 @@ use kernels::log;
 use kernels::sqrt;
 
 // c*x in each place.
-pub fn times32(c: f64, xs: &[f64]) -> [f64; 32]
+pub(crate) fn times32(c: f64, xs: &[f64]) -> [f64; 32]
     requires { ⌜ length (now xs) ≤ 32 ⌝ }
     ensures { λ r. ⌜ r ≡ narrow (timesAt c (now (xs .entry))) (length (now (xs .entry))) ⌝ }
 {
@@ -22,7 +22,7 @@ pub fn times32(c: f64, xs: &[f64]) -> [f64; 32]
 }
 
 // c*x from place n on.
-pub fn times_from(g0: [f64; 64], n: usize, c: f64, xs: &[f64]) -> [f64; 64]
+pub(crate) fn times_from(g0: [f64; 64], n: usize, c: f64, xs: &[f64]) -> [f64; 64]
     requires { ⌜ n + length (now xs) ≤ 64 ⌝ }
     ensures { λ r. ⌜ r ≡ withTail g0 n (timesAt c (now (xs .entry))) (length (now (xs .entry))) ⌝ }
 {
@@ -35,7 +35,7 @@ pub fn times_from(g0: [f64; 64], n: usize, c: f64, xs: &[f64]) -> [f64; 64]
 }
 
 // `scale`: x*c in each place.
-pub fn scale32(xs: &[f64], c: f64) -> [f64; 32]
+pub(crate) fn scale32(xs: &[f64], c: f64) -> [f64; 32]
     requires { ⌜ length (now xs) ≤ 32 ⌝ }
     ensures { λ r. ⌜ r ≡ narrow (scaledAt (now (xs .entry)) c) (length (now (xs .entry))) ⌝ }
 {
@@ -47,7 +47,7 @@ pub fn scale32(xs: &[f64], c: f64) -> [f64; 32]
 }
 
 // `set`: v in the m places from place n on.
-pub fn set_tail(g0: [f64; 64], n: usize, m: usize, v: f64) -> [f64; 64]
+pub(crate) fn set_tail(g0: [f64; 64], n: usize, m: usize, v: f64) -> [f64; 64]
     requires { ⌜ n + m ≤ 64 ⌝ }
     ensures { λ r. ⌜ r ≡ withTail g0 n (constantAt v) m ⌝ }
 {
@@ -60,7 +60,7 @@ pub fn set_tail(g0: [f64; 64], n: usize, m: usize, v: f64) -> [f64; 64]
 }
 
 // log(x) in each place.
-pub fn logarithms(xs: &[f64]) -> [f64; 64]
+pub(crate) fn logarithms(xs: &[f64]) -> [f64; 64]
     requires { ⌜ length (now xs) ≤ 64 ⌝ }
     ensures { λ r. ⌜ r ≡ wide (logAt (now (xs .entry))) (length (now (xs .entry))) ⌝ }
 {
@@ -72,7 +72,7 @@ pub fn logarithms(xs: &[f64]) -> [f64; 64]
 }
 
 // (1 + x)/x in each place.
-pub fn ratios(xs: &[f64]) -> [f64; 64]
+pub(crate) fn ratios(xs: &[f64]) -> [f64; 64]
     requires { ⌜ length (now xs) ≤ 64 ⌝ }
     ensures { λ r. ⌜ r ≡ wide (ratioAt (now (xs .entry))) (length (now (xs .entry))) ⌝ }
 {
@@ -85,7 +85,7 @@ pub fn ratios(xs: &[f64]) -> [f64; 64]
 }
 
 // `negate`
-pub fn negated(xs: &[f64]) -> [f64; 64]
+pub(crate) fn negated(xs: &[f64]) -> [f64; 64]
     requires { ⌜ length (now xs) ≤ 64 ⌝ }
     ensures { λ r. ⌜ r ≡ wide (negatedAt (now (xs .entry))) (length (now (xs .entry))) ⌝ }
 {
@@ -97,7 +97,7 @@ pub fn negated(xs: &[f64]) -> [f64; 64]
 }
 
 // `waxpby` with the factor 1: x + a*dx, over the shorter of the two.
-pub fn moved(x: &[f64], a: f64, dx: &[f64]) -> [f64; 64]
+pub(crate) fn moved(x: &[f64], a: f64, dx: &[f64]) -> [f64; 64]
     requires { ⌜ length (now x) ≤ 64 ⌝ }
     ensures { λ r. ⌜ r ≡ wide (movedAt (now (x .entry)) a (now (dx .entry))) (min (length (now (x .entry))) (length (now (dx .entry)))) ⌝ }
 {
@@ -110,7 +110,7 @@ pub fn moved(x: &[f64], a: f64, dx: &[f64]) -> [f64; 64]
 }
 
 // The head of unit_initialization.
-pub fn unit_head(alpha: &[f64]) -> [f64; 64]
+pub(crate) fn unit_head(alpha: &[f64]) -> [f64; 64]
     requires { ⌜ length (now alpha) ≤ 64 ⌝ }
     ensures { λ r. ⌜ r ≡ wide (unitAt (now (alpha .entry))) (length (now (alpha .entry))) ⌝ }
 {
@@ -122,7 +122,7 @@ pub fn unit_head(alpha: &[f64]) -> [f64; 64]
 }
 
 // The head of gradient_primal where Newton was entered.
-pub fn gradient_head(alpha: &[f64], p: &[f64], g1: f64, normr: f64) -> [f64; 64]
+pub(crate) fn gradient_head(alpha: &[f64], p: &[f64], g1: f64, normr: f64) -> [f64; 64]
     requires { ⌜ length (now alpha) ≤ 64 ⌝ }
     ensures { λ r. ⌜ r ≡ wide (headAt (now (alpha .entry)) (now (p .entry)) g1 normr)
         (min (length (now (alpha .entry))) (length (now (p .entry)))) ⌝ }
@@ -137,7 +137,7 @@ pub fn gradient_head(alpha: &[f64], p: &[f64], g1: f64, normr: f64) -> [f64; 64]
 }
 
 // The head of gradient_primal where it was not.
-pub fn gradient_flat_head(alpha: &[f64], p: &[f64]) -> [f64; 64]
+pub(crate) fn gradient_flat_head(alpha: &[f64], p: &[f64]) -> [f64; 64]
     requires { ⌜ length (now alpha) ≤ 64 ⌝ }
     ensures { λ r. ⌜ r ≡ wide (flatHeadAt (now (alpha .entry)) (now (p .entry)))
         (min (length (now (alpha .entry))) (length (now (p .entry)))) ⌝ }
@@ -156,7 +156,7 @@ pub struct Heads {
     pub grad: [f64; 64],
 }
 
-pub fn tau_and_grad(alpha: &[f64], z: &[f64], phi: f64, zeta: f64) -> Heads
+pub(crate) fn tau_and_grad(alpha: &[f64], z: &[f64], phi: f64, zeta: f64) -> Heads
     requires { ⌜ length (now alpha) ≤ 32 ⌝ }
     ensures { λ r. ⌜ r ≡ headsOf (now (alpha .entry)) (now (z .entry)) phi zeta ⌝ }
 {
@@ -173,7 +173,7 @@ pub fn tau_and_grad(alpha: &[f64], z: &[f64], phi: f64, zeta: f64) -> Heads
     Heads { tau, grad }
 }
 
-pub fn diagonal(alpha: &[f64], z: &[f64], tau: &[f64; 32], phi: f64, zeta: f64) -> [f64; 32]
+pub(crate) fn diagonal(alpha: &[f64], z: &[f64], tau: &[f64; 32], phi: f64, zeta: f64) -> [f64; 32]
     requires { ⌜ length (now alpha) ≤ 32 ⌝ }
     ensures { λ r. ⌜ r ≡ narrow (d1At (now (alpha .entry)) (now (z .entry)) (now (tau .entry)) phi zeta)
         (min (length (now (alpha .entry))) (length (now (z .entry)))) ⌝ }
@@ -188,7 +188,7 @@ pub fn diagonal(alpha: &[f64], z: &[f64], tau: &[f64; 32], phi: f64, zeta: f64) 
 }
 
 // mul_hs, y1 .= K.d1 .* x1 - coef_q.*K.q
-pub fn product_head(d1: &[f64; 32], q: &[f64; 32], coefq: f64, x: &[f64]) -> [f64; 64]
+pub(crate) fn product_head(d1: &[f64; 32], q: &[f64; 32], coefq: f64, x: &[f64]) -> [f64; 64]
     requires { ⌜ length (now x) ≤ 32 ⌝ }
     ensures { λ r. ⌜ r ≡ wide (productHeadAt (now (d1 .entry)) (now (q .entry)) coefq (now (x .entry))) (length (now (x .entry))) ⌝ }
 {
@@ -200,7 +200,7 @@ pub fn product_head(d1: &[f64; 32], q: &[f64; 32], coefq: f64, x: &[f64]) -> [f6
 }
 
 // mul_hs, y2 .= K.d2 .* x2 - coef_r.*K.r, from place n on
-pub fn product_tail(
+pub(crate) fn product_tail(
     y0: [f64; 64],
     n: usize,
     d2: f64,
@@ -220,7 +220,13 @@ pub fn product_tail(
 }
 
 // mul_hs, y.axpby(coef_p, p, 1) and y.scale(μ): the first n places
-pub fn product_finished(y: &[f64; 64], n: usize, coefp: f64, p: &[f64; 64], mu: f64) -> [f64; 64]
+pub(crate) fn product_finished(
+    y: &[f64; 64],
+    n: usize,
+    coefp: f64,
+    p: &[f64; 64],
+    mu: f64,
+) -> [f64; 64]
     requires { ⌜ n ≤ 64 ⌝ }
     ensures { λ r. ⌜ r ≡ wide (finishedAt (now (y .entry)) coefp (now (p .entry)) mu) n ⌝ }
 {

@@ -2,16 +2,8 @@
 -- a Reader, whose contracts say each field of their answer. Assumes nothing.
 use mathlib.Core.Path.{sym, _∙_}
 use Rattle.arith.specs.Outcomes.{OneAnswer}
-use Rattle.trace.proofs.reader.found_from.Reads as found-from
-use Rattle.trace.proofs.reader.place_after.Reads as place-after
 use Rattle.trace.proofs.reader.current_in.Reads as current-in
 use Rattle.trace.proofs.reader.place_in.Reads as place-in
-
-pub found-from-agrees : OneAnswer found-from.Post
-found-from-agrees κs a x y s t p q = p ∙ sym q
-
-pub place-after-agrees : OneAnswer place-after.Post
-place-after-agrees κs a x y s t p q = p ∙ sym q
 
 pub current-in-agrees : OneAnswer current-in.Post
 current-in-agrees κs a x y s t p q = p ∙ sym q

@@ -26,7 +26,7 @@ fn move_up(bytes: &mut [u8], from: usize, n: usize, by: usize)
 }
 
 // 02: "offset of that list (u64), record count (u32), edition (u32, now 1), four bytes `BACK`"
-pub fn put_trailer(bytes: &mut [u8], place: usize, list: u64, count: u32, edition: u32)
+pub(crate) fn put_trailer(bytes: &mut [u8], place: usize, list: u64, count: u32, edition: u32)
     requires { ⌜ place + trailerSize ≤ length (now bytes) ⌝ }
     ensures { λ _. ⌜ now (bytes .exit) ≡ sets (now (bytes .entry)) place (trailerOf list count edition) ⌝ }
 {
@@ -46,7 +46,7 @@ fn put_end(bytes: &mut [u8], place: usize, at: u64, list: u64, count: u32, editi
 
 // One record more in a trace whose list stands at a place: the list is moved up, the
 // record goes to its old place, and its entry and the trailer behind the list.
-pub fn insert(
+pub(crate) fn insert(
     bytes: &mut [u8],
     place: Place,
     x: Entry,

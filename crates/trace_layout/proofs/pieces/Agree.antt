@@ -8,7 +8,6 @@ use Rattle.trace_layout.proofs.pieces.layout.flag_place.Reads as flag-p
 use Rattle.trace_layout.proofs.pieces.layout.size_for.Reads as size-for
 use Rattle.trace_layout.proofs.pieces.layout.shape_ok.Reads as shape-ok
 use Rattle.trace_layout.proofs.pieces.layout.step_ok.Reads as step-ok
-use Rattle.trace_layout.proofs.pieces.layout.shape_at.Reads as shape-at
 use Rattle.trace_layout.proofs.pieces.layout.found_at.Reads as found-at
 
 pub rules-in-agrees : OneAnswer rules-in.Post
@@ -31,9 +30,6 @@ shape-ok-agrees κs a x y s t p q = p ∙ sym q
 
 pub step-ok-agrees : OneAnswer step-ok.Post
 step-ok-agrees κs a x y s t p q = p ∙ sym q
-
-pub shape-at-agrees : OneAnswer shape-at.Post
-shape-at-agrees κs a x y s t p q = p ∙ sym q
 
 pub found-at-agrees : OneAnswer found-at.Post
 found-at-agrees κs a x y s t p q = p ∙ sym q

@@ -81,7 +81,7 @@ pub fn step_ok(bits: u64) -> bool
 }
 
 // The numbers of the shape as they stand there, whatever they are.
-pub fn shape_at(edition: u32, t: &[u8]) -> Shape
+pub(crate) fn shape_at(edition: u32, t: &[u8]) -> Shape
     ensures { λ r. ⌜ r ≡ shapeAt edition (now (t .entry)) ⌝ }
 {
     let kind = u32_at(t, 8);

@@ -4,12 +4,8 @@ use mathlib.Core.List.{List}
 use Prim.Native.Nat.{ℕ}
 use denote.Ref.{now}
 use Rattle.arith.specs.Outcomes.{OneAnswer, OneOutcome}
-use Rattle.trace_rescue.proofs.file.put_text.Reads as put-text
 use Rattle.trace_rescue.proofs.file.put_rescue.Reads as put-rescue
 use Rattle.trace_rescue.proofs.file.edition_of.Reads as edition-of
-
-pub put-text-agrees : OneOutcome put-text.Post {A = List ℕ} (λ κs s. now (s .0))
-put-text-agrees κs a x y s t p q = (p .0 ∙ sym (q .0), p .1 ∙ sym (q .1))
 
 both : {a b c d : List ℕ} → a ≡ b → c ≡ d → _≡_ {A = List ℕ × List ℕ} (a, c) (b, d)
 both p q = rw (p, q)

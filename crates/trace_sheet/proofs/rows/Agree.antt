@@ -5,16 +5,8 @@ use Prim.Native.Nat.{ℕ}
 use denote.Ref.{now}
 use Rattle.arith.specs.Outcomes.{OneAnswer, OneOutcome}
 use Rattle.trace_sheet.specs.rows.Rows.{Held}
-use Rattle.trace_sheet.proofs.rows.rows_ok.Reads as rows-ok
-use Rattle.trace_sheet.proofs.rows.sheet_row.Reads as sheet-row
 use Rattle.trace_sheet.proofs.rows.join.Reads as joining
 use Rattle.trace_sheet.proofs.rows.add.Reads as adding
-
-pub rows-ok-agrees : OneAnswer rows-ok.Post
-rows-ok-agrees κs a x y s t p q = p ∙ sym q
-
-pub sheet-row-agrees : OneAnswer sheet-row.Post
-sheet-row-agrees κs a x y s t p q = p ∙ sym q
 
 -- two outcomes that equal the same
 rows-alike : {x y : Held} → x ≡ y → _≡_ {A = List ℕ × List ℕ × List ℕ} (x .dual, x .primal, x .skipped) (y .dual, y .primal, y .skipped)

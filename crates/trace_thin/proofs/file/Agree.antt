@@ -4,11 +4,7 @@ use mathlib.Core.List.{List}
 use Prim.Native.Nat.{ℕ}
 use denote.Ref.{now}
 use Rattle.arith.specs.Outcomes.{OneOutcome}
-use Rattle.trace_thin.proofs.file.put_text.Reads as put-text
 use Rattle.trace_thin.proofs.file.put_thin.Reads as put-thin
-
-pub put-text-agrees : OneOutcome put-text.Post {A = List ℕ} (λ κs s. now (s .0))
-put-text-agrees κs a x y s t p q = (p .0 ∙ sym (q .0), p .1 ∙ sym (q .1))
 
 pub put-thin-agrees : OneOutcome put-thin.Post {A = List ℕ × List ℕ} (λ κs s. (now (s .1 .0), now (s .1 .1 .0)))
 put-thin-agrees κs a x y s t p q = (p .0 ∙ sym (q .0), (cc))

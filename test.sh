@@ -4,7 +4,7 @@
 #   sh test.sh            everything, from nothing
 #   sh test.sh --quick    only the checks of files: layout, lint, listed crates, silent answers, lemmas of agreement, edits' form, names, versions, paths
 #   sh test.sh --outside  only what runs over the library as it is built for this machine: the C examples, the fixed list, the kernels, a gradient, exact points,
-#                         the traces, the comparison with the Rust, the Rust crate, the Python module, projects outside of the repository
+#                         the traces, the programs over them with faults and in two wrong versions, the comparison with the Rust, the Rust crate, the Python module, projects outside of the repository
 #   sh test.sh --help     this text
 #
 # Exit status 0 only if everything passed; 2: bad usage, or a command is missing.
@@ -87,8 +87,11 @@ outside() {
     say "traces written and read, against two other readings of their layout (tests/traces/run)"
     tests/traces/run
 
-    say "the programs rescue and thin where something fails: no space, a kill, a folder that may not be written (tests/programs/run)"
+    say "the programs over traces where something fails: no space, a kill, a read, a folder that may not be written (tests/programs/run)"
     tests/programs/run
+
+    say "wrong versions of the programs over traces must be seen there (a short run of tests/programs/wrong)"
+    tests/programs/wrong --short
 
     say "the port against the Rust, call by call (a short run of oracle/compare.sh)"
     oracle/compare.sh --calls 300000

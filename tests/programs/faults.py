@@ -1,8 +1,10 @@
 #!/usr/bin/env python3
-"""faults: what rescue and thin leave of OUT when something fails. tests/programs/run builds what it needs, and calls it.
+"""faults: what rescue and thin leave of OUT when something fails, and what replay and sheet say. tests/programs/run builds what it needs, and calls it.
 
-usage: faults.py FOLDER     with the programs in FOLDER/bin, cut traces in FOLDER/cut and traces with equal records in FOLDER/equal
+usage: faults.py FOLDER     with the programs in FOLDER/bin, the same with calls of the system that fail (faults.c) in FOLDER/faulty, cut traces in
+                            FOLDER/cut and traces with equal records in FOLDER/equal
 """
+import errno
 import os
 import random
 import resource
@@ -15,6 +17,7 @@ import time
 from pathlib import Path
 
 WORK = Path(sys.argv[1])
+ROOT = Path(__file__).resolve().parent.parent.parent
 NOBODY = 65534
 KILLS = 150
 tries = 0
@@ -43,6 +46,19 @@ class Job:
         tries += 1
         words = [self.program, given or self.given, out, *(self.word if word is None else word)]
         return subprocess.run(words, capture_output=True, check=False, preexec_fn=before)
+
+    def faulty(self, fault, out, given=None, short=None):
+        """The same with a fault: a call of the system, which of its calls fails, and the error."""
+        return faulty(self.program.name, fault, [given or self.given, out, *self.word], short)
+
+
+def faulty(program, fault, words, short=None):
+    global tries
+    tries += 1
+    environment = {"FAULT": " ".join(map(str, fault))} if fault else {}
+    if short:
+        environment["SHORT"] = str(short)
+    return subprocess.run([WORK / "faulty" / program, *words], capture_output=True, check=False, env=environment)
 
 
 def one_line(what, run, *words):
@@ -90,6 +106,32 @@ def fresh(name):
 
 JOBS = [Job("rescue", "cut/cut-400.in", "3"), Job("thin", "equal/drawn-40.in")]
 OLD = b"the file that was there before"
+
+# ---- where nothing fails, each program prints what its crate has in the file stdout, and rescue and thin write the same as the second reading
+for program in "rescue", "thin", "replay", "sheet":
+    crate = ROOT / "crates" / program
+    folder = fresh(f"example-{program}")
+    for path in (crate / "data").iterdir():
+        (folder / path.name).write_bytes(path.read_bytes())
+    tries += 1
+    run = subprocess.run([WORK / "bin" / program, *(crate / "args").read_text().split()], cwd=folder, capture_output=True, check=False)
+    if run.stdout != (crate / "stdout").read_bytes() or run.stderr:
+        fail(f"{program} on its example: printed {run.stdout!r}, said {run.stderr!r}")
+
+# ---- a file that is refused leaves OUT alone, and is said on standard output
+for program, given in ("rescue", "cut/too-large.in"), ("thin", "cut/too-large.in"), ("thin", "cut/cut-400.in"):
+    folder = fresh(f"refused-{program}-{Path(given).stem}")
+    out = folder / "out"
+    for old in OLD, None:
+        out.unlink(missing_ok=True)
+        if old is not None:
+            out.write_bytes(old)
+        tries += 1
+        run = subprocess.run([WORK / "bin" / program, WORK / given, out], capture_output=True, check=False)
+        if not run.stdout.startswith(b"refused ") or run.stderr:
+            fail(f"{program} {given}: printed {run.stdout!r}, said {run.stderr!r}")
+        as_it_was(f"{program} {given}", out, old)
+        alone(f"{program} {given}", folder, *(["out"] if old is not None else []))
 
 # ---- no space: OUT there, not there, and the same file as IN
 for job in JOBS:
@@ -152,8 +194,9 @@ for job in JOBS:
     out.chmod(0o666)
     before = somebody_else if os.getuid() == 0 else None
     folder.chmod(0o555)
-    one_line(f"{job} into a folder that may not be written", job.run(out, before=before), str(out), "Permission denied")
-    one_line(f"{job} of a new file there", job.run(folder / "new", before=before), "new: Permission denied")
+    reason = "no new file can be made in its folder: Permission denied"
+    one_line(f"{job} into a folder that may not be written", job.run(out, before=before), f"{out}: {reason}")
+    one_line(f"{job} of a new file there", job.run(folder / "new", before=before), f"new: {reason}")
     folder.chmod(0o777)
     out.chmod(0o444)
     one_line(f"{job} into a file that may not be written", job.run(out, before=before), str(out), "Permission denied")
@@ -169,6 +212,86 @@ for job in JOBS:
     one_line(f"{job} into a long name", job.run(long), "File name too long")
     as_it_was(f"{job} into a link", out, OLD)
     alone(f"{job} into a link", folder, "link", "out")
+
+# ---- a read that fails once, at every place, and then goes well: nothing is taken for the file's end. Reads that bring little are no fault
+def reads(path, short):
+    return 2 if short is None else -(-path.stat().st_size // short) + 1
+
+
+for job in JOBS:
+    folder = fresh(f"read-{job.program.name}")
+    out = folder / "out"
+    for short in None, 61:
+        out.write_bytes(OLD)
+        run = job.faulty(None, out, short=short)
+        if run.stdout != job.text or run.stderr or out.read_bytes() != job.new:
+            fail(f"{job} by short reads: printed {run.stdout!r}, said {run.stderr!r}")
+        for same in False, True:
+            old = job.given.read_bytes() if same else OLD
+            for which in range(1, reads(job.given, short) + 1):
+                out.write_bytes(old)
+                what = f"{job}, read {which} failed"
+                given = out if same else job.given
+                one_line(what, job.faulty(("read", which, errno.EIO), out, given, short), f"{given}: Input/output error")
+                as_it_was(what, out, old)
+                alone(what, folder, "out")
+for program, files in ("replay", [JOBS[1].given]), ("sheet", [JOBS[1].given, JOBS[0].given]):
+    text = faulty(program, None, files).stdout
+    for short in None, 61:
+        first = reads(files[0], short)
+        if not text or faulty(program, None, files, short).stdout != text:
+            fail(f"{program} by short reads")
+        for which in range(1, sum(reads(path, short) for path in files) + 1):
+            run = faulty(program, ("read", which, errno.EIO), files, short)
+            one_line(f"{program}, read {which} failed", run, f"{files[0 if which <= first else 1]}: Input/output error")
+
+# ---- what the new file's writing can fail at: OUT is as it was. No fault has the old file written to
+for job in JOBS:
+    folder = fresh(f"write-{job.program.name}")
+    out = folder / "out"
+    for fault in (("write", 1, errno.ENOSPC), ("fsync", 0, errno.EIO), ("fsync", 0, errno.EINVAL), ("fchmod", 1, errno.EPERM), ("rename", 1, errno.EXDEV)):
+        for old in OLD, None:
+            out.unlink(missing_ok=True)
+            if old is not None:
+                out.write_bytes(old)
+            elif fault[0] == "fchmod":
+                continue
+            what = f"{job}, {fault[0]} failed with {errno.errorcode[fault[2]]}"
+            one_line(what, job.faulty(fault, out), f"{out}: {os.strerror(fault[2])}")
+            as_it_was(what, out, old)
+            alone(what, folder, *(["out"] if old is not None else []))
+
+# ---- the old file's mode is kept, whatever the umask; a second name of the old file keeps the old bytes
+for job in JOBS:
+    folder = fresh(f"mode-{job.program.name}")
+    out = folder / "out"
+    modes = [0o600, 0o640, 0o644, 0o660, 0o666, 0o755] + ([0o444, 0o400, 0o000] if os.getuid() == 0 else [])
+    for mode in modes:
+        for mask in 0o022, 0o077:
+            out.unlink(missing_ok=True)
+            out.write_bytes(OLD)
+            out.chmod(mode)
+            run = job.run(out, before=lambda mask=mask: os.umask(mask))
+            now = stat.S_IMODE(out.stat().st_mode)
+            if run.stderr or run.stdout != job.text or now != mode:
+                fail(f"{job} of a file of mode {mode:o}, umask {mask:o}: its mode is {now:o}, said {run.stderr!r}")
+            out.chmod(0o600)
+            if out.read_bytes() != job.new:
+                fail(f"{job} of a file of mode {mode:o}: another trace was written")
+    out.write_bytes(OLD)
+    second = folder / "second"
+    os.link(out, second)
+    job.run(out)
+    if out.read_bytes() != job.new or second.read_bytes() != OLD:
+        fail(f"{job} of a file with two names")
+    if os.getuid() == 0:
+        out.write_bytes(OLD)
+        out.chmod(0o600)
+        for path in folder, out:
+            os.chown(path, NOBODY, NOBODY)
+        run = job.run(out, before=somebody_else)
+        if run.stderr or stat.S_IMODE(out.stat().st_mode) != 0o600 or out.stat().st_uid != NOBODY:
+            fail(f"{job} of another user's file: {run.stderr!r}")
 
 # ---- where nothing fails: the new file, with the mode of any new file; a file that would come out the same is not written; a pipe gets the bytes
 for job in JOBS:
@@ -186,6 +309,16 @@ for job in JOBS:
     last = out.stat()
     if run.stderr or b"dropped 0" not in run.stdout or (first.st_ino, first.st_mtime_ns) != (last.st_ino, last.st_mtime_ns):
         fail(f"{job} of a file that comes out the same: printed {run.stdout!r}, said {run.stderr!r}, or it was written")
+    # .. not even the largest
+    if job.program.name == "rescue":
+        full = Job("rescue", "cut/full.in", "3")
+        full.run(out)
+        first = out.stat()
+        if out.read_bytes() != full.new or len(full.new) <= 65536:
+            fail("rescue of as many records as fit")
+        full.run(out)
+        if (first.st_ino, first.st_mtime_ns) != (out.stat().st_ino, out.stat().st_mtime_ns):
+            fail("rescue wrote a large file that it would leave the same")
     pipe = folder / "pipe"
     os.mkfifo(pipe)
     got = []
@@ -217,4 +350,4 @@ out.write_bytes((WORK / "cut/edition-1.in").read_bytes())
 if rescue.run(out, out, word=["1"]).stdout.splitlines()[0] != b"kept 2" or out.read_bytes() != (WORK / "cut/edition-1.kept").read_bytes():
     fail("rescue of a cut file of edition 1 by its edition")
 
-print(f"programs: {tries} runs of rescue and thin, each with its fault or without one: nothing was lost")
+print(f"programs: {tries} runs of rescue, thin, replay and sheet, each with its fault or without one: nothing was lost")

@@ -1,9 +1,11 @@
 /* Asks the library about points of the three cones and their duals, and searches there. See run.
-   A line "point KIND DIM1 DIM2 RULE SIDE EXPONENTS.. POINT.." is answered by "CODE ANSWER", a line "search KIND DIM1 DIM2 RULE SIDE EXPONENTS.. DIRECTION.. POINT..
-   START STEP SMALLEST" by "CODE STEP POINT..", a line "round KIND DIM1 DIM2 RULE SIDE EXPONENTS.. DZ.. DS.. Z.. S.. START STEP SMALLEST" by
-   "CODE DUAL-STEP PRIMAL-STEP COMMON-STEP PLAN-STEP" and six points: step_length's dual and primal one, common_step's of two such cones on the
-   SIDE, plan_step's dual and primal one of one such cone. DIM1 is the number of exponents (0, 1 or those of a generalized cone), DIM1 + DIM2 that of the coordinates of a
-   generalized cone; the others have 3. SIDE is 1 for primal and 0 for dual; numbers are the patterns of doubles in base 16. */
+   A line begins with its job and "KIND DIM1 DIM2 RULE SIDE EXPONENTS..". What follows, and what it is answered by:
+     point    POINT..                                          CODE ANSWER
+     search   DIRECTION.. POINT.. START STEP SMALLEST          CODE STEP POINT..
+     round    DZ.. DS.. Z.. S.. START STEP SMALLEST            CODE DUAL-STEP PRIMAL-STEP COMMON-STEP PLAN-STEP, and six points: step_length's
+              dual and primal one, common_step's two of two such cones on the SIDE, plan_step's dual and primal one of one such cone
+   DIM1 is the number of exponents (0, 1 or those of a generalized cone), DIM1 + DIM2 that of the coordinates of a generalized cone; the others
+   have 3. SIDE is 1 for primal and 0 for dual; numbers are the patterns of doubles in base 16. */
 #include "../check.h"
 #include <inttypes.h>
 

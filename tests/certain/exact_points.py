@@ -1,16 +1,17 @@
 #!/usr/bin/env python3
 """exact_points.py: points of the three cones and their duals, and whether they lie exactly inside.
 
-usage: exact_points.py calls POINTS SEARCHES    writes calls, always the same ones: that many of the exponential cone, half as many of the power cone, a tenth
-                                                of the generalized one
+usage: exact_points.py calls POINTS SEARCHES    writes calls, always the same ones: that many of the exponential cone, half as many of the
+                                                power cone, a tenth of the generalized one
        exact_points.py judge CALLS ANSWERS      exit status 0 if every answer keeps Order 12's promise, 1 if one does not
 
-tests/certain/run makes both files; certain.c says what their lines are. "Exactly" is that a number is above zero, with document 01's L on exact fractions:
+tests/certain/run makes both files; certain.c says what their lines are. "Exactly" is that a number is above zero, with document 01's L on
+exact fractions:
   exponential        s2·L(s3/s2) - s1, dual z2 - z1 - z1·L(-z3/z1)
   power              2α·L(s1) + 2(1-α)·L(s2) - L(s3²), dual with z1/α and z2/(1-α); inside, too, where s3 is 0
   generalized        Σ 2αᵢ·L(sᵢ) less L of the tail's sum of squares, dual with zᵢ/αᵢ; inside, too, where the tail is all 0
-L is enclosed between two whole numbers of 2^-320 (tests/kernels/exact.py), and where the sign is not certain from both ends it is computed as a fraction. Beside
-it stands Python's own logarithm at 60 digits, which owes nothing to that series: every 16th sign is asked of it, too.
+L is enclosed between two whole numbers of 2^-320 (tests/kernels/exact.py), and where the sign is not certain from both ends it is computed
+as a fraction. Beside it stands Python's own logarithm at 60 digits, which owes nothing to that series: every 16th sign is asked of it, too.
 """
 import math
 import random
@@ -165,7 +166,7 @@ def power_cone(rng):
 
 
 def generalized_cone(rng):
-    """A generalized cone that rule 2 takes, or rule 1 alone: 1 to 32 exponents, whose computed sum is 1 or as far from it as the rule allows."""
+    """A generalized cone that rule 2 takes, or rule 1 alone: 1 to 32 exponents, their computed sum 1 or as far from it as the rule allows."""
     n = rng.choice([1, 1, 2, 3, rng.randrange(1, 33), rng.randrange(1, 33), 32])
     shares = [rng.choice([rng.random() + 0.01, rng.random() + 0.01, 2.0 ** -rng.randrange(0, 60)]) for _ in range(n)]
     exps = [share / sum(shares) for share in shares]
@@ -215,7 +216,8 @@ def wall(rng, kind):
 
 def anywhere(rng, kind):
     cone, primal, point = wall(rng, kind)
-    return cone, primal, tuple(rng.choice([0.0, -0.0]) if rng.random() < 0.05 else rng.choice([-1, 1, 1]) * sized(rng, -500, 500) for _ in point)
+    return cone, primal, tuple(rng.choice([0.0, -0.0]) if rng.random() < 0.05 else rng.choice([-1, 1, 1]) * sized(rng, -500, 500)
+                               for _ in point)
 
 
 # ---- the calls
@@ -337,7 +339,8 @@ def judge(calls_file, answers_file):
         for verdict, name in names.items():
             print(f"{cone_name + ', ' + name:34}{counts[kind, verdict, 1]:16}{counts[kind, verdict, 0]:13}{counts[kind, verdict, -1]:10}")
     inside = sum(met[kind, what, side] for kind in KINDS for what in STEPS for side in (False, True))
-    print("; ".join(f"{name}: {count}" for name, count in other.items()) + f"; point of a step inside: {inside}; signs that Python's logarithm told, too: {told}")
+    others = "; ".join(f"{name}: {count}" for name, count in other.items())
+    print(f"{others}; point of a step inside: {inside}; signs that Python's logarithm told, too: {told}")
     if not beyond:
         wrong += 1
         print("certain: the point beyond the sizes should have been a yes, and lie outside")

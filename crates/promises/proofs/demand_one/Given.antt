@@ -63,7 +63,7 @@ use Rattle.promises.specs.demand_one.Calls.{Call, made, numberIn, number
 use Rattle.promises.specs.demand_one.Calls.{traceOpen, traceRecord, recordPut, recordAt, traceSeal, replay, rescue, thin, thinInPlace}
 use Rattle.promises.specs.demand_one.Calls.{sheetAdd, sheetJoin, sheetText}
 use Rattle.promises.specs.demand_one.Refusals.{zeroCone, zeroThree, zeroWide, zeroSteps, zeroLargest}
-use Rattle.promises.specs.demand_one.Numbers.{ofEntry, numbersOf, among, placeOf, rowOf, decided, AllGiven}
+use Rattle.promises.specs.demand_one.Numbers.{ofEntry, numbersOf, among, rowOfEntry, rowOf, byArguments, AllGiven}
 use Rattle.promises.proofs.demand_one.Numbers.{first-or}
 use Rattle.promises.proofs.replay_kept.Replays.{no-rule-differs}
 
@@ -165,8 +165,8 @@ of-entry (combinedDsShift r serial out stepz steps σμ) =
     ∷ of (combinedDsShift (held 1 0) 0 zeros zeros zeros nan) ∷ of (combinedDsShift (held 0 0) 0 zeros zeros zeros #1)
     ∷ of (combinedDsShift (held 1 0) 1 zeros zeros zeros #1) ∷ []
 
-entries-give : (e : Entry) → gives (placeOf e) (decided (ofEntry e)) (of-entry e) ≡ true
-unfolding gives placeOf rowOf decided ofEntry of-entry made numberIn call codeOf firstRow settle numelOf blockOf allOf threeOk
+entries-give : (e : Entry) → gives (rowOfEntry e) (byArguments (ofEntry e)) (of-entry e) ≡ true
+unfolding gives rowOfEntry rowOf byArguments ofEntry of-entry made numberIn call codeOf firstRow settle numelOf blockOf allOf threeOk
     coneOkWithin coneOk threeFinite recordFinite lt le eq ofBits freshFaults readFaults unitFaults copyFaults offsetFaults searchFaults
     stepFaults gradientRows barrierRows computeRows blockRows productRows correctionRows made-fresh.freshOf cones.freshOf
     cones.isPrimalFeasibleOf cones.isDualFeasibleOf cones.barrierDualOf cones.dualGradHOf cones.refuseGrad cones.unitInitializationOf
@@ -338,8 +338,8 @@ unfolding made numberIn traceRow settle rows.rowsOk rows.namedIn rows.namesOk ro
     rows.held rows.totalsOf sheetOf entriesFrom entriesOf taken goodTrace trailerOk largestOf
 no-flag = rw (length-counts [])
 
-calls-give : (a : Call) → gives (rowOf a) (decided (numbersOf a)) (of-call a) ≡ true
-unfolding gives rowOf decided numbersOf of-call made numberIn firstRow traceRow settle numelOf allOf threeOk coneOkWithin coneOk totalOf
+calls-give : (a : Call) → gives (rowOf a) (byArguments (numbersOf a)) (of-call a) ≡ true
+unfolding gives rowOf byArguments numbersOf of-call made numberIn firstRow traceRow settle numelOf allOf threeOk coneOkWithin coneOk totalOf
     allConesOk planOk lt le eq ofBits toBits planFaults sidesFaults plans.commonStepOf plans.planStepOf writing.createOf writing.longer
     writing.appendRows writing.appendOf openOf openedOf value.recordedIn value.refusedRecord recording.putRows recording.recordPutOf
     recording.recordAtOf recording.wholeFront recording.sealRows recording.traceSealOf replays.replayOf rescues.endsKnown
@@ -366,4 +366,4 @@ calls-give (sheetJoin h second) = refl
 calls-give (sheetText bytes h) = refl
 
 pub all-given : AllGiven
-all-given a = pick (rowOf a) (decided (numbersOf a)) (of-call a) (calls-give a)
+all-given a = pick (rowOf a) (byArguments (numbersOf a)) (of-call a) (calls-give a)

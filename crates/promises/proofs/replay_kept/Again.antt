@@ -4,10 +4,10 @@ use mathlib.Core.Bool.{true, false, not, _||_}
 use mathlib.Core.List.{List}
 use Prim.Native.Nat.{ℕ, zero, suc, _≤_}
 use lib.Dec.{eqb}
-use lib.Ieee.{Float, binary64, toBits}
+use lib.Ieee.{Float}
 use lib.ListN.{length, take}
 use lib.Seq.{length-take-le}
-use borrow.Author.Tests.{eqb-true, eq-eqb, not-false}
+use borrow.Author.Tests.{eqb-true, not-false}
 use Rattle.arith.proofs.Branches.{or-left, or-right}
 use Rattle.cone.specs.declared.Cone.{Cone}
 use Rattle.cone.specs.declared.Settings.{Settings}
@@ -22,6 +22,7 @@ use Rattle.call_search.specs.single.Entries.{refuseSteps, stepLengthOf}
 use Rattle.trace_replay.specs.rerun.Rerun.{sameAnswers, blankPoint}
 use Rattle.trace.specs.kept.Kept.{keptSteps}
 use Rattle.promises.proofs.replay_kept.Cones.{Alike}
+use Rattle.promises.proofs.replay_kept.Exactly.{all-equal}
 
 -- ---- what was answered, and what that says of the arguments
 
@@ -93,15 +94,9 @@ module _ (c : Cone) (dz ds z s p q : List Float) (how : Settings) where
 -- ---- the comparison
 
 pub same-kept : (steps : Steps) → steps .code ≡ 0 → sameAnswers steps (keptSteps steps) ≡ true
-unfolding sameAnswers
 same-kept steps done =
-    rw (
-      eq-eqb (steps .code) 0 done,
-      eq-eqb (toBits binary64 (steps .dualstep)) (toBits binary64 (steps .dualstep)) refl,
-      eq-eqb (steps .dualcount) (steps .dualcount) refl,
-      eq-eqb (toBits binary64 (steps .primalstep)) (toBits binary64 (steps .primalstep)) refl,
-      eq-eqb (steps .primalcount) (steps .primalcount) refl,
-    )
+    all-equal steps (keptSteps steps)
+    (record { done = done; dual-step = refl; dual-count = refl; primal-step = refl; primal-count = refl })
 
 pub blank-length : (n : ℕ) → n ≤ 64 → length (take n blankPoint) ≡ n
 unfolding blankPoint

@@ -19,14 +19,14 @@ use Rattle.promises.specs.replay_kept.Replays.{GivesHeld}
 
 -- ---- the comparison
 
-pub record Compared (a b : Steps) : Type 0 where
+pub record SameBits (a b : Steps) : Type 0 where
   pub done : a .code ≡ 0
   pub dual-step : toBits binary64 (a .dualstep) ≡ toBits binary64 (b .dualstep)
   pub dual-count : a .dualcount ≡ b .dualcount
   pub primal-step : toBits binary64 (a .primalstep) ≡ toBits binary64 (b .primalstep)
   pub primal-count : a .primalcount ≡ b .primalcount
 
-pub compared : (a b : Steps) → sameAnswers a b ≡ true → Compared a b
+pub compared : (a b : Steps) → sameAnswers a b ≡ true → SameBits a b
 unfolding sameAnswers
 compared a b h =
     let code = eqb (a .code) 0 in
@@ -45,7 +45,7 @@ compared a b h =
       primal-count = eqb-true _ _ (and-right (code && dual && tests && primal) last h);
     }
 
-all-equal : (a b : Steps) → Compared a b → sameAnswers a b ≡ true
+pub all-equal : (a b : Steps) → SameBits a b → sameAnswers a b ≡ true
 unfolding sameAnswers
 all-equal a b c =
     rw (

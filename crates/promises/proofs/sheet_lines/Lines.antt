@@ -11,11 +11,11 @@ use Rattle.octets.specs.decimal.Decimal.{decimalIn}
 use Rattle.octets.specs.lines.Lines.{lineOf}
 use Rattle.trace_sheet.specs.counts.Counts.{Entry, placeOf, places, howMany, countsOf, largerOf, largestOf}
 use Rattle.trace_sheet.specs.counts.Sheet.{sideOf}
-use Rattle.trace_sheet.specs.lines.Text as lines
-use Rattle.trace_sheet.specs.lines.Text.{nameOf, expPart, expLine, countLine, expLines, mostLine, sideText, flagLine, skippedLines}
+use Rattle.trace_sheet.specs.lines.Text.{nameOf, expPart, expLine, countLine, expLines, mostLine, sideText, skippedLine, flagLine}
+use Rattle.trace_sheet.specs.lines.Text.{skippedLines}
 use Rattle.trace_sheet.specs.text.Printed.{sheetText}
 use Rattle.trace_sheet.proofs.counts.Rows.{getD-counts}
-use Rattle.promises.specs.sheet_lines.Lines.{three, sixLines, primalLines, skippedLine, DocumentsLines}
+use Rattle.promises.specs.sheet_lines.Lines.{three, sixLines, primalLines, secondSkipped, DocumentsLines}
 
 -- `expLines` of what the places count
 unfoldable linesBy : Bool → (ℕ → ℕ) → ℕ → List ℕ
@@ -38,8 +38,8 @@ unfolding sideText mostLine largestOf largerOf nameOf lineOf decimalIn linesBy c
 primal-lines =
     rw (getD-counts three 0 (leb→le _ _ tt), getD-counts three 1 (leb→le _ _ tt), read-by true three 2046 (leb→le _ _ tt)) refl
 
-second-skipped : skippedLines 1 (0 ∷ 1 ∷ []) ≡ skippedLine
-unfolding skippedLines flagLine lines.skippedLine lineOf decimalIn
+second-skipped : skippedLines 1 (0 ∷ 1 ∷ []) ≡ secondSkipped
+unfolding skippedLines flagLine skippedLine lineOf decimalIn
 second-skipped = refl
 
 pub documents-lines : DocumentsLines

@@ -18,7 +18,8 @@ use Rattle.plan.specs.EachCone.{coneAt, partOf}
 use Rattle.trace.proofs.entries.Passing.{elements-fit}
 use Rattle.promises.specs.yes_of_calls.Points.{Held}
 use Rattle.promises.specs.yes_of_calls.Searches.{StepCertain, BothCertain, PartsCertain}
-use Rattle.promises.specs.yes_of_calls.Calls.{OfPrimalTest, OfDualTest, OfBacktrackSearch, OfStepLength, OfCommonStep, OfPlanStep}
+use Rattle.promises.specs.yes_of_calls.Calls.{PrimalTestCall, DualTestCall, BacktrackSearchCall, StepLengthCall, CommonStepCall}
+use Rattle.promises.specs.yes_of_calls.Calls.{PlanStepCall}
 use Rattle.promises.specs.yes_of_calls.Calls.{CallsCertain}
 use Rattle.promises.proofs.yes_of_calls.Feasibility.{feasibility-certain}
 use Rattle.promises.proofs.yes_of_calls.Searches as single
@@ -35,7 +36,7 @@ held-of c us long each-fits = record {
 
 -- ---- entries that take a cone by value
 
-primal-test : OfPrimalTest
+primal-test : PrimalTestCall
 primal-test κs a r x g p sizes =
     let places = g .0 .1 .1 .1 .1 .1 .1 .0 .1 in
     let told = feasibility-certain (a .0) (held-of (a .0) _ (places .0 .1) (places .1)) (now (a .1 .0)) (λ i l. p .1 i) sizes in
@@ -44,7 +45,7 @@ primal-test κs a r x g p sizes =
       no = λ e. told .primal-no (sym (p .0) ∙ e);
     }
 
-dual-test : OfDualTest
+dual-test : DualTestCall
 dual-test κs a r x g p sizes =
     let places = g .0 .1 .1 .1 .1 .1 .1 .0 .1 in
     let told = feasibility-certain (a .0) (held-of (a .0) _ (places .0 .1) (places .1)) (now (a .1 .0)) (λ i l. p .1 i) sizes in
@@ -53,14 +54,14 @@ dual-test κs a r x g p sizes =
       no = λ e. told .dual-no (sym (p .0) ∙ e);
     }
 
-backtrack-search : OfBacktrackSearch
+backtrack-search : BacktrackSearchCall
 backtrack-search κs a r x g p =
     let places = g .0 .1 .1 .1 .1 .1 .1 .0 .1 in
     subst (λ (l : Lent Found). StepCertain (a .0) (a .1 .0) (l .answer .step) (l .slice)) (sym p)
     (single.search-certain (a .0) (held-of (a .0) _ (places .0 .1) (places .1)) (a .1 .0) (now (a .1 .1 .0)) (now (a .1 .1 .1 .0))
     (now (a .1 .1 .1 .1 .0)) (a .1 .1 .1 .1 .1 .0))
 
-step-length : OfStepLength
+step-length : StepLengthCall
 step-length κs a r x g p =
     let places = g .0 .1 .1 .1 .1 .1 .1 .0 .1 in
     subst (BothCertain (a .0)) (sym p)
@@ -69,14 +70,14 @@ step-length κs a r x g p =
 
 -- ---- entries that take cones in memory
 
-common-step : OfCommonStep
+common-step : CommonStepCall
 common-step κs a r x p i here =
     let cones = conesOf (now (a .0)) in
     subst (λ (l : Lent Found). StepCertain (coneAt cones i) (a .1 .0) (l .answer .step) (partOf cones i (l .slice))) (sym p)
     (one-side.common-step-certain (now (a .0)) i here (a .1 .0) (now (a .1 .1 .0)) (now (a .1 .1 .1 .0)) (now (a .1 .1 .1 .1 .0))
     (a .1 .1 .1 .1 .1 .0))
 
-plan-step : OfPlanStep
+plan-step : PlanStepCall
 plan-step κs a r x p i here =
     subst (PartsCertain (conesOf (now (a .0))) i) (sym p)
     (both-sides.plan-step-certain (now (a .0)) i here (now (a .1 .0)) (now (a .1 .1 .0)) (now (a .1 .1 .1 .0)) (now (a .1 .1 .1 .1 .0))

@@ -70,29 +70,29 @@ OnlyThese = (a : Call) → among (numberOf a) (0 ∷ numbersOf a) ≡ true
 -- ---- no row lists a number for nothing
 
 -- which call it is, whatever its arguments: the place of its row
-unfoldable pub placeOf : Entry → ℕ
-placeOf fresh = 0
-placeOf (isPrimalFeasible s) = 1
-placeOf (isDualFeasible z) = 2
-placeOf (barrierDual z) = 3
-placeOf (dualGradH z) = 4
-placeOf (unitInitialization z s) = 5
-placeOf (rectifyEquilibration δ e) = 6
-placeOf (affineDs ds s) = 7
-placeOf (dsFromDzOffset out ds z) = 8
-placeOf (backtrackSearch primal dq q point how) = 9
-placeOf (stepLength dz ds z s dualPoint primalPoint how) = 10
-placeOf (updateScaling r s z μ strategy) = 11
-placeOf (gradientPrimal r g s) = 12
-placeOf (barrierPrimal r s) = 13
-placeOf (computeBarrier r z s dz ds step) = 14
-placeOf (getHs r serial block) = 15
-placeOf (mulHs r serial y x) = 16
-placeOf (higherCorrection r serial η ds v) = 17
-placeOf (combinedDsShift r serial out stepz steps σμ) = 18
+unfoldable pub rowOfEntry : Entry → ℕ
+rowOfEntry fresh = 0
+rowOfEntry (isPrimalFeasible s) = 1
+rowOfEntry (isDualFeasible z) = 2
+rowOfEntry (barrierDual z) = 3
+rowOfEntry (dualGradH z) = 4
+rowOfEntry (unitInitialization z s) = 5
+rowOfEntry (rectifyEquilibration δ e) = 6
+rowOfEntry (affineDs ds s) = 7
+rowOfEntry (dsFromDzOffset out ds z) = 8
+rowOfEntry (backtrackSearch primal dq q point how) = 9
+rowOfEntry (stepLength dz ds z s dualPoint primalPoint how) = 10
+rowOfEntry (updateScaling r s z μ strategy) = 11
+rowOfEntry (gradientPrimal r g s) = 12
+rowOfEntry (barrierPrimal r s) = 13
+rowOfEntry (computeBarrier r z s dz ds step) = 14
+rowOfEntry (getHs r serial block) = 15
+rowOfEntry (mulHs r serial y x) = 16
+rowOfEntry (higherCorrection r serial η ds v) = 17
+rowOfEntry (combinedDsShift r serial out stepz steps σμ) = 18
 
 unfoldable pub rowOf : Call → ℕ
-rowOf (entry e c) = placeOf e
+rowOf (entry e c) = rowOfEntry e
 rowOf (commonStep cs primal dq q point s) = 19
 rowOf (planStep cs dz ds z s dualPoint primalPoint how) = 20
 rowOf (traceCreate bytes) = 21
@@ -111,13 +111,13 @@ rowOf (sheetJoin h second) = 33
 rowOf (sheetText bytes h) = 34
 
 -- the numbers of a row that the arguments alone decide. 6 and 7 are found where an answer is computed
-unfoldable pub decided : List ℕ → List ℕ
-decided [] = []
-decided (k ∷ ks) = cond (eqb k 6 || eqb k 7) (decided ks) (k ∷ decided ks)
+unfoldable pub byArguments : List ℕ → List ℕ
+byArguments [] = []
+byArguments (k ∷ ks) = cond (eqb k 6 || eqb k 7) (byArguments ks) (k ∷ byArguments ks)
 
 -- each of them is given by some call of that row
 abbrev pub AllGiven : Type 0
-AllGiven = (a : Call) (k : ℕ) → among k (decided (numbersOf a)) ≡ true → (b : Call) × (rowOf b ≡ rowOf a) × (numberOf b ≡ k)
+AllGiven = (a : Call) (k : ℕ) → among k (byArguments (numbersOf a)) ≡ true → (b : Call) × (rowOf b ≡ rowOf a) × (numberOf b ≡ k)
 
 -- ---- 01: "Feasibility and step search take a cone and no record, and never give 5, 6 or 7"
 

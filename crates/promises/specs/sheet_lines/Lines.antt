@@ -28,8 +28,8 @@ primalLines =
     ascii "primal records 3\nprimal zero 1\nprimal exp 0 1\nprimal exp -3 1\nprimal subnormal 0\nprimal most 42 file 1 at 0\n"
 
 -- "a broken one .. is named first in a line `skipped file N`": the second of two files
-abbrev pub skippedLine : List ℕ
-skippedLine = ascii "skipped file 2\n"
+abbrev pub secondSkipped : List ℕ
+secondSkipped = ascii "skipped file 2\n"
 
 -- the sheet of two files: the three records of the first, with the same searches on both sides; the second is skipped
 abbrev pub twoFiles : Sheet
@@ -39,4 +39,4 @@ pub record DocumentsLines : Type 0 where
   pub dual : sideText false (length three) (sideOf three) ≡ sixLines
   pub primal : sideText true (length three) (sideOf three) ≡ primalLines
   -- the whole text, in the document's order
-  pub whole : sheetText twoFiles ≡ (skippedLine ++ sixLines) ++ primalLines
+  pub whole : sheetText twoFiles ≡ (secondSkipped ++ sixLines) ++ primalLines

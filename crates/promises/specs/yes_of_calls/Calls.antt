@@ -39,43 +39,43 @@ pub record TestCertain (c : Cone) (primal : Bool) (p : List Float) (r : Verdict)
   pub no : r ≡ verdictOf No → BelowWall c primal p
 
 -- the arguments: cone, point
-abbrev pub OfPrimalTest : Type 0
-OfPrimalTest =
+abbrev pub PrimalTestCall : Type 0
+PrimalTestCall =
     (κs : Lfts 1) (a : Dens κs primal-kinds.ps) (r : resT primal-kinds.r κs .Denot)
     (x : AtExit (endedOf 1 primal-kinds.ps primal-kinds.r) κs) → GoodsP κs primal-kinds.ps a → primal.Post κs a r x
     → AllInRange (now (a .1 .0)) → TestCertain (a .0) true (now (a .1 .0)) r
 
-abbrev pub OfDualTest : Type 0
-OfDualTest =
+abbrev pub DualTestCall : Type 0
+DualTestCall =
     (κs : Lfts 1) (a : Dens κs dual-kinds.ps) (r : resT dual-kinds.r κs .Denot)
     (x : AtExit (endedOf 1 dual-kinds.ps dual-kinds.r) κs) → GoodsP κs dual-kinds.ps a → dual.Post κs a r x
     → AllInRange (now (a .1 .0)) → TestCertain (a .0) false (now (a .1 .0)) r
 
 -- the arguments: cone, side, direction, point, lent point, settings
-abbrev pub OfBacktrackSearch : Type 0
-OfBacktrackSearch =
+abbrev pub BacktrackSearchCall : Type 0
+BacktrackSearchCall =
     (κs : Lfts 3) (a : Dens κs search-kinds.ps) (r : resT search-kinds.r κs .Denot)
     (x : AtExit (endedOf 3 search-kinds.ps search-kinds.r) κs) → GoodsP κs search-kinds.ps a → search.Post κs a r x
     → StepCertain (a .0) (a .1 .0) (r .step) (now (x .1 .1 .1 .1 .0))
 
 -- the arguments: cone, dz, ds, z, s, both lent points, settings
-abbrev pub OfStepLength : Type 0
-OfStepLength =
+abbrev pub StepLengthCall : Type 0
+StepLengthCall =
     (κs : Lfts 6) (a : Dens κs step-kinds.ps) (r : resT step-kinds.r κs .Denot)
     (x : AtExit (endedOf 6 step-kinds.ps step-kinds.r) κs) → GoodsP κs step-kinds.ps a → step.Post κs a r x
     → BothCertain (a .0) (record { answer = r; first = now (x .1 .1 .1 .1 .1 .0); second = now (x .1 .1 .1 .1 .1 .1 .0) })
 
 -- the arguments: cones in memory, side, direction, point, lent point, settings
-abbrev pub OfCommonStep : Type 0
-OfCommonStep =
+abbrev pub CommonStepCall : Type 0
+CommonStepCall =
     (κs : Lfts 4) (a : Dens κs common-kinds.ps) (r : resT common-kinds.r κs .Denot)
     (x : AtExit (endedOf 4 common-kinds.ps common-kinds.r) κs) → common.Post κs a r x
     → let cones = conesOf (now (a .0)) in
     (i : ℕ) → i < length cones → StepCertain (coneAt cones i) (a .1 .0) (r .step) (partOf cones i (now (x .1 .1 .1 .1 .0)))
 
 -- the arguments: cones in memory, dz, ds, z, s, both lent points, settings
-abbrev pub OfPlanStep : Type 0
-OfPlanStep =
+abbrev pub PlanStepCall : Type 0
+PlanStepCall =
     (κs : Lfts 7) (a : Dens κs plan-kinds.ps) (r : resT plan-kinds.r κs .Denot)
     (x : AtExit (endedOf 7 plan-kinds.ps plan-kinds.r) κs) → plan.Post κs a r x
     → let cones = conesOf (now (a .0)) in
@@ -83,9 +83,9 @@ OfPlanStep =
     → PartsCertain cones i (record { answer = r; first = now (x .1 .1 .1 .1 .1 .0); second = now (x .1 .1 .1 .1 .1 .1 .0) })
 
 pub record CallsCertain : Type 0 where
-  pub primal-test : OfPrimalTest
-  pub dual-test : OfDualTest
-  pub backtrack-search : OfBacktrackSearch
-  pub step-length : OfStepLength
-  pub common-step : OfCommonStep
-  pub plan-step : OfPlanStep
+  pub primal-test : PrimalTestCall
+  pub dual-test : DualTestCall
+  pub backtrack-search : BacktrackSearchCall
+  pub step-length : StepLengthCall
+  pub common-step : CommonStepCall
+  pub plan-step : PlanStepCall

@@ -56,7 +56,7 @@ outside() {
         || die "include/spindle.h needs more than a freestanding compiler's headers"
 
     say "what the header refuses: another machine, 32 bits, the other order of bytes"
-    for words in -U__x86_64__\ -U__aarch64__ -D__ILP32__ -U__BYTE_ORDER__\ -D__BYTE_ORDER__=__ORDER_BIG_ENDIAN__ -D_WIN32; do
+    for words in -U__x86_64__\ -U__aarch64__ -D__ILP32__ -U__BYTE_ORDER__\ -D__BYTE_ORDER__=__ORDER_BIG_ENDIAN__ -D_WIN32 -D__APPLE__; do
         # shellcheck disable=SC2086
         if cc $words -fsyntax-only -x c include/spindle.h 2>target/log/refused.txt; then die "include/spindle.h takes $words"; fi
         grep -q '#error "spindle.h: the library is built for' target/log/refused.txt || die "include/spindle.h does not say why it refuses $words"

@@ -21,14 +21,14 @@
 //! once more and compared with its record. What a host that lost power left of one, [`rescue`] makes a trace again; [`thin`] and
 //! [`thin_in_place`] drop the records of one that are equal to an earlier one. A [`Sheet`] counts over many of them.
 //!
-//! A call that is refused changes nothing that it was lent: slices keep their contents, a record stays as it was. The numbers of a
+//! A call that is refused changes nothing that it was given: slices keep their contents, a record stays as it was. The numbers of a
 //! [`Refusal`] are those of the library's scope document. No call allocates, and none panics.
 //!
 //! The library runs on Linux, x86-64 or Arm (aarch64). Structs pass by value: a call with a [`Scaling`] copies its 2,744 bytes. A call
 //! takes at most 25 KB of stack on x86-64 and 34 KB on Arm, as bench/run measures it, with these exceptions: [`thin`] and
 //! [`thin_in_place`] take 66 KB, [`Trace::replay`] 42, [`rescue`] and [`Sheet::add`] 34, sealing a trace 33.
 //!
-//! Why the calls are safe to make: the library takes every number, length and code and answers all of them; a lent slice is the pointer and
+//! Why the calls are safe to make: the library takes every number, length and code and answers all of them; a slice is passed as the pointer and
 //! length of a Rust slice, read or written within that length alone; and the borrows keep the slices of one call from overlapping, which is
 //! the one thing that the C face asks of its caller.
 #![no_std]

@@ -399,7 +399,7 @@ impl core::fmt::Debug for Recorded {
     }
 }
 
-/// A trace in a lent buffer, to which records can be added, each in the same time. The buffer's front is a trace once [`TraceBuffer::bytes`] or
+/// A trace in the caller's buffer, to which records can be added, each in the same time. The buffer's front is a trace once [`TraceBuffer::bytes`] or
 /// [`TraceBuffer::trace`] has sealed it; until then the records stand there, and [`rescue`] would keep them. Bytes behind the trace stay as
 /// they were.
 #[derive(Debug)]
@@ -567,7 +567,7 @@ impl<'a> Recorder<'a> {
     /// [`Cone::step_length`] with the house's settings, [`Settings::house`] of `start`, recorded as a search by default. Into a trace of an
     /// older edition, which means other settings by that, they are recorded outright.
     ///
-    /// [`Refusal::NoRoom`] where the search could be made and not recorded: then as at every refusal nothing that was lent has changed, and
+    /// [`Refusal::NoRoom`] where the search could be made and not recorded: then as at every refusal nothing that was passed has changed, and
     /// [`Cone::step_length`] makes the search without a record. So it is with [`Refusal::BadTrace`], where the recorder goes on with a
     /// trace of edition 1 or 2 and the cone is under rule 2: such a trace keeps cones of rule 1 alone, and every cone that rule 2 takes can
     /// be put under it ([`Cone::under`]) with the same answers.

@@ -4,7 +4,7 @@
 #   sh test.sh            everything, from nothing
 #   sh test.sh --quick    only the checks of files: layout, lint, listed crates, silent answers, lemmas of agreement, edits' form, names, versions, paths
 #   sh test.sh --outside  only what runs over the library as it is built for this machine: the C examples, the fixed list, the kernels, a gradient, exact points,
-#                         the traces, the programs over them with faults and in two wrong versions, the comparison with the Rust, the Rust crate, the Python module, projects outside of the repository
+#                         the traces, the programs over them with faults and in a wrong version, the comparison with the Rust, the Rust crate, the Python module, projects outside of the repository
 #   sh test.sh --help     this text
 #
 # Exit status 0 only if everything passed; 2: bad usage, or a command is missing.

@@ -2,7 +2,7 @@
 # Passes all tests of the repository. The last line is rt ci's own: 'N passed, 0 failed'.
 #
 #   sh test.sh            everything, from nothing
-#   sh test.sh --quick    only the checks of files: layout, lint, listed crates, silent answers, lemmas of agreement, edits' form, names, versions, paths
+#   sh test.sh --quick    only the checks of files: layout, lint, listed crates, silent answers, lemmas of agreement, edits' form, shim, names, versions, paths
 #   sh test.sh --outside  only what runs over the library as it is built for this machine: the C examples, the fixed list, the kernels, a gradient, exact points,
 #                         the traces, the programs over them with faults and in a wrong version, the comparison with the Rust, the Rust crate, the Python module, projects outside of the repository
 #   sh test.sh --help     this text
@@ -142,6 +142,9 @@ tools/test-edits >/dev/null || die "tools/test-edits failed"
 listed=$(tools/edits --list) || die "an edit is not in its form:
 $(printf '%s\n' "$listed" | grep WRONG)"
 printf '%s\n' "$listed" | tail -n 1
+
+say "the C between the proved module and a caller (tools/shim)"
+tools/test-shim >/dev/null || die "tools/test-shim failed"
 
 say "docs/PROMISES.md and the header's comments name the numbers of the proved table"
 tools/numbers --check || die "docs/PROMISES.md or include/spindle.h differs from the proved table of numbers"

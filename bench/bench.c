@@ -202,6 +202,9 @@ static SpindleScaling *fresh_records(const Plan *p)
     return records;
 }
 
+/* Whether a record is passed by value; else it is read and updated where it lies. */
+static bool by_value;
+
 /* One call (of the products two), with a frame of its own, so that its stack can be measured. */
 typedef uint32_t Call(SpindleScaling *record, const Inputs *in, Outputs *out, size_t i, size_t at, size_t n);
 #define CALL(name) \
@@ -211,35 +214,33 @@ typedef uint32_t Call(SpindleScaling *record, const Inputs *in, Outputs *out, si
 CALL(port_update)
 {
     UNUSED;
-    SpindleUpdated r = spindle_update_scaling(*record, in->s + at, n, in->z + at, n, in->mu, 2);
-    *record = r.record;
-    return r.code;
+    return spindle_update_scaling_in_place(record, in->s + at, n, in->z + at, n, in->mu, 2);
 }
 
 CALL(port_block)
 {
     UNUSED;
-    return spindle_get_hs(*record, record->serial, out->block + in->block_at[i], in->block_at[i + 1] - in->block_at[i]);
+    return spindle_get_hs_in_place(record, record->serial, out->block + in->block_at[i], in->block_at[i + 1] - in->block_at[i]);
 }
 
 CALL(port_products)
 {
     UNUSED;
     uint32_t code = 0;
-    for (int k = 0; k < 2; k++) code |= spindle_mul_hs(*record, record->serial, out->y[k] + at, n, in->x[k] + at, n);
+    for (int k = 0; k < 2; k++) code |= spindle_mul_hs_in_place(record, record->serial, out->y[k] + at, n, in->x[k] + at, n);
     return code;
 }
 
 CALL(port_shift)
 {
     UNUSED;
-    return spindle_combined_ds_shift(*record, record->serial, out->shift + at, n, in->dz + at, n, in->ds + at, n, in->sigma_mu);
+    return spindle_combined_ds_shift_in_place(record, record->serial, out->shift + at, n, in->dz + at, n, in->ds + at, n, in->sigma_mu);
 }
 
 CALL(port_gradient)
 {
     UNUSED;
-    return spindle_gradient_primal(*record, out->shift + at, n, in->s + at, n).code;
+    return spindle_gradient_primal_in_place(record, out->shift + at, n, in->s + at, n).code;
 }
 
 CALL(port_steps)
@@ -254,24 +255,79 @@ CALL(port_steps)
     return r.code;
 }
 
+static double half_step(const Outputs *out, size_t i)
+{
+    double d = out->dual_step[i], p = out->primal_step[i];
+    return 0.5 * (d < p ? d : p);
+}
+
 CALL(port_barrier)
 {
     UNUSED;
-    double d = out->dual_step[i], p = out->primal_step[i];
-    SpindleNumber r = spindle_compute_barrier(*record, in->z + at, n, in->s + at, n, in->dz + at, n, in->ds + at, n, 0.5 * (d < p ? d : p));
+    SpindleNumber r =
+        spindle_compute_barrier_in_place(record, in->z + at, n, in->s + at, n, in->dz + at, n, in->ds + at, n, half_step(out, i));
     out->barrier[i] = r.value;
     return r.code;
 }
 
-static Call *const port_calls[ENTRIES] = {port_update, port_block, port_products, port_shift, port_gradient, port_steps, port_barrier};
+/* The same, with the record by value. */
+CALL(value_update)
+{
+    UNUSED;
+    SpindleUpdated r = spindle_update_scaling(*record, in->s + at, n, in->z + at, n, in->mu, 2);
+    *record = r.record;
+    return r.code;
+}
+
+CALL(value_block)
+{
+    UNUSED;
+    return spindle_get_hs(*record, record->serial, out->block + in->block_at[i], in->block_at[i + 1] - in->block_at[i]);
+}
+
+CALL(value_products)
+{
+    UNUSED;
+    uint32_t code = 0;
+    for (int k = 0; k < 2; k++) code |= spindle_mul_hs(*record, record->serial, out->y[k] + at, n, in->x[k] + at, n);
+    return code;
+}
+
+CALL(value_shift)
+{
+    UNUSED;
+    return spindle_combined_ds_shift(*record, record->serial, out->shift + at, n, in->dz + at, n, in->ds + at, n, in->sigma_mu);
+}
+
+CALL(value_gradient)
+{
+    UNUSED;
+    return spindle_gradient_primal(*record, out->shift + at, n, in->s + at, n).code;
+}
+
+CALL(value_barrier)
+{
+    UNUSED;
+    SpindleNumber r = spindle_compute_barrier(*record, in->z + at, n, in->s + at, n, in->dz + at, n, in->ds + at, n, half_step(out, i));
+    out->barrier[i] = r.value;
+    return r.code;
+}
+
+static Call *const port_calls[2][ENTRIES] = {
+    {port_update, port_block, port_products, port_shift, port_gradient, port_steps, port_barrier},
+    {value_update, value_block, value_products, value_shift, value_gradient, port_steps, value_barrier},
+};
+
+static void port_call(SpindleScaling *record, int entry, const Inputs *in, Outputs *out, size_t i)
+{
+    if (entry == (in->cone[i].kind == 3 ? SHIFT : GRADIENT)) return;
+    uint32_t code = port_calls[by_value][entry](record, in, out, i, in->at[i], in->at[i + 1] - in->at[i]);
+    if (code) refused(entry_names[entry], i, code);
+}
 
 static void port_entry(SpindleScaling *records, int entry, const Inputs *in, Outputs *out)
 {
-    for (size_t i = 0; i < in->cones; i++) {
-        if (entry == (in->cone[i].kind == 3 ? SHIFT : GRADIENT)) continue;
-        uint32_t code = port_calls[entry](&records[i], in, out, i, in->at[i], in->at[i + 1] - in->at[i]);
-        if (code) refused(entry_names[entry], i, code);
-    }
+    for (size_t i = 0; i < in->cones; i++) port_call(&records[i], entry, in, out, i);
 }
 
 static void run_entry(int side, void *cones, int entry, const Inputs *in, Outputs *out)
@@ -515,6 +571,45 @@ static void kernels(Plan *p, int rounds, double port_total)
     }
     printf("  %-18s %15s %9s %13s %9.1f %7.1f %%\n", "all four", "", "", "", all, all / (port_total * 10));
     roots(rust_arguments(0), kept[0]);
+}
+
+/* ---- the port's plan in four ways: records in place or by value, and entry by entry over all cones or cone by cone */
+
+static double one_way(Plan *p, int rounds, bool cone_by_cone, Outputs *out)
+{
+    SpindleScaling *records = fresh_records(p);
+    double time = 0;
+    for (int round = 0; round < rounds; round++) {
+        moved(p);
+        double before = now();
+        if (cone_by_cone)
+            for (size_t i = 0; i < p->in.cones; i++)
+                for (int entry = 0; entry < ENTRIES; entry++) port_call(&records[i], entry, &p->in, out, i);
+        else
+            for (int entry = 0; entry < ENTRIES; entry++) port_entry(records, entry, &p->in, out);
+        time += now() - before;
+    }
+    free(records);
+    return time;
+}
+
+static void four_ways(Plan *p, int rounds, int runs)
+{
+    static const char *const names[4] = {"in place, entry by entry", "in place, cone by cone", "by value, entry by entry",
+                                         "by value, cone by cone"};
+    double least[4] = {1e9, 1e9, 1e9, 1e9};
+    Outputs out = made_outputs(p);
+    uint64_t start = seed;
+    for (int run = 0; run < runs; run++)
+        for (int way = 0; way < 4; way++) {
+            seed = start;
+            by_value = way >= 2;
+            double time = one_way(p, rounds, way % 2, &out);
+            if (time < least[way]) least[way] = time;
+        }
+    by_value = false;
+    printf("\nThe port's plan by how a record is passed, and in which order the calls are made\n");
+    for (int way = 0; way < 4; way++) printf("  %-26s %9.1f ms\n", names[way], least[way] * 1e3);
 }
 
 /* ---- what passing the records costs by itself: as many calls as a plan makes, of functions that do nothing */
@@ -826,7 +921,7 @@ static void stacks(void)
            sizeof(SpindleSteps), sizeof(SpindleFound));
     printf("\nStack bytes of a call, with its arguments and its answer    3 numbers   64 numbers\n");
     SpindleCone cones[2] = {power(0.5), generalized(32, 32)};
-    size_t bytes[2][MEASURED];
+    size_t bytes[2][MEASURED], placed[2][ENTRIES];
     for (int c = 0; c < 2; c++) {
         Plan p = planned(&cones[c], 1);
         moved(&p);
@@ -834,18 +929,24 @@ static void stacks(void)
         stack_records = fresh_records(&p);
         stack_out = made_outputs(&p);
         size_t empty = stack_of(-1);
+        for (int entry = 0; entry < ENTRIES; entry++) placed[c][entry] = stack_of(entry) - empty;
+        by_value = true;
         for (int entry = 0; entry < MEASURED; entry++) bytes[c][entry] = stack_of(entry) - empty;
+        by_value = false;
     }
-    for (int entry = 0; entry < MEASURED; entry++) {
+    for (int row = 0; row < MEASURED + ENTRIES; row++) {
+        bool in_place = row >= MEASURED;
+        int entry = in_place ? row - MEASURED : row;
+        if (in_place && entry == STEPS) continue;
         const char *name = entry < ENTRIES ? entry_names[entry] : others[entry - ENTRIES].name;
-        printf("  %-46s", name);
+        printf("  %s%-*s", name, 46 - (int)strlen(name), in_place ? ", in place" : "");
         for (int c = 0; c < 2; c++) {
             int width = c ? 13 : 21;
             /* what refuses kind 3 with 1, and what the plan asks of kind 3 alone */
             if (entry == (c ? SHIFT : GRADIENT) || (c && !strcmp(name, "higher_correction")))
                 printf("%*s", width, "-");
             else
-                printf("%*zu", width, bytes[c][entry]);
+                printf("%*zu", width, in_place ? placed[c][entry] : bytes[c][entry]);
         }
         printf("\n");
     }
@@ -954,6 +1055,7 @@ int main(int count, char **words)
     }
     printf("  %-18s %8.1f %5.1f %%   (as many calls, of functions that do nothing)\n", "records by value", passed * 1e3,
            100 * passed / sum[PORT]);
+    four_ways(&p, rounds, runs);
     if (!brief) {
         kernels(&p, rounds, sum[PORT]);
         sizes(rounds, runs);

@@ -205,7 +205,7 @@ static void put_block(const Problem *p, System *y, int k)
 {
     int first = p->n + p->at[k], next = 0;
     double block[6];
-    must("get_hs", spindle_get_hs(y->records[k], y->serials[k], block, 6));
+    must("get_hs", spindle_get_hs_in_place(&y->records[k], y->serials[k], block, 6));
     for (int j = 0; j < 3; j++) {
         for (int i = 0; i <= j; i++) y->K[first + i][first + j] = y->K[first + j][first + i] = -block[next++];
     }
@@ -217,7 +217,7 @@ static void put_wide_block(const Problem *p, System *y, int k)
     int first = p->n + p->at[k], length = p->length[k], head = p->cones[k].dim1;
     const SpindleWide *wide = &y->records[k].wide;
     double diagonal[4];
-    must("get_hs", spindle_get_hs(y->records[k], y->serials[k], diagonal, length));
+    must("get_hs", spindle_get_hs_in_place(&y->records[k], y->serials[k], diagonal, length));
     for (int j = 0; j < length; j++) {
         for (int i = 0; i < length; i++) {
             double entry = wide->p[i] * wide->p[j];
@@ -238,10 +238,8 @@ static void scale(const Problem *p, System *y, const Point *at, double mu, uint3
     for (int i = 0; i < p->orthant; i++) y->K[n + i][n + i] = -at->s[i] / at->z[i];
     for (int k = 0; k < p->ncones; k++) {
         int a = p->at[k], length = p->length[k];
-        SpindleUpdated updated = spindle_update_scaling(y->records[k], at->s + a, length, at->z + a, length, mu, strategy);
-        must("update_scaling", updated.code);
-        y->records[k] = updated.record;
-        y->serials[k] = updated.record.serial;
+        must("update_scaling", spindle_update_scaling_in_place(&y->records[k], at->s + a, length, at->z + a, length, mu, strategy));
+        y->serials[k] = y->records[k].serial;
         if (p->cones[k].kind == SPINDLE_GENERALIZED)
             put_wide_block(p, y, k);
         else
@@ -272,7 +270,7 @@ static void direct(const Problem *p, const System *y, const Point *at, const Res
     for (int k = 0; k < p->ncones; k++) {
         int a = p->at[k], length = p->length[k];
         double product[4], offset[4];
-        must("mul_hs", spindle_mul_hs(y->records[k], y->serials[k], product, length, to->z + a, length));
+        must("mul_hs", spindle_mul_hs_in_place(&y->records[k], y->serials[k], product, length, to->z + a, length));
         must("ds_from_dz_offset", spindle_ds_from_dz_offset(p->cones[k], offset, length, c + a, length, at->z + a, length));
         for (int i = 0; i < length; i++) to->s[a + i] = -(product[i] + offset[i]);
     }
@@ -301,8 +299,8 @@ static void combined_side(const Problem *p, const System *y, const Point *at, co
         if (p->cones[k].kind == SPINDLE_GENERALIZED) {
             for (int i = 0; i < length; i++) shift[i] = sigma_mu * y->records[k].wide.grad[i];
         } else {
-            must("combined_ds_shift",
-                 spindle_combined_ds_shift(y->records[k], y->serials[k], shift, length, step_z, length, affine->s + a, length, sigma_mu));
+            must("combined_ds_shift", spindle_combined_ds_shift_in_place(&y->records[k], y->serials[k], shift, length, step_z, length,
+                                                                         affine->s + a, length, sigma_mu));
         }
         for (int i = 0; i < length; i++) c[a + i] += shift[i];
     }
@@ -348,8 +346,8 @@ static double barriers(const Problem *p, const System *y, const Point *at, const
     for (int i = 0; i < p->orthant; i++) sum -= spindle_log(at->s[i] + step * along->s[i]) + spindle_log(at->z[i] + step * along->z[i]);
     for (int k = 0; k < p->ncones; k++) {
         int a = p->at[k], length = p->length[k];
-        SpindleNumber barrier =
-            spindle_compute_barrier(y->records[k], at->z + a, length, at->s + a, length, along->z + a, length, along->s + a, length, step);
+        SpindleNumber barrier = spindle_compute_barrier_in_place(&y->records[k], at->z + a, length, at->s + a, length, along->z + a, length,
+                                                                 along->s + a, length, step);
         must("compute_barrier", barrier.code);
         sum += barrier.value;
     }

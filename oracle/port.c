@@ -18,8 +18,13 @@ static double root_by_each_name(double x)
     return counted && !memcmp(&root, &plain, sizeof root) && !memcmp(&root, &table.root, sizeof root) ? root : -1;
 }
 
+/* A call over a record has two forms, by value and where the record lies. They take turns, so that each is compared. */
+static bool in_place;
+#define OVER(name, ...) (in_place ? name##_in_place(&call->record, __VA_ARGS__) : name(call->record, __VA_ARGS__))
+
 void oracle_port(Call *call, Reply *reply)
 {
+    in_place = !in_place;
     SpindleCone cone = call->record.cone;
     SpindleSettings settings = {call->numbers[0], call->numbers[1], call->numbers[2]};
     switch (call->entry) {
@@ -87,33 +92,37 @@ void oracle_port(Call *call, Reply *reply)
     case 10: reply->code = spindle_affine_ds(cone, IN(0), IN(1)); break;
     case 11: reply->code = spindle_ds_from_dz_offset(cone, IN(0), IN(1), IN(2)); break;
     case 12: {
-        SpindleUpdated r = spindle_update_scaling(call->record, IN(0), IN(1), call->numbers[0], call->option);
+        SpindleUpdated r = {0, call->record};
+        if (in_place)
+            r.code = spindle_update_scaling_in_place(&r.record, IN(0), IN(1), call->numbers[0], call->option);
+        else
+            r = spindle_update_scaling(call->record, IN(0), IN(1), call->numbers[0], call->option);
         reply->code = r.code;
         reply->record = r.record;
         break;
     }
     case 13: {
-        SpindleRounds r = spindle_gradient_primal(call->record, IN(0), IN(1));
+        SpindleRounds r = OVER(spindle_gradient_primal, IN(0), IN(1));
         reply->code = r.code;
         reply->counts[0] = r.rounds;
         break;
     }
     case 14: {
-        SpindleNumber r = spindle_barrier_primal(call->record, IN(0));
+        SpindleNumber r = OVER(spindle_barrier_primal, IN(0));
         reply->code = r.code;
         reply->values[0] = r.value;
         break;
     }
     case 15: {
-        SpindleNumber r = spindle_compute_barrier(call->record, IN(0), IN(1), IN(2), IN(3), call->numbers[0]);
+        SpindleNumber r = OVER(spindle_compute_barrier, IN(0), IN(1), IN(2), IN(3), call->numbers[0]);
         reply->code = r.code;
         reply->values[0] = r.value;
         break;
     }
-    case 16: reply->code = spindle_get_hs(call->record, call->option, IN(0)); break;
-    case 17: reply->code = spindle_mul_hs(call->record, call->option, IN(0), IN(1)); break;
-    case 18: reply->code = spindle_higher_correction(call->record, call->option, IN(0), IN(1), IN(2)); break;
-    case 19: reply->code = spindle_combined_ds_shift(call->record, call->option, IN(0), IN(1), IN(2), call->numbers[0]); break;
+    case 16: reply->code = OVER(spindle_get_hs, call->option, IN(0)); break;
+    case 17: reply->code = OVER(spindle_mul_hs, call->option, IN(0), IN(1)); break;
+    case 18: reply->code = OVER(spindle_higher_correction, call->option, IN(0), IN(1), IN(2)); break;
+    case 19: reply->code = OVER(spindle_combined_ds_shift, call->option, IN(0), IN(1), IN(2), call->numbers[0]); break;
     case 20: reply->values[0] = root_by_each_name(call->numbers[0]); break;
     case 21: reply->values[0] = spindle_log(call->numbers[0]); break;
     case 22: reply->values[0] = spindle_exp(call->numbers[0]); break;

@@ -1214,3 +1214,51 @@ uint32_t spindle_combined_ds_shift(SpindleScaling record, uint32_t serial, doubl
     copy(shift, out, 3);
     return 0;
 }
+
+/* ---- the same over a record where it lies */
+
+uint32_t spindle_update_scaling_in_place(SpindleScaling *record, const double *s, size_t ns, const double *z, size_t nz, double mu,
+                                         uint32_t strategy)
+{
+    SpindleUpdated updated = spindle_update_scaling(*record, s, ns, z, nz, mu, strategy);
+    if (updated.code == 0) *record = updated.record;
+    return updated.code;
+}
+
+SpindleRounds spindle_gradient_primal_in_place(const SpindleScaling *record, double *g, size_t ng, const double *s, size_t ns)
+{
+    return spindle_gradient_primal(*record, g, ng, s, ns);
+}
+
+SpindleNumber spindle_barrier_primal_in_place(const SpindleScaling *record, const double *s, size_t ns)
+{
+    return spindle_barrier_primal(*record, s, ns);
+}
+
+SpindleNumber spindle_compute_barrier_in_place(const SpindleScaling *record, const double *z, size_t nz, const double *s, size_t ns,
+                                               const double *dz, size_t ndz, const double *ds, size_t nds, double alpha)
+{
+    return spindle_compute_barrier(*record, z, nz, s, ns, dz, ndz, ds, nds, alpha);
+}
+
+uint32_t spindle_get_hs_in_place(const SpindleScaling *record, uint32_t serial, double *block, size_t nb)
+{
+    return spindle_get_hs(*record, serial, block, nb);
+}
+
+uint32_t spindle_mul_hs_in_place(const SpindleScaling *record, uint32_t serial, double *y, size_t ny, const double *x, size_t nx)
+{
+    return spindle_mul_hs(*record, serial, y, ny, x, nx);
+}
+
+uint32_t spindle_higher_correction_in_place(const SpindleScaling *record, uint32_t serial, double *eta, size_t ne, const double *ds,
+                                            size_t nds, const double *v, size_t nv)
+{
+    return spindle_higher_correction(*record, serial, eta, ne, ds, nds, v, nv);
+}
+
+uint32_t spindle_combined_ds_shift_in_place(const SpindleScaling *record, uint32_t serial, double *shift, size_t nsh, const double *step_z,
+                                            size_t nsz, const double *step_s, size_t nss, double sigma_mu)
+{
+    return spindle_combined_ds_shift(*record, serial, shift, nsh, step_z, nsz, step_s, nss, sigma_mu);
+}

@@ -201,7 +201,7 @@ static bool put_blocks(Work *w)
         int length = w->length[k], head = w->p->cones[k].dim1;
         const int *slot = w->slot + w->first[k];
         const SpindleWide *record = &w->records[k].wide;
-        if (refused(w, "get_hs", spindle_get_hs(w->records[k], w->serials[k], block, wide(w, k) ? length : 6))) return false;
+        if (refused(w, "get_hs", spindle_get_hs_in_place(&w->records[k], w->serials[k], block, wide(w, k) ? length : 6))) return false;
         if (!wide(w, k)) {
             for (int e = 0; e < 6; e++) w->f.value[slot[e]] = -block[e];
             continue;
@@ -233,10 +233,9 @@ static bool scale(Work *w, double mu, uint32_t strategy)
     double began = seconds();
     for (int k = 0; k < w->nc; k++) {
         int a = w->at[k], n = w->length[k];
-        SpindleUpdated updated = spindle_update_scaling(w->records[k], w->now.s + a, n, w->now.z + a, n, mu, strategy);
-        if (refused(w, "update_scaling", updated.code)) return false;
-        w->records[k] = updated.record;
-        w->serials[k] = updated.record.serial;
+        uint32_t code = spindle_update_scaling_in_place(&w->records[k], w->now.s + a, n, w->now.z + a, n, mu, strategy);
+        if (refused(w, "update_scaling", code)) return false;
+        w->serials[k] = w->records[k].serial;
     }
     w->out.by_call[UPDATE] += seconds() - began;
     const int *slot = w->slot + w->n + w->p->cp[w->n];
@@ -273,7 +272,8 @@ static bool direct(Work *w, double by, double t, Point *to)
     double began = seconds();
     for (int k = 0; k < w->nc; k++) {
         int a = w->at[k], length = w->length[k];
-        if (refused(w, "mul_hs", spindle_mul_hs(w->records[k], w->serials[k], to->s + a, length, to->z + a, length))) return false;
+        if (refused(w, "mul_hs", spindle_mul_hs_in_place(&w->records[k], w->serials[k], to->s + a, length, to->z + a, length)))
+            return false;
         for (int i = a; i < a + length; i++) to->s[i] = -(to->s[i] + w->side[i]);
     }
     w->out.by_call[PRODUCT] += seconds() - began;
@@ -292,7 +292,8 @@ static bool combined_side(Work *w, double share, double sigma_mu)
         if (wide(w, k)) {
             for (int i = 0; i < n; i++) shift[i] = sigma_mu * w->records[k].wide.grad[i];
         } else {
-            uint32_t code = spindle_combined_ds_shift(w->records[k], w->serials[k], shift, n, step_z, n, affine->s + a, n, sigma_mu);
+            uint32_t code =
+                spindle_combined_ds_shift_in_place(&w->records[k], w->serials[k], shift, n, step_z, n, affine->s + a, n, sigma_mu);
             if (refused(w, "combined_ds_shift", code)) return false;
         }
         for (int i = 0; i < n; i++) w->side[a + i] = w->now.s[a + i] + shift[i];
@@ -371,7 +372,7 @@ static double off_path(Work *w, double step)
     for (int k = 0; k < w->nc; k++) {
         int a = w->at[k], n = w->length[k];
         SpindleNumber barrier =
-            spindle_compute_barrier(w->records[k], now->z + a, n, now->s + a, n, along->z + a, n, along->s + a, n, step);
+            spindle_compute_barrier_in_place(&w->records[k], now->z + a, n, now->s + a, n, along->z + a, n, along->s + a, n, step);
         sum += barrier.code == SPINDLE_DONE ? barrier.value : INFINITY;
     }
     w->out.by_call[BARRIER] += seconds() - began;

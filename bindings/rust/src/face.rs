@@ -160,17 +160,19 @@ extern "C" {
     pub fn spindle_affine_ds(cone: Cone, ds: Out, nds: usize, s: In, ns: usize) -> u32;
     pub fn spindle_ds_from_dz_offset(cone: Cone, out: Out, no: usize, ds: In, nds: usize, z: In, nz: usize) -> u32;
 
-    pub fn spindle_update_scaling(record: Scaling, s: In, ns: usize, z: In, nz: usize, mu: f64, strategy: u32) -> Updated;
-    pub fn spindle_gradient_primal(record: Scaling, g: Out, ng: usize, s: In, ns: usize) -> Rounds;
-    pub fn spindle_barrier_primal(record: Scaling, s: In, ns: usize) -> Number;
-    pub fn spindle_compute_barrier(
-        record: Scaling, z: In, nz: usize, s: In, ns: usize, dz: In, ndz: usize, ds: In, nds: usize, alpha: f64,
+    pub fn spindle_update_scaling_in_place(record: *mut Scaling, s: In, ns: usize, z: In, nz: usize, mu: f64, strategy: u32) -> u32;
+    pub fn spindle_gradient_primal_in_place(record: *const Scaling, g: Out, ng: usize, s: In, ns: usize) -> Rounds;
+    pub fn spindle_barrier_primal_in_place(record: *const Scaling, s: In, ns: usize) -> Number;
+    pub fn spindle_compute_barrier_in_place(
+        record: *const Scaling, z: In, nz: usize, s: In, ns: usize, dz: In, ndz: usize, ds: In, nds: usize, alpha: f64,
     ) -> Number;
-    pub fn spindle_get_hs(record: Scaling, serial: u32, block: Out, nb: usize) -> u32;
-    pub fn spindle_mul_hs(record: Scaling, serial: u32, y: Out, ny: usize, x: In, nx: usize) -> u32;
-    pub fn spindle_higher_correction(record: Scaling, serial: u32, eta: Out, ne: usize, ds: In, nds: usize, v: In, nv: usize) -> u32;
-    pub fn spindle_combined_ds_shift(
-        record: Scaling, serial: u32, shift: Out, nsh: usize, step_z: In, nsz: usize, step_s: In, nss: usize, sigma_mu: f64,
+    pub fn spindle_get_hs_in_place(record: *const Scaling, serial: u32, block: Out, nb: usize) -> u32;
+    pub fn spindle_mul_hs_in_place(record: *const Scaling, serial: u32, y: Out, ny: usize, x: In, nx: usize) -> u32;
+    pub fn spindle_higher_correction_in_place(
+        record: *const Scaling, serial: u32, eta: Out, ne: usize, ds: In, nds: usize, v: In, nv: usize,
+    ) -> u32;
+    pub fn spindle_combined_ds_shift_in_place(
+        record: *const Scaling, serial: u32, shift: Out, nsh: usize, step_z: In, nsz: usize, step_s: In, nss: usize, sigma_mu: f64,
     ) -> u32;
 
     pub fn spindle_trace_create(trace: *mut u8, room: usize) -> Written;

@@ -678,30 +678,30 @@ impl Scaling {
     /// Scales anew at (s, z). μ counts for generalized cones and for [`Strategy::Dual`]; it is judged always. A refused update leaves the
     /// record as it was, its serial too. A completed one hands back the new serial, for the four calls below that take one.
     pub fn update(&mut self, s: &[f64], z: &[f64], mu: f64, strategy: Strategy) -> Result<Serial, Refusal> {
-        let out = unsafe { face::spindle_update_scaling(*self, s.as_ptr(), s.len(), z.as_ptr(), z.len(), mu, strategy as u32) };
-        Refusal::check(out.code)?;
-        *self = out.record;
+        Refusal::check(unsafe {
+            face::spindle_update_scaling_in_place(self, s.as_ptr(), s.len(), z.as_ptr(), z.len(), mu, strategy as u32)
+        })?;
         Ok(Serial(self.serial))
     }
 
     /// Writes the primal gradient at s and hands back Newton's rounds (0 where Newton was not entered). Of the record, this and the two
     /// barriers use the cone alone: it need not have been scaled.
     pub fn gradient_primal(&self, g: &mut [f64], s: &[f64]) -> Result<u32, Refusal> {
-        let out = unsafe { face::spindle_gradient_primal(*self, g.as_mut_ptr(), g.len(), s.as_ptr(), s.len()) };
+        let out = unsafe { face::spindle_gradient_primal_in_place(self, g.as_mut_ptr(), g.len(), s.as_ptr(), s.len()) };
         Refusal::check(out.code)?;
         Ok(out.rounds)
     }
 
     /// The primal barrier at s.
     pub fn barrier_primal(&self, s: &[f64]) -> Result<f64, Refusal> {
-        number(unsafe { face::spindle_barrier_primal(*self, s.as_ptr(), s.len()) })
+        number(unsafe { face::spindle_barrier_primal_in_place(self, s.as_ptr(), s.len()) })
     }
 
     /// The dual barrier at z + α·dz and the primal barrier at s + α·ds, summed.
     pub fn compute_barrier(&self, z: &[f64], s: &[f64], dz: &[f64], ds: &[f64], alpha: f64) -> Result<f64, Refusal> {
         number(unsafe {
-            face::spindle_compute_barrier(
-                *self,
+            face::spindle_compute_barrier_in_place(
+                self,
                 z.as_ptr(),
                 z.len(),
                 s.as_ptr(),
@@ -717,19 +717,28 @@ impl Scaling {
 
     /// Writes the scaling block: six packed numbers, or the diagonal of a generalized cone.
     pub fn get_hs(&self, serial: Serial, block: &mut [f64]) -> Result<(), Refusal> {
-        Refusal::check(unsafe { face::spindle_get_hs(*self, serial.0, block.as_mut_ptr(), block.len()) })
+        Refusal::check(unsafe { face::spindle_get_hs_in_place(self, serial.0, block.as_mut_ptr(), block.len()) })
     }
 
     /// Writes the scaling times x.
     pub fn mul_hs(&self, serial: Serial, y: &mut [f64], x: &[f64]) -> Result<(), Refusal> {
-        Refusal::check(unsafe { face::spindle_mul_hs(*self, serial.0, y.as_mut_ptr(), y.len(), x.as_ptr(), x.len()) })
+        Refusal::check(unsafe { face::spindle_mul_hs_in_place(self, serial.0, y.as_mut_ptr(), y.len(), x.as_ptr(), x.len()) })
     }
 
     /// Writes the third-order correction η for the steps ds and v; zeros where the Hessian has no Cholesky factor. Not for generalized
     /// cones.
     pub fn higher_correction(&self, serial: Serial, eta: &mut [f64], ds: &[f64], v: &[f64]) -> Result<(), Refusal> {
         corrected(unsafe {
-            face::spindle_higher_correction(*self, serial.0, eta.as_mut_ptr(), eta.len(), ds.as_ptr(), ds.len(), v.as_ptr(), v.len())
+            face::spindle_higher_correction_in_place(
+                self,
+                serial.0,
+                eta.as_mut_ptr(),
+                eta.len(),
+                ds.as_ptr(),
+                ds.len(),
+                v.as_ptr(),
+                v.len(),
+            )
         })
     }
 
@@ -738,8 +747,8 @@ impl Scaling {
         &self, serial: Serial, shift: &mut [f64], step_z: &[f64], step_s: &[f64], sigma_mu: f64,
     ) -> Result<(), Refusal> {
         corrected(unsafe {
-            face::spindle_combined_ds_shift(
-                *self,
+            face::spindle_combined_ds_shift_in_place(
+                self,
                 serial.0,
                 shift.as_mut_ptr(),
                 shift.len(),

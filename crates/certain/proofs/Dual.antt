@@ -18,6 +18,7 @@ use Rattle.series.proofs.change.SignedArithmetic.{same-times, same-minus, above
 use Rattle.rounding.specs.errors.Errors.{above, below}
 use Rattle.rounding.proofs.errors.Divided.{div-near}
 use Rattle.rounding.proofs.errors.Added.{neg-units}
+use Rattle.expcone.specs.feasible.Dual as dualTest
 use Rattle.certain.specs.Coordinates.{Point}
 use Rattle.certain.specs.Dual as dual
 use Rattle.certain.proofs.Logarithms.{LogNear}
@@ -75,7 +76,7 @@ module _ (z1 z2 z3 : Float) (p : Point z1 z2 z3) (t3 : T (#0 ≺ z3)) (t1 : T (z
   d = sides c3 c1
 
   abbrev l : Float
-  l = dual.log z1 z3
+  l = dualTest.log z1 z3
 
   log : Logged l a b
   log =
@@ -87,13 +88,13 @@ module _ (z1 z2 z3 : Float) (p : Point z1 z2 z3) (t3 : T (#0 ≺ z3)) (t1 : T (z
   n = log .near
 
   abbrev res : Float
-  res = dual.residue z1 z2 l
+  res = dualTest.residue z1 z2 l
 
   residue : ResidueNear res b (n .units) c (above (n .sign) (n .units)) (below (n .sign) (n .units)) (above σ c + b) (below σ c + 0)
   residue = dual-near z1 l z2 b (n .units) c (n .sign) σ (n .is) (c2 .is) (large d) (c1 .most) (log .size) (c2 .most) (c1 .is)
 
   abbrev margin : Float
-  margin = dual.margin z1 z2 l
+  margin = dualTest.margin z1 z2 l
 
   weighed : Weighed margin b (n .units) c
   weighed =

@@ -12,8 +12,8 @@ use Rattle.double.specs.Fields.{Sized, Units}
 use Rattle.rounding.specs.Units.{unitsOf}
 use Rattle.rounding.proofs.errors.Multiplied.{Multiplied, mul-near}
 use Rattle.rounding.proofs.errors.Added.{Totalled, total-near, total-swapped}
+use Rattle.expcone.specs.feasible.Weights.{#part}
 use Rattle.certain.specs.Coordinates.{largest}
-use Rattle.certain.specs.Weights.{#part}
 use Rattle.certain.proofs.OneOperation.{sum-most, product-most}
 use Rattle.certain.proofs.MarginSum.{margin-sum}
 use Rattle.certain.proofs.Room.{one-and-fits, one-and-most, product-fits, rounded-most, total-fits, part-fits}

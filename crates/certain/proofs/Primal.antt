@@ -18,6 +18,7 @@ use Rattle.series.specs.change.SignedArithmetic.{times, minus, AboveZero, Below
 use Rattle.series.proofs.change.SignedArithmetic.{same-times, same-minus, above-moves, below-moves}
 use Rattle.rounding.specs.errors.Errors.{above, below}
 use Rattle.rounding.proofs.errors.Divided.{div-near}
+use Rattle.expcone.specs.feasible.Primal as primalTest
 use Rattle.certain.specs.Coordinates.{Point}
 use Rattle.certain.specs.Primal as primal
 use Rattle.certain.proofs.Logarithms.{LogNear}
@@ -76,7 +77,7 @@ module _ (s1 s2 s3 : Float) (p : Point s1 s2 s3) (t3 : T (#0 ≺ s3)) (t2 : T (#
   d = sides c3 c2
 
   abbrev l : Float
-  l = primal.log s2 s3
+  l = primalTest.log s2 s3
 
   log : Logged l a b
   log =
@@ -87,13 +88,13 @@ module _ (s1 s2 s3 : Float) (p : Point s1 s2 s3) (t3 : T (#0 ≺ s3)) (t2 : T (#
   n = log .near
 
   abbrev res : Float
-  res = primal.residue s1 s2 l
+  res = primalTest.residue s1 s2 l
 
   residue : ResidueNear res b (n .units) c (above (n .sign) (n .units)) (below (n .sign) (n .units)) (above (not σ) c) (below (not σ) c)
   residue = primal-near s2 l s1 b (n .units) c (n .sign) σ (n .is) (c1 .is) (large d) (c2 .most) (log .size) (c1 .most) (c2 .is)
 
   abbrev margin : Float
-  margin = primal.margin s1 s2 l
+  margin = primalTest.margin s1 s2 l
 
   weighed : Weighed margin b (n .units) c
   weighed =

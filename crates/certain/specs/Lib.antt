@@ -1,5 +1,4 @@
 pub mod Coordinates
-pub mod Weights
 pub mod Primal
 pub mod Dual
 pub mod Meaning

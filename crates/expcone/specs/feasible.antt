@@ -1,1 +1,4 @@
+pub mod Weights
+pub mod Primal
+pub mod Dual
 pub mod Feasible

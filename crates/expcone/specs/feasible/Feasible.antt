@@ -1,15 +1,14 @@
 -- What the test of a point tells in the exponential cone and in its dual: 000's tests, with 02's margins. Definitions only.
--- The formulas stand in `certain`, on three numbers and beside what their answers mean; here they are of a point, whose places count from
--- 0.
+-- The formulas stand in specs/feasible/Primal and Dual, on three numbers; here they are of a point, whose places count from 0.
 use mathlib.Core.Bool.{Bool}
 use mathlib.Core.List.{List}
 use lib.Ieee.{Float}
 use Rattle.double.specs.Operators.{at}
 use Rattle.cone.specs.declared.verdict.Answer.{Answer}
 use Rattle.cone.specs.verdict.Answers.{judged}
-use Rattle.certain.specs.Primal as primal
-use Rattle.certain.specs.Dual as dual
 use Rattle.expcone.specs.declared.feasible.Residue.{Residue}
+use Rattle.expcone.specs.feasible.Primal as primal
+use Rattle.expcone.specs.feasible.Dual as dual
 
 -- 000 is_primal_feasible, res: s2·log(s3/s2) - s1, counting from 1; l is the logarithm
 unfoldable pub primalResidueAt : List Float → Float → Residue

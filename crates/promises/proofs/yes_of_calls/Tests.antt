@@ -14,6 +14,8 @@ use Rattle.cone.specs.declared.verdict.Answer.{Answer}
 use Rattle.cone.specs.declared.verdict.Answer.the-variants.{No, Yes}
 use Rattle.cone.specs.declared.Cone.{Cone}
 use Rattle.cone.specs.Points.{threeOf}
+use Rattle.expcone.specs.feasible.Primal as primal
+use Rattle.expcone.specs.feasible.Dual as dual
 use Rattle.expcone.specs.feasible.Feasible as expcone
 use Rattle.powcone.specs.Feasible as powcone
 use Rattle.genpowcone.specs.Feasible as genpowcone
@@ -24,8 +26,6 @@ use Rattle.certain.specs.power.Meaning.{Exponent}
 use Rattle.certain.specs.wide.Meaning as wide
 use Rattle.certain.specs.wide.Meaning.{Exponents}
 use Rattle.certain.specs.wide.Tests.{over}
-use Rattle.certain.specs.Primal as primal
-use Rattle.certain.specs.Dual as dual
 use Rattle.certain.proofs.Meaning as exponential
 use Rattle.promises.proofs.yes_of_cones.Meaning as power
 use Rattle.promises.specs.yes_of_calls.Points.{ExactlyInside, BelowWall}

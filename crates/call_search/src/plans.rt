@@ -12,6 +12,7 @@ use judges::all_finite;
 use judges::settings_finite;
 use judges::settings_ok;
 use judges::sides_finite;
+use search::plan;
 
 // The cones are judged before their lengths are added, so that no sum wraps.
 fn plan_rows(cones: &[[u64; 34]], dq: &[f64], q: &[f64], point: usize, settings: Settings) -> u32

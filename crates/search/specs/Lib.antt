@@ -1,3 +1,4 @@
 pub mod Points
 pub mod Problems
 pub mod trials
+pub mod plan

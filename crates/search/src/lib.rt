@@ -1,4 +1,5 @@
-// 003: the step search along a direction of one cone. Module `trials` has the laws of its trials, for any test of a point.
+// 003: the step search along a direction of one cone. Module `plan` has the search of a list of cones, `trials` the laws of the trials, for
+// any test of a point.
 ghost use mathlib.Core.Path.{_≡_};
 ghost use lib.ListN.{length};
 ghost use Rattle.search.specs.trials.Search.{outcome, searchOf};
@@ -8,6 +9,7 @@ use cone::Settings;
 use judges::refusal::store;
 use kinds::passes;
 
+pub mod plan;
 pub mod trials;
 
 // The step, zero where no allowed trial passed, and how many points were tested.
@@ -17,7 +19,7 @@ pub struct Searched {
 }
 
 // Writes q + alpha * dq into point.
-pub fn put_trial(q: &[f64], dq: &[f64], alpha: f64, point: &mut [f64])
+pub(crate) fn put_trial(q: &[f64], dq: &[f64], alpha: f64, point: &mut [f64])
     requires { ⌜ (length (now dq) ≡ length (now q)) × (length (now point) ≡ length (now q)) ⌝ }
     ensures { λ _. ⌜ now (point .exit) ≡ trialPoint (now (q .entry)) (now (dq .entry)) alpha ⌝ }
 {

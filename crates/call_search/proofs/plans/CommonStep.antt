@@ -24,8 +24,8 @@ use Rattle.search.proofs.NoNan.{searched-step, searched-numbers}
 use Rattle.call_search.specs.single.Entries.{found, refuseFound}
 use Rattle.call_search.specs.single.Demand3.{Doubles, outcomeOf}
 use Rattle.call_search.proofs.single.Demand3.{let-through}
-use Rattle.plan.specs.Plans.{planProblem, planOf}
-use Rattle.plan.proofs.EachCone.{tests-at-most}
+use Rattle.search.specs.plan.Plans.{planProblem, planOf}
+use Rattle.search.proofs.plan.EachCone.{tests-at-most}
 use Rattle.call_search.specs.plans.Rows.{planRows}
 use Rattle.call_search.specs.plans.Entries.{commonStepOf}
 use Rattle.call_search.specs.plans.CommonStep.{AsOrdered, CommonMeets}

@@ -14,8 +14,8 @@ use Rattle.judges.specs.Judges.{allFinite, sidesFinite, settingsFinite}
 use Rattle.cone.specs.table.Table.{firstRow}
 use Rattle.cone.proofs.table.Settled.{NoFault, no-fault}
 use Rattle.judges.proofs.Lengths.{off, same-3}
-use Rattle.plan.specs.Plans.{planOk, totalOf, Plannable}
-use Rattle.plan.proofs.Plans.{plan-some, plan-few}
+use Rattle.search.specs.plan.Plans.{planOk, totalOf, Plannable}
+use Rattle.search.proofs.plan.Plans.{plan-some, plan-few}
 use Rattle.call_search.specs.plans.Rows.{planFaults, planRows, sidesFaults, sidesRows}
 
 -- a bad plan is refused by row 1, whatever else is wrong

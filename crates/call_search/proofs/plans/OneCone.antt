@@ -21,8 +21,8 @@ use Rattle.search.specs.trials.Costed.{costedOf}
 use Rattle.search.specs.Problems.{problemOf}
 use Rattle.call_search.specs.single.Rows.{searchFaults, searchRows}
 use Rattle.call_search.specs.single.Entries.{found, refuseFound, backtrackSearchOf}
-use Rattle.plan.specs.Plans.{totalOf, allConesOk, planOk, planOf}
-use Rattle.plan.proofs.OneCone.{one-cone}
+use Rattle.search.specs.plan.Plans.{totalOf, allConesOk, planOk, planOf}
+use Rattle.search.proofs.plan.OneCone.{one-cone}
 use Rattle.call_search.specs.plans.Rows.{planFaults, planRows}
 use Rattle.call_search.specs.plans.Entries.{commonStepOf}
 use Rattle.call_search.specs.plans.CommonStep.{OneConeAlone}

@@ -38,12 +38,12 @@ use Rattle.call_search.specs.single.Rows.{stepFaults, stepRows}
 use Rattle.call_search.specs.single.Entries.{found, refuseFound, bothFound, refuseSteps, stepLengthOf}
 use Rattle.call_search.specs.single.Demand3.{Doubles}
 use Rattle.call_search.proofs.single.Demand3.{let-through}
-use Rattle.plan.specs.Plans.{totalOf, planOf}
-use Rattle.plan.specs.Sides.{sidesProblem, sidesOf, inSides}
-use Rattle.plan.specs.EachSide.{Beside}
-use Rattle.plan.proofs.Sides.{dual-of, primal-of, passes-at}
-use Rattle.plan.proofs.EachSide.{both-in-order, sides-at-most, beside-two}
-use Rattle.plan.proofs.OneCone.{one-cone}
+use Rattle.search.specs.plan.Plans.{totalOf, planOf}
+use Rattle.search.specs.plan.Sides.{sidesProblem, sidesOf, inSides}
+use Rattle.search.specs.plan.EachSide.{Beside}
+use Rattle.search.proofs.plan.Sides.{dual-of, primal-of, passes-at}
+use Rattle.search.proofs.plan.EachSide.{both-in-order, sides-at-most, beside-two}
+use Rattle.search.proofs.plan.OneCone.{one-cone}
 use Rattle.call_search.specs.plans.Rows.{planRows, sidesFaults, sidesRows}
 use Rattle.call_search.specs.plans.Entries.{commonStepOf, foundOnSides, refuseSides, planStepOf}
 use Rattle.call_search.specs.plans.PlanStep.{HoldsTested, HoldsStart, BothAsOrdered, PlanStepMeets, BesideTwoSteps, OneConeBothSides}

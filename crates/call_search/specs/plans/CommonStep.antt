@@ -14,7 +14,7 @@ use Rattle.search.specs.trials.LargestPassing.{LargestPassing}
 use Rattle.search.specs.Points.{allNumbers}
 use Rattle.call_search.specs.single.Entries.{backtrackSearchOf}
 use Rattle.call_search.specs.single.Demand3.{Doubles, outcomeOf}
-use Rattle.plan.specs.Plans.{planOf}
+use Rattle.search.specs.plan.Plans.{planOf}
 use Rattle.call_search.specs.plans.Entries.{commonStepOf}
 
 pub record AsOrdered (cs : List Cone) (primal : Bool) (dq q : List Float) (s : Settings) (o : Outcome) : Type 0 where

@@ -13,8 +13,8 @@ use Rattle.judges.specs.Refusals.{Lent, LentTwo}
 use Rattle.search.specs.trials.Costed.{costedOf}
 use Rattle.call_search.specs.single.Entries.{found, refuseFound}
 use Rattle.search.specs.declared.Searched.{Searched}
-use Rattle.plan.specs.Plans.{planOf}
-use Rattle.plan.specs.Sides.{sidesOf, inSides}
+use Rattle.search.specs.plan.Plans.{planOf}
+use Rattle.search.specs.plan.Sides.{sidesOf, inSides}
 use Rattle.call_search.specs.plans.Rows.{planRows, sidesRows}
 
 -- 02, Order 10: "one common step". The answer has the shape of one search's, and so has a refusal

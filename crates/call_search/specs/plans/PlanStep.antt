@@ -19,8 +19,8 @@ use Rattle.search.specs.trials.LargestPassing.{LargestPassing}
 use Rattle.search.specs.Points.{trialPoint, allNumbers}
 use Rattle.call_search.specs.single.Entries.{stepLengthOf}
 use Rattle.call_search.specs.single.Demand3.{Doubles, outcomeOf}
-use Rattle.plan.specs.Sides.{bothPass, sidesProblem, sidesOf}
-use Rattle.plan.specs.EachSide.{PassesBoth, Beside}
+use Rattle.search.specs.plan.Sides.{bothPass, sidesProblem, sidesOf}
+use Rattle.search.specs.plan.EachSide.{PassesBoth, Beside}
 use Rattle.call_search.specs.plans.Entries.{commonStepOf, planStepOf}
 
 module _ (cs : List Cone) (dz ds z s : List Float) (settings : Settings) where

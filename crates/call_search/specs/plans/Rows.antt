@@ -10,7 +10,7 @@ use Rattle.cone.specs.declared.table.Faults.{Faults}
 use Rattle.judges.specs.Judges.{allFinite, sidesFinite, settingsFinite}
 use Rattle.cone.specs.table.Table.{settingFaults, firstRow}
 use Rattle.judges.specs.Refusals.{otherLength, badSettings}
-use Rattle.plan.specs.Plans.{planOk, totalOf}
+use Rattle.search.specs.plan.Plans.{planOk, totalOf}
 
 -- 02, Order 10: "Refusals: 1 for a bad cone or list length, 2 if the lengths of the cones do not add up to the vectors'."
 -- 01: "A slice that is only written is judged by its length alone": `point` is that length

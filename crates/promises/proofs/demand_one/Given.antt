@@ -19,7 +19,7 @@ use Rattle.cone.specs.Codes.{numelOf, blockOf}
 use Rattle.cone.specs.Fresh as made-fresh
 use Rattle.cone.specs.table.Table.{firstRow, traceRow, settle}
 use Rattle.judges.specs.Judges.{allOf, threeOk, coneOkWithin, coneOk, threeFinite, recordFinite}
-use Rattle.plan.specs.Plans.{totalOf, allConesOk, planOk}
+use Rattle.search.specs.plan.Plans.{totalOf, allConesOk, planOk}
 use Rattle.call_cone.specs.formulas.Rows.{freshFaults, readFaults, unitFaults, copyFaults, offsetFaults}
 use Rattle.call_cone.specs.formulas.Entries as cones
 use Rattle.call_search.specs.single.Rows.{searchFaults, stepFaults}

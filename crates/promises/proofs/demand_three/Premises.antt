@@ -25,8 +25,8 @@ use Rattle.cone.specs.declared.Cone.{Cone}
 use Rattle.cone.specs.declared.Settings.{Settings}
 use Rattle.judges.specs.Judges.{coneOk, settingsFinite, settingsOk}
 use Rattle.search.proofs.Settings.{of-true}
-use Rattle.plan.specs.Plans.{allConesOk, planOk}
-use Rattle.plan.specs.EachCone.{coneAt}
+use Rattle.search.specs.plan.Plans.{allConesOk, planOk}
+use Rattle.search.specs.plan.EachCone.{coneAt}
 use Rattle.promises.specs.demand_three.Premises.{AcceptedPlan, Normal, Asked}
 
 -- ---- a normal number above zero

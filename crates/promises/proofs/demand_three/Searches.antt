@@ -19,8 +19,8 @@ use Rattle.judges.specs.Refusals.{Lent, LentTwo}
 use Rattle.search.specs.trials.Search.{searchOf}
 use Rattle.search.specs.trials.Costed.{costedOf}
 use Rattle.search.specs.Problems.{problemOf}
-use Rattle.plan.specs.Plans.{totalOf, planOf}
-use Rattle.plan.specs.Sides.{sidesOf, inSides}
+use Rattle.search.specs.plan.Plans.{totalOf, planOf}
+use Rattle.search.specs.plan.Sides.{sidesOf, inSides}
 use Rattle.call_search.specs.single.Rows.{searchFaults, searchRows, stepFaults, stepRows}
 use Rattle.call_search.specs.single.Entries.{found, refuseFound, bothFound, refuseSteps, backtrackSearchOf, stepLengthOf}
 use Rattle.call_search.specs.single.Demand3.{Doubles}

@@ -14,9 +14,9 @@ use Rattle.cone.specs.declared.Settings.{Settings}
 use Rattle.cone.specs.Codes.{numelOf}
 use Rattle.judges.specs.Judges.{rule1, rule2, ruleOk, toleranceOf, coneOkWithin, coneOk}
 use Rattle.cone.specs.table.Table.{firstRow, settle}
-use Rattle.plan.specs.Plans.{totalOf, allConesOk, mostCones, planOk, conePasses, allPass, testsOf}
-use Rattle.plan.specs.EachCone.{coneAt}
-use Rattle.plan.specs.Sides.{bothPass, bothTests, dualSide, primalSide}
+use Rattle.search.specs.plan.Plans.{totalOf, allConesOk, mostCones, planOk, conePasses, allPass, testsOf}
+use Rattle.search.specs.plan.EachCone.{coneAt}
+use Rattle.search.specs.plan.Sides.{bothPass, bothTests, dualSide, primalSide}
 use Rattle.call_search.specs.plans.Rows.{planFaults, sidesFaults}
 use Rattle.call_search.specs.plans.Entries.{commonStepOf, planStepOf}
 use Rattle.promises.specs.rules.Entries.{under}

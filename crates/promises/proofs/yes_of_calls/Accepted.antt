@@ -25,7 +25,7 @@ use Rattle.judges.specs.Judges.{allOf, powerOk, exponentOk, ruleOk, toleranceOf
 use Rattle.judges.proofs.Lengths.{cone-3D, wide-passes, dim1-at-most, dim2-at-most, numel-wide, numel-3D, used-length}
 use Rattle.kinds.specs.Cones.{alphaOf, alphasOf}
 use Rattle.kinds.proofs.EachKind.{each-kind}
-use Rattle.plan.specs.EachCone.{coneAt}
+use Rattle.search.specs.plan.EachCone.{coneAt}
 use Rattle.certain.specs.Coordinates as certain
 use Rattle.certain.specs.power.Meaning.{Exponent}
 use Rattle.certain.specs.wide.Meaning.{Exponents, Point}

@@ -26,9 +26,9 @@ use Rattle.kinds.specs.Passes.{passesIn}
 use Rattle.call_search.specs.single.Entries.{found, refuseFound}
 use Rattle.search.specs.Points.{trialPoint}
 use Rattle.search.proofs.Points.{length-point}
-use Rattle.plan.specs.Plans.{totalOf, allConesOk, mostCones, planOk, allPass, planProblem, planOf}
-use Rattle.plan.specs.EachCone.{coneAt, partOf}
-use Rattle.plan.proofs.EachCone.{tested-in-order, parts-of-trials}
+use Rattle.search.specs.plan.Plans.{totalOf, allConesOk, mostCones, planOk, allPass, planProblem, planOf}
+use Rattle.search.specs.plan.EachCone.{coneAt, partOf}
+use Rattle.search.proofs.plan.EachCone.{tested-in-order, parts-of-trials}
 use Rattle.call_search.specs.plans.Rows.{planFaults, planRows}
 use Rattle.call_search.specs.plans.Entries.{commonStepOf}
 use Rattle.call_search.proofs.plans.LetThrough.{plannable}

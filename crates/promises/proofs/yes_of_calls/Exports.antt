@@ -14,7 +14,7 @@ use Rattle.cone.specs.declared.Found.{Found}
 use Rattle.cone.specs.declared.verdict.Verdict.{Verdict}
 use Rattle.cone.specs.words.Words.{conesOf}
 use Rattle.judges.specs.Refusals.{Lent}
-use Rattle.plan.specs.EachCone.{coneAt, partOf}
+use Rattle.search.specs.plan.EachCone.{coneAt, partOf}
 use Rattle.trace.proofs.entries.Passing.{elements-fit}
 use Rattle.promises.specs.yes_of_calls.Points.{Held}
 use Rattle.promises.specs.yes_of_calls.Searches.{StepCertain, BothCertain, PartsCertain}

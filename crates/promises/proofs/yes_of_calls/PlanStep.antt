@@ -15,10 +15,10 @@ use Rattle.search.specs.trials.Search.{Problem, searchOf}
 use Rattle.search.specs.trials.Costed.{costedOf}
 use Rattle.search.specs.Points.{trialPoint}
 use Rattle.search.proofs.Points.{length-point}
-use Rattle.plan.specs.Plans.{totalOf, planOk}
-use Rattle.plan.specs.EachCone.{coneAt}
-use Rattle.plan.specs.Sides.{dualSide, primalSide, sidesProblem, sidesOf, inSides}
-use Rattle.plan.proofs.Sides.{dual-passed, primal-passed, dual-of, primal-of}
+use Rattle.search.specs.plan.Plans.{totalOf, planOk}
+use Rattle.search.specs.plan.EachCone.{coneAt}
+use Rattle.search.specs.plan.Sides.{dualSide, primalSide, sidesProblem, sidesOf, inSides}
+use Rattle.search.proofs.plan.Sides.{dual-passed, primal-passed, dual-of, primal-of}
 use Rattle.call_search.specs.plans.Rows.{sidesFaults, sidesRows}
 use Rattle.call_search.specs.plans.Entries.{foundOnSides, refuseSides, planStepOf}
 use Rattle.call_search.proofs.plans.LetThrough.{both-plannable}

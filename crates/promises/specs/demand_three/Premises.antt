@@ -13,7 +13,7 @@ use Rattle.cone.specs.declared.Cone.{Cone}
 use Rattle.cone.specs.declared.Settings.{Settings}
 use Rattle.judges.specs.Judges.{coneOk, allFinite}
 use Rattle.search.specs.trials.Trials.{exponentOf}
-use Rattle.plan.specs.EachCone.{coneAt}
+use Rattle.search.specs.plan.EachCone.{coneAt}
 
 -- "an accepted cone": number 1 does not refuse it
 abbrev pub Accepted : Cone → Type 0

@@ -13,7 +13,7 @@ use Rattle.cone.specs.declared.Steps.{Steps}
 use Rattle.cone.specs.Codes.{numelOf}
 use Rattle.judges.specs.Refusals.{Lent, LentTwo}
 use Rattle.search.specs.Problems.{problemOf}
-use Rattle.plan.specs.Plans.{totalOf}
+use Rattle.search.specs.plan.Plans.{totalOf}
 use Rattle.call_search.specs.single.Entries.{backtrackSearchOf, stepLengthOf}
 use Rattle.call_search.specs.single.Demand3.{AsDemanded, BothAsDemanded, Doubles, outcomeOf}
 use Rattle.call_search.specs.plans.Entries.{commonStepOf, planStepOf}

@@ -12,8 +12,8 @@ use Rattle.double.specs.Numbers.{pow2, #0, #½}
 use Rattle.cone.specs.declared.Cone.{Cone}
 use Rattle.cone.specs.declared.Settings.{Settings}
 use Rattle.judges.specs.Judges.{rule1, rule2, ruleOk, toleranceOf, coneOkWithin, coneOk}
-use Rattle.plan.specs.Plans.{planOk}
-use Rattle.plan.specs.EachCone.{coneAt}
+use Rattle.search.specs.plan.Plans.{planOk}
+use Rattle.search.specs.plan.EachCone.{coneAt}
 use Rattle.call_search.specs.plans.Entries.{commonStepOf, planStepOf}
 use Rattle.promises.specs.rules.Entries.{Entry, call, codeOf, under, carrying}
 

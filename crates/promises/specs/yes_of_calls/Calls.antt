@@ -17,7 +17,7 @@ use Rattle.cone.specs.declared.verdict.Answer.the-variants.{No, Yes}
 use Rattle.cone.specs.verdict.Answers.{numberOf}
 use Rattle.cone.specs.words.Words.{conesOf}
 use Rattle.call_cone.specs.formulas.Entries.{verdictOf}
-use Rattle.plan.specs.EachCone.{coneAt, partOf}
+use Rattle.search.specs.plan.EachCone.{coneAt, partOf}
 use Rattle.spindle.proofs.spindle_is_primal_feasible.Kinds as primal-kinds
 use Rattle.spindle.proofs.spindle_is_primal_feasible.Reads as primal
 use Rattle.spindle.proofs.spindle_is_dual_feasible.Kinds as dual-kinds

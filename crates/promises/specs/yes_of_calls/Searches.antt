@@ -15,7 +15,7 @@ use Rattle.cone.specs.declared.Steps.{Steps}
 use Rattle.cone.specs.words.Words.{conesOf}
 use Rattle.judges.specs.Refusals.{LentTwo}
 use Rattle.call_search.specs.single.Entries.{backtrackSearchOf, stepLengthOf}
-use Rattle.plan.specs.EachCone.{coneAt, partOf}
+use Rattle.search.specs.plan.EachCone.{coneAt, partOf}
 use Rattle.call_search.specs.plans.Entries.{commonStepOf, planStepOf}
 use Rattle.promises.specs.yes_of_calls.Points.{Held, AllInRange, ExactlyInside}
 

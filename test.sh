@@ -2,7 +2,8 @@
 # Passes all tests of the repository. The last line is rt ci's own: 'N passed, 0 failed'.
 #
 #   sh test.sh            everything, from nothing
-#   sh test.sh --quick    only the checks of files: layout, lint, listed crates, silent answers, lemmas of agreement, edits' form, shim, names, versions, paths
+#   sh test.sh --quick    only the checks of files: layout, lint, listed crates, floors, silent answers, lemmas of agreement, edits' form, shim, names, versions,
+#                         paths
 #   sh test.sh --outside  only what runs over the library as it is built for this machine: the C examples, the fixed list, the kernels, a gradient, exact points,
 #                         the traces, the programs over them with faults and in a wrong version, the comparison with the Rust, the Rust crate, the Python module, projects outside of the repository
 #   sh test.sh --help     this text
@@ -127,6 +128,16 @@ for folder in crates/*/; do
     name=$(basename "$folder")
     grep -q "^$name:" crates.txt || die "crates/$name is in no line of crates.txt"
 done
+
+floors=$(python3 -c '
+floors = {}
+for line in open("crates.txt", encoding="utf-8"):
+    name, colon, below = line.split("#")[0].partition(":")
+    if colon:
+        floors[name] = 1 + max([floors.get(crate, 0) for crate in below.split()], default=0)
+print(max(floors.values()))')
+say "the longest chain of crates in crates.txt has $floors floors"
+[ "$floors" -le 12 ] || die "a chain of crates in crates.txt has $floors floors, and 12 are the most (docs/DECISIONS.md)"
 
 say "answers that say nothing stand in the list of their proof"
 tools/test-inline-needs >/dev/null || die "tools/test-inline-needs failed"

@@ -4,7 +4,7 @@ use lib.Ieee.{Float, neg}
 use Rattle.double.specs.Operators.{_⊕_, _⊖_, _⊗_, _⊘_, at}
 use Rattle.double.specs.Numbers.{#1}
 use Rattle.kernels.specs.Door.{logOf}
-use Rattle.expcone.specs.declared.GradH.{GradH}
+use Rattle.algebra.specs.declared.sym3.GradH.{GradH}
 
 -- 000 update_dual_grad_H at z, l the logarithm of -z3/z1. 01: "Packed order is (0,0),(0,1),(1,1),(0,2),(1,2),(2,2)"
 unfoldable pub gradHAt : List Float → Float → GradH

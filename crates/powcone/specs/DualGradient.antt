@@ -3,8 +3,8 @@ use mathlib.Core.List.{List, [], _∷_}
 use lib.Ieee.{Float, neg}
 use Rattle.double.specs.Operators.{_⊕_, _⊖_, _⊗_, _⊘_, at}
 use Rattle.double.specs.Numbers.{#1, #2, #4}
+use Rattle.algebra.specs.declared.sym3.GradH.{GradH}
 use Rattle.powcone.specs.Barriers.{dualPhi}
-use Rattle.powcone.specs.declared.GradH.{GradH}
 
 -- 001 update_dual_grad_H at z, with φ given. 01: "Packed order is (0,0),(0,1),(1,1),(0,2),(1,2),(2,2)"
 unfoldable pub gradHAt : Float → List Float → Float → GradH

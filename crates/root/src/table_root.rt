@@ -6,7 +6,7 @@
 // never below zero, so that no number here has a sign and none is above 64 bits.
 ghost use mathlib.Core.Path.{_≡_};
 ghost use Prim.Native.Nat.{_*_, _^_, _<_, _≤_};
-ghost use Rattle.root.specs.table_root.Steps.{reciprocalOf, firstOf, stepOf, foundOf, tableRootOf, tableSqrtOf};
+ghost use Rattle.root.specs.table_root.Steps.{reciprocalOf, firstOf, stepOf, wholeRootOf, tableRootOf, tableSqrtOf};
 ghost use Rattle.root.specs.table_root.Room.{Started, StepFits};
 use double::Normal;
 
@@ -17,7 +17,7 @@ struct Guess {
 }
 
 // A whole root and the correction steps that it took.
-struct Found {
+struct WholeRoot {
     root: u64,
     steps: u32,
 }
@@ -65,9 +65,9 @@ fn step(v: u64, scale: u64, unit: u64, g: Guess) -> Guess
 }
 
 // The whole number nearest to the root of m * 2^52: four correction steps, and a fifth where the next number is nearer.
-fn near_root(m: u64) -> Found
+fn near_root(m: u64) -> WholeRoot
     requires { ⌜ (2 ^ 52 ≤ m) × (m < 2 ^ 54) ⌝ }
-    ensures { λ r. ⌜ r ≡ foundOf m ⌝ }
+    ensures { λ r. ⌜ r ≡ wholeRootOf m ⌝ }
 {
     let v = reciprocal(m);
     let one = first(m, v);
@@ -75,12 +75,12 @@ fn near_root(m: u64) -> Found
     let three = step(v, 128, 0x2000_0000_0000, two);
     let four = step(v, 128, 0x10_0000_0000_0000, three);
     if four.rest <= four.root {
-        Found {
+        WholeRoot {
             root: four.root,
             steps: 4,
         }
     } else {
-        Found {
+        WholeRoot {
             root: four.root + 1,
             steps: 5,
         }

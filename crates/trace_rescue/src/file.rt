@@ -11,12 +11,7 @@ use octets::lines::put_line;
 use octets::lines::put_refused;
 use octets::lines::put_word;
 use trace_layout::pieces::MOST_BYTES;
-
-// How many bytes of the text and of the output were written.
-pub struct Lengths {
-    pub text: usize,
-    pub output: usize,
-}
+use trace_layout::rooms::Lengths;
 
 fn put_verdict(text: &mut [u8], place: usize, right: bool) -> usize
     requires { ⌜ place + 8 ≤ length (now text) ⌝ }

@@ -11,12 +11,7 @@ use crate::slices::thin;
 use octets::lines::put_line;
 use octets::lines::put_refused;
 use trace_layout::pieces::MOST_BYTES;
-
-// How many bytes of the text and of the output were written.
-pub struct Lengths {
-    pub text: usize,
-    pub output: usize,
-}
+use trace_layout::rooms::Lengths;
 
 // The three lines, from the slice's first byte on. The answer is their length.
 pub(crate) fn put_text(text: &mut [u8], new: u64, kept: u32, dropped: u32) -> usize

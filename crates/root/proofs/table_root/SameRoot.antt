@@ -15,9 +15,9 @@ use Rattle.double.proofs.NotNan.{no-nan-of-value}
 use Rattle.root.specs.Steps.{rootOf, sqrtFields, sqrtBits, sqrtOf}
 use Rattle.root.proofs.Radicands.{evened}
 use Rattle.root.specs.declared.table_root.Root.{Root}
-use Rattle.root.specs.table_root.Steps.{foundOf, unstepped, tableRootOf, tableSqrtFields, tableSqrtBits, tableSqrtOf}
+use Rattle.root.specs.table_root.Steps.{wholeRootOf, unstepped, tableRootOf, tableSqrtFields, tableSqrtBits, tableSqrtOf}
 use Rattle.root.specs.table_root.SameRoot.{SameRoot}
-use Rattle.root.proofs.table_root.ThreeSteps.{found-nearest, steps-most, steps-least}
+use Rattle.root.proofs.table_root.ThreeSteps.{whole-root-nearest, steps-most, steps-least}
 use Rattle.root.proofs.table_root.Cases.{by-bits, by-fields, of-positive}
 use Rattle.root.proofs.table_root.Values.{of-one}
 
@@ -31,14 +31,14 @@ root-same : (n : Normal) → 2 ^ 52 ≤ n .m → n .m < 2 ^ 53 → tableRootOf n
 unfolding tableRootOf rootOf
 root-same n a b =
     let i = in-range (n .m) (n .k) a b in
-    ap (λ (q : ℕ). ofBits binary64 ((n .k / 2 + 485) * 2 ^ 52 + q)) (found-nearest (n .m * 2 ^ (n .k % 2)) (i .0) (i .1))
+    ap (λ (q : ℕ). ofBits binary64 ((n .k / 2 + 485) * 2 ^ 52 + q)) (whole-root-nearest (n .m * 2 ^ (n .k % 2)) (i .0) (i .1))
 
 root-most : (n : Normal) → tableRootOf n .steps ≤ 5
-unfolding tableRootOf foundOf
+unfolding tableRootOf wholeRootOf
 root-most n = steps-most (n .m * 2 ^ (n .k % 2))
 
 root-least : (n : Normal) → 4 ≤ tableRootOf n .steps
-unfolding tableRootOf foundOf
+unfolding tableRootOf wholeRootOf
 root-least n = steps-least (n .m * 2 ^ (n .k % 2))
 
 -- ---- by fields, t below 2^52

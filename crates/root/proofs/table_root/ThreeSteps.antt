@@ -10,7 +10,7 @@ use lib.Dec.{leb, leb→le}
 use Rattle.root.specs.Steps.{nearRoot}
 use Rattle.root.proofs.RoundedRoots.{product-below, is-nearest}
 use Rattle.root.specs.declared.table_root.Guess.{Guess}
-use Rattle.root.specs.table_root.Steps.{reciprocalOf, firstOf, stepOf, nextOf, correctionOf, correctedOf, stepsOf, foundOf}
+use Rattle.root.specs.table_root.Steps.{reciprocalOf, firstOf, stepOf, nextOf, correctionOf, correctedOf, stepsOf, wholeRootOf}
 use Rattle.root.specs.table_root.Room.{Started, StepFits}
 use Rattle.root.proofs.table_root.Reciprocals.{Reciprocal, reciprocal-near}
 use Rattle.root.proofs.table_root.FirstRoots.{square, rest-lt, first-near, not-small}
@@ -188,20 +188,20 @@ settled m n small some e h =
     go false y z = five-steps m ∙ after-five (correctedOf m 4 .root) (correctedOf m 4 .rest) e (z refl) h
 
 -- the number found is the plain root's
-pub found-nearest : (m : ℕ) → 2 ^ 52 ≤ m → m < 2 ^ 54 → foundOf m .root ≡ nearRoot (m * 2 ^ 52)
-unfolding foundOf correctedOf correctionOf
-found-nearest m lo hi =
+pub whole-root-nearest : (m : ℕ) → 2 ^ 52 ≤ m → m < 2 ^ 54 → wholeRootOf m .root ≡ nearRoot (m * 2 ^ 52)
+unfolding wholeRootOf correctedOf correctionOf
+whole-root-nearest m lo hi =
     let v = reciprocalOf m in
     let k = reciprocal-near m lo hi in
     settled m (m * 2 ^ 52) (omega arith) (omega (arith, least₃ m v lo hi k)) (is₃ m v lo hi k) (rest₃ m v lo hi k)
 
 -- what the code hands back after four steps and after five
-pub found-four : (m : ℕ) → correctedOf m 4 .rest ≤ correctedOf m 4 .root → foundOf m ≡ record { root = correctedOf m 4 .root; steps = 4 }
-unfolding foundOf
-found-four m h = ap (λ (n : ℕ). record { root = correctedOf m n .root; steps = n }) (takes-four m h)
+pub whole-root-four : (m : ℕ) → correctedOf m 4 .rest ≤ correctedOf m 4 .root → wholeRootOf m ≡ record { root = correctedOf m 4 .root; steps = 4 }
+unfolding wholeRootOf
+whole-root-four m h = ap (λ (n : ℕ). record { root = correctedOf m n .root; steps = n }) (takes-four m h)
 
-pub found-five : (m : ℕ) → correctedOf m 4 .root < correctedOf m 4 .rest → foundOf m ≡ record { root = correctedOf m 4 .root + 1; steps = 5 }
-unfolding foundOf
-found-five m h =
+pub whole-root-five : (m : ℕ) → correctedOf m 4 .root < correctedOf m 4 .rest → wholeRootOf m ≡ record { root = correctedOf m 4 .root + 1; steps = 5 }
+unfolding wholeRootOf
+whole-root-five m h =
     ap (λ (n : ℕ). record { root = correctedOf m n .root; steps = n }) (takes-five m h)
     ∙ ap (λ (r : ℕ). record { root = r; steps = 5 }) (five-steps m)

@@ -6,21 +6,21 @@ use Rattle.double.specs.Fields.{normalOf}
 use Rattle.double.specs.Numbers.{#0, #1, #2}
 use Rattle.root.specs.reciprocal_table.Estimates.{estimates, placeOf, estimateOf}
 use Rattle.root.specs.table_root.Steps.{refined, reciprocalOf, firstOf, addition, stepOf, nextOf, correctionOf, correctedOf}
-use Rattle.root.specs.table_root.Steps.{stepsOf, foundOf, tableRootOf, tableSqrtFields, tableSqrtBits, tableSqrtOf}
+use Rattle.root.specs.table_root.Steps.{stepsOf, wholeRootOf, tableRootOf, tableSqrtFields, tableSqrtBits, tableSqrtOf}
 
 pub of-one : tableSqrtOf #1 ≡ record { root = #1; steps = 5 }
-unfolding tableSqrtOf tableSqrtBits tableSqrtFields tableRootOf foundOf stepsOf correctedOf correctionOf nextOf stepOf addition firstOf
+unfolding tableSqrtOf tableSqrtBits tableSqrtFields tableRootOf wholeRootOf stepsOf correctedOf correctionOf nextOf stepOf addition firstOf
     reciprocalOf refined estimateOf estimates placeOf normalOf isNan toBits ofBits size span climb
 of-one = refl
 
 pub of-two : tableSqrtOf #2 ≡ record { root = ofBits binary64 0x3ff6_a09e_667f_3bcd; steps = 5 }
-unfolding tableSqrtOf tableSqrtBits tableSqrtFields tableRootOf foundOf stepsOf correctedOf correctionOf nextOf stepOf addition firstOf
+unfolding tableSqrtOf tableSqrtBits tableSqrtFields tableRootOf wholeRootOf stepsOf correctedOf correctionOf nextOf stepOf addition firstOf
     reciprocalOf refined estimateOf estimates placeOf normalOf isNan toBits ofBits size span climb
 of-two = refl
 
 pub of-three-halves :
     tableSqrtOf (ofBits binary64 0x3ff8_0000_0000_0000) ≡ record { root = ofBits binary64 0x3ff3_988e_1409_212e; steps = 4 }
-unfolding tableSqrtOf tableSqrtBits tableSqrtFields tableRootOf foundOf stepsOf correctedOf correctionOf nextOf stepOf addition firstOf
+unfolding tableSqrtOf tableSqrtBits tableSqrtFields tableRootOf wholeRootOf stepsOf correctedOf correctionOf nextOf stepOf addition firstOf
     reciprocalOf refined estimateOf estimates placeOf normalOf isNan toBits ofBits size span climb
 of-three-halves = refl
 

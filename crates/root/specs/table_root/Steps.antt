@@ -8,7 +8,7 @@ use Rattle.double.specs.Fields.{signOf, fieldOf, digitsOf, normalOf}
 use Rattle.double.specs.declared.Normal.{Normal}
 use Rattle.root.specs.reciprocal_table.Estimates.{estimateOf, units}
 use Rattle.root.specs.declared.table_root.Guess.{Guess}
-use Rattle.root.specs.declared.table_root.Found.{Found}
+use Rattle.root.specs.declared.table_root.WholeRoot.{WholeRoot}
 use Rattle.root.specs.declared.table_root.Root.{Root}
 
 -- ---- the estimate, and the step that corrects it
@@ -74,9 +74,9 @@ unfolding correctedOf
 stepsOf m = cond (leb (correctedOf m 4 .rest) (correctedOf m 4 .root)) 4 5
 
 -- 02, Order 11: "the count handed back equals the steps of its definition". The root after that many steps, and that many.
-unfoldable pub foundOf : ℕ → Found
+unfoldable pub wholeRootOf : ℕ → WholeRoot
 unfolding correctedOf stepsOf
-foundOf m = record { root = correctedOf m (stepsOf m) .root; steps = stepsOf m }
+wholeRootOf m = record { root = correctedOf m (stepsOf m) .root; steps = stepsOf m }
 
 -- ---- doubles, in the cases of the plain root
 
@@ -86,9 +86,9 @@ unstepped x = record { root = x; steps = 0 }
 
 -- the root of the positive number m * 2^(k - 1126), put together as in the plain root
 unfoldable pub tableRootOf : Normal → Root
-unfolding foundOf ofBits
+unfolding wholeRootOf ofBits
 tableRootOf n =
-    let f = foundOf (n .m * 2 ^ (n .k % 2)) in
+    let f = wholeRootOf (n .m * 2 ^ (n .k % 2)) in
     record { root = ofBits binary64 ((n .k / 2 + 485) * 2 ^ 52 + f .root); steps = f .steps }
 
 unfoldable pub tableSqrtFields : Float → ℕ → ℕ → Root

@@ -9,6 +9,7 @@ use lib.Seq.{sets}
 use Rattle.octets.specs.words.Words.{AllBelow}
 use Rattle.octets.proofs.words.Stores.{sets-first}
 use Rattle.trace_layout.specs.Traces.{mostBytes, known}
+use Rattle.trace_layout.specs.declared.rooms.Lengths.{Lengths}
 use Rattle.trace_layout.proofs.Limits.{is-large, is-small}
 use Rattle.trace_layout.proofs.Traces.{records-least}
 use Rattle.octets.specs.lines.Lines.{refusedText}
@@ -16,7 +17,6 @@ use Rattle.trace_rescue.specs.declared.slices.Rescued.{Rescued}
 use Rattle.trace_rescue.specs.slices.Rescue.{editionFor, keptOf, savedOf, Saved, refuse, leave, rescueOf}
 use Rattle.trace_rescue.proofs.slices.Saving.{makes, end-inside, saved-length}
 use Rattle.trace_rescue.proofs.slices.Rescues.{room-rescued, other-rescued}
-use Rattle.trace_rescue.specs.declared.file.Lengths.{Lengths}
 use Rattle.trace_rescue.specs.file.Text.{rescueText}
 use Rattle.trace_rescue.specs.file.Printed.{printedOf, writtenOf, lengthsOf}
 

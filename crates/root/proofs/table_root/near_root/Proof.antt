@@ -8,7 +8,7 @@ use Rattle.root.specs.declared.table_root.Guess.{Guess}
 use Rattle.root.specs.table_root.Steps.{reciprocalOf, firstOf, stepOf, correctedOf}
 use Rattle.root.specs.table_root.Room.{StepFits}
 use Rattle.root.proofs.table_root.Reciprocals.{Reciprocal, reciprocal-near}
-use Rattle.root.proofs.table_root.ThreeSteps.{started, fits₁, fits₂, fits₃, root₃-lt, four-steps, found-four, found-five}
+use Rattle.root.proofs.table_root.ThreeSteps.{started, fits₁, fits₂, fits₃, root₃-lt, four-steps, whole-root-four, whole-root-five}
 use Rattle.root.proofs.table_root.near_root.Statement.{statement}
 use Rattle.root.proofs.table_root.near_root.Tie as tie
 
@@ -90,13 +90,13 @@ returns : tie.Need-returns
 returns c =
     let s = c .before .before in
     ap (λ (g : Guess). record { root = g .root; steps = 4 }) (is-four s)
-    ∙ sym (found-four (m (start s)) (subst (λ (g : Guess). g .rest ≤ g .root) (is-four s) (omega arith)))
+    ∙ sym (whole-root-four (m (start s)) (subst (λ (g : Guess). g .rest ≤ g .root) (is-four s) (omega arith)))
 
 returns-2 : tie.Need-returns-2
 returns-2 c =
     let s = c .before .before .before in
     ap (λ (g : Guess). record { root = g .root + 1; steps = 5 }) (is-four s)
-    ∙ sym (found-five (m (start s)) (subst (λ (g : Guess). g .root < g .rest) (is-four s) (omega arith)))
+    ∙ sym (whole-root-five (m (start s)) (subst (λ (g : Guess). g .root < g .rest) (is-four s) (omega arith)))
 
 add-t9 : tie.Need-add-t9
 add-t9 c = omega (arith, room (c .before .before .before))

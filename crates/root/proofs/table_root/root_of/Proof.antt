@@ -7,9 +7,9 @@ use native.Mathlib.Omega.{arith}
 use lib.Ieee.{binary64, ofBits}
 use Rattle.double.proofs.Made.{number}
 use Rattle.root.proofs.Radicands.{root-of-radicand}
-use Rattle.root.specs.declared.table_root.Found.{Found}
-use Rattle.root.specs.table_root.Steps.{foundOf, tableRootOf}
-use Rattle.root.proofs.table_root.ThreeSteps.{found-nearest}
+use Rattle.root.specs.declared.table_root.WholeRoot.{WholeRoot}
+use Rattle.root.specs.table_root.Steps.{wholeRootOf, tableRootOf}
+use Rattle.root.proofs.table_root.ThreeSteps.{whole-root-nearest}
 use Rattle.root.proofs.table_root.SameRoot.{in-range}
 use Rattle.root.proofs.table_root.root_of.Statement.{statement}
 use Rattle.root.proofs.table_root.root_of.Tie as tie
@@ -28,15 +28,15 @@ module _ (c : tie.After-struct-known2) where
   whole : m * 2 ^ (k % 2) % 2 ^ 64 ≡ m * 2 ^ (k % 2)
   whole = omega (arith, inside)
 
-is : (c : tie.After-near-root) → c .near-root .result ≡ foundOf (m (c .before) * 2 ^ (k (c .before) % 2))
-is c = c .near-root .ensures ∙ ap foundOf (whole (c .before))
+is : (c : tie.After-near-root) → c .near-root .result ≡ wholeRootOf (m (c .before) * 2 ^ (k (c .before) % 2))
+is c = c .near-root .ensures ∙ ap wholeRootOf (whole (c .before))
 
 root-lt : (c : tie.After-near-root) → c .near-root .result .root < 2 ^ 53
 root-lt c =
     let s = c .before in
     let p = s .before .before .pre in
     subst (λ (q : ℕ). q < 2 ^ 53)
-    (sym (ap (λ (f : Found). f .root) (is c) ∙ found-nearest (m s * 2 ^ (k s % 2)) (inside s .0) (inside s .1)))
+    (sym (ap (λ (f : WholeRoot). f .root) (is c) ∙ whole-root-nearest (m s * 2 ^ (k s % 2)) (inside s .0) (inside s .1)))
     (omega (arith, root-of-radicand (m s) (k s) (p .0) (p .1) .to))
 
 near-root-requires : tie.Need-near-root-requires
@@ -52,7 +52,7 @@ returns : tie.Need-returns
 unfolding tableRootOf
 returns c =
     let s = c .before .before in
-    ap (λ (f : Found). record { root = ofBits binary64 ((k (s .before) / 2 + 485) * 2 ^ 52 + f .root); steps = f .steps }) (is s)
+    ap (λ (f : WholeRoot). record { root = ofBits binary64 ((k (s .before) / 2 + 485) * 2 ^ 52 + f .root); steps = f .steps }) (is s)
 
 pub root-of-spec : {M : Type 1} → statement M
 root-of-spec =

@@ -22,3 +22,9 @@ pub fn file_room() -> [u8; FILE_ROOM]
 {
     [0; FILE_ROOM]
 }
+
+// How many bytes of a text and of an output a program on a file has written.
+pub struct Lengths {
+    pub text: usize,
+    pub output: usize,
+}

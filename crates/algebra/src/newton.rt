@@ -23,7 +23,7 @@ pub enum Equation {
 }
 
 // Where the rounds ended, and how many were begun.
-pub struct Found {
+pub struct Solved {
     pub x: f64,
     pub rounds: u32,
 }
@@ -113,7 +113,7 @@ pub fn newton_raphson_onesided(
     alpha: &[f64],
     ratios: &[f64],
     logs: &[f64],
-) -> Found
+) -> Solved
     requires { ⌜ now ratios ≡ map ratioOf (now alpha) ⌝ }
     ensures { λ r. ⌜ r ≡ newtonOf (f0Of e (now (alpha .entry)) (now (logs .entry))) (f1Of e (now (alpha .entry))) x0 ⌝ }
 {
@@ -124,13 +124,13 @@ pub fn newton_raphson_onesided(
     let mut iter: u32 = 0;
     loop {
         if iter == 100 {
-            break Found { x, rounds: iter };
+            break Solved { x, rounds: iter };
         }
         iter += 1;
         let dfdx = f1(e, alpha, ratios, x);
         let dx = -f0(e, alpha, ratios, logs, x) / dfdx;
         if stops(x, dx, dfdx) {
-            break Found { x, rounds: iter };
+            break Solved { x, rounds: iter };
         }
         x += dx;
     }

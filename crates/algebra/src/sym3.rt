@@ -115,3 +115,9 @@ pub fn cholesky_3x3_explicit_solve(l: [f64; 6], b: [f64; 3]) -> [f64; 3]
     let x0 = (y0 - l10 * x1 - l20 * x2) / l00;
     [x0, x1, x2]
 }
+
+// The gradient and the packed Hessian of the dual barrier of 000 or 001.
+pub struct GradH {
+    pub grad: [f64; 3],
+    pub h: [f64; 6],
+}

@@ -12,30 +12,30 @@ use double::abs;
 use kernels::log;
 
 // What a cone test compares with its margin, beside the logarithm that both are made of.
-pub struct Residue {
+pub struct ExponentialResidue {
     pub res: f64,
     pub log: f64,
 }
 
 // `res` of is_primal_feasible.
-pub(crate) fn primal_residue(s: [f64; 3]) -> Residue
+pub(crate) fn primal_residue(s: [f64; 3]) -> ExponentialResidue
     ensures { λ r. ⌜ r ≡ primalResidue s ⌝ }
 {
     let s1 = s[1];
     let l = log(s[2] / s1);
-    Residue {
+    ExponentialResidue {
         res: s1 * l - s[0],
         log: l,
     }
 }
 
 // `res` of is_dual_feasible.
-pub(crate) fn dual_residue(z: [f64; 3]) -> Residue
+pub(crate) fn dual_residue(z: [f64; 3]) -> ExponentialResidue
     ensures { λ r. ⌜ r ≡ dualResidue z ⌝ }
 {
     let z0 = z[0];
     let l = log(-z[2] / z0);
-    Residue {
+    ExponentialResidue {
         res: z[1] - z0 - z0 * l,
         log: l,
     }

@@ -9,6 +9,7 @@ ghost use Rattle.expcone.specs.Correction.{correctionOf, higherCorrectio
 ghost use Rattle.expcone.specs.DualGradient.{updateDualGradHOf};
 ghost use Rattle.expcone.specs.PrimalGradient.{unitInitializationOf, gradientPrimalOf};
 use crate::wright::omega_at;
+use algebra::sym3::GradH;
 use algebra::sym3::cholesky_3x3_explicit_factor;
 use algebra::sym3::cholesky_3x3_explicit_solve;
 use algebra::vector::dot3;
@@ -26,15 +27,9 @@ pub struct Barrier {
 }
 
 // A primal gradient, and whether the Rust would panic on the way to it; then it is 0.
-pub struct Gradient {
+pub struct ExponentialGradient {
     pub panics: bool,
     pub g: [f64; 3],
-}
-
-// The gradient and the packed Hessian of the dual barrier.
-pub struct GradH {
-    pub grad: [f64; 3],
-    pub h: [f64; 6],
 }
 
 // The start of both s and z.
@@ -223,14 +218,14 @@ pub fn update_dual_grad_h(z: [f64; 3]) -> GradH
 }
 
 // Compute the primal gradient of f(s) at s
-pub fn gradient_primal(s: [f64; 3]) -> Gradient
+pub fn gradient_primal(s: [f64; 3]) -> ExponentialGradient
     ensures { λ r. ⌜ r ≡ gradientPrimalOf s ⌝ }
 {
     let s1 = s[1];
     let s2 = s[2];
     let o = omega_at(s);
     if o.panics {
-        return Gradient {
+        return ExponentialGradient {
             panics: true,
             g: [0.0; 3],
         };
@@ -240,7 +235,7 @@ pub fn gradient_primal(s: [f64; 3]) -> Gradient
     let g0 = 1.0 / ((w - 1.0) * s1);
     let g1 = g0 + g0 * log(w * s1 / s2) - 1.0 / s1;
     let g2 = w / ((1.0 - w) * s2);
-    Gradient {
+    ExponentialGradient {
         panics: false,
         g: [g0, g1, g2],
     }

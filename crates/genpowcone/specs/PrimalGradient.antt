@@ -10,7 +10,7 @@ use Rattle.kernels.specs.Door.{sqrtOf}
 use Rattle.algebra.specs.Vectors.{sumsqOf, normOf}
 use Rattle.algebra.specs.newton.Equations.{genF0, genF1}
 use Rattle.algebra.specs.newton.Rounds.{newtonOf}
-use Rattle.algebra.specs.declared.newton.Found.{Found}
+use Rattle.algebra.specs.declared.newton.Solved.{Solved}
 use Rattle.genpowcone.specs.loops.Folds.{primalPhi}
 use Rattle.genpowcone.specs.loops.Places.{wide, withTail, unitAt, headAt, flatHeadAt, timesAt}
 use Rattle.genpowcone.specs.declared.Gradient.{Gradient}
@@ -28,12 +28,12 @@ unfoldable pub x0Of : Float → Float → Float → Float
 x0Of r φ ψ = neg (#1 ⊘ r) ⊕ (ψ ⊗ r ⊕ sqrtOf ((φ ⊘ r ⊘ r ⊕ ψ ⊗ ψ ⊖ #1) ⊗ φ)) ⊘ (φ ⊖ r ⊗ r)
 
 -- 002 _newton_raphson_genpowcone: p is the head of the point
-unfoldable pub newtonRaphsonGenpowconeOf : Float → List Float → Float → List Float → Float → Found
+unfoldable pub newtonRaphsonGenpowconeOf : Float → List Float → Float → List Float → Float → Solved
 newtonRaphsonGenpowconeOf r p φ α ψ = newtonOf (genF0 r α p) (genF1 r α) (x0Of r φ ψ)
 
 -- 002 gradient_primal, from Newton's answer on. 01: "The primal gradient's tail is g1/norm_r times the tail of the given point", which is
 -- the list w
-unfoldable pub gradientAt : List Float → List Float → List Float → Float → Found → Gradient
+unfoldable pub gradientAt : List Float → List Float → List Float → Float → Solved → Gradient
 gradientAt α p w norm f =
     let g1 = f .x in
     record {

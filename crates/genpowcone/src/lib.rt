@@ -38,7 +38,7 @@ use crate::loops::places::times_from;
 use crate::loops::places::times32;
 use crate::loops::places::unit_head;
 use algebra::newton::Equation;
-use algebra::newton::Found;
+use algebra::newton::Solved;
 use algebra::newton::newton_raphson_onesided;
 use algebra::vector::dot;
 use algebra::vector::head;
@@ -343,7 +343,7 @@ pub fn gradient_primal(alpha: &[f64], s: &[f64]) -> Gradient
 }
 
 // gradient_primal from Newton's answer on
-fn gradient_from(alpha: &[f64], p: &[f64], w: &[f64], normr: f64, found: Found) -> Gradient
+fn gradient_from(alpha: &[f64], p: &[f64], w: &[f64], normr: f64, found: Solved) -> Gradient
     requires { ⌜ length (now alpha) + length (now w) ≤ 64 ⌝ }
     ensures { λ r. ⌜ r ≡ gradientAt (now (alpha .entry)) (now (p .entry)) (now (w .entry)) normr found ⌝ }
 {
@@ -366,7 +366,7 @@ fn gradient_from(alpha: &[f64], p: &[f64], w: &[f64], normr: f64, found: Found) 
 // the Newton-Raphson method converges quadratically
 //
 // logs are the logarithms of the Rust's p.
-fn newton_raphson_genpowcone(normr: f64, logs: &[f64], phi: f64, alpha: &[f64], psi: f64) -> Found
+fn newton_raphson_genpowcone(normr: f64, logs: &[f64], phi: f64, alpha: &[f64], psi: f64) -> Solved
     requires { ⌜ length (now alpha) ≤ 64 ⌝ }
     ensures { λ r. ⌜ r ≡ newtonOf (genF0At normr (now (alpha .entry)) (now (logs .entry)))
         (genF1 normr (now (alpha .entry))) (x0Of normr phi psi) ⌝ }

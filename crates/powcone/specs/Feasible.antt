@@ -8,24 +8,24 @@ use Rattle.kernels.specs.Door.{logOf, expOf}
 use Rattle.cone.specs.declared.verdict.Answer.{Answer}
 use Rattle.cone.specs.verdict.Answers.{judged}
 use Rattle.cone.specs.verdict.Margins.{powerMargin}
-use Rattle.powcone.specs.declared.Residue.{Residue}
+use Rattle.powcone.specs.declared.PowerResidue.{PowerResidue}
 
 -- the residue p - w², beside the two numbers that it is made of
-unfoldable pub residueAt : Float → Float → Residue
+unfoldable pub residueAt : Float → Float → PowerResidue
 residueAt p w = record { res = p ⊖ w ⊗ w; power = p; square = w ⊗ w }
 
 -- 001 is_primal_feasible, res: exp(2α·log s1 + 2(1-α)·log s2) - s3², counting from 1
 abbrev pub primalExponent : Float → Float → Float → Float
 primalExponent α s1 s2 = #2 ⊗ α ⊗ logOf s1 ⊕ #2 ⊗ (#1 ⊖ α) ⊗ logOf s2
 
-unfoldable pub primalResidue : Float → List Float → Residue
+unfoldable pub primalResidue : Float → List Float → PowerResidue
 primalResidue α s = residueAt (expOf (primalExponent α (at s 0) (at s 1))) (at s 2)
 
 -- 001 is_dual_feasible, res: exp(2α·log(z1/α) + (1-α)·log(z2/(1-α))·2) - z3²
 abbrev pub dualExponent : Float → Float → Float → Float
 dualExponent α z1 z2 = α ⊗ #2 ⊗ logOf (z1 ⊘ α) ⊕ (#1 ⊖ α) ⊗ logOf (z2 ⊘ (#1 ⊖ α)) ⊗ #2
 
-unfoldable pub dualResidue : Float → List Float → Residue
+unfoldable pub dualResidue : Float → List Float → PowerResidue
 dualResidue α z = residueAt (expOf (dualExponent α (at z 0) (at z 1))) (at z 2)
 
 -- 02, Order 5: "2^-30·(the exponential plus the sumsq)", of the two numbers that the residue is made of

@@ -10,8 +10,9 @@ ghost use Rattle.powcone.specs.Barriers.{dualPhi, barrierDualOf, barrier
 ghost use Rattle.powcone.specs.PrimalGradient.{unitInitializationOf, newtonRaphsonPowconeOf, signedOf, gradientAt, gradientPrimalOf};
 ghost use Rattle.powcone.specs.DualGradient.{updateDualGradHOf};
 use algebra::newton::Equation;
-use algebra::newton::Found;
+use algebra::newton::Solved;
 use algebra::newton::newton_raphson_onesided;
+use algebra::sym3::GradH;
 use algebra::vector::head;
 use algebra::vector::moved3;
 use cone::verdict::Answer;
@@ -27,22 +28,16 @@ use kernels::sqrt;
 pub mod correction;
 
 // What a cone test compares, with the two numbers that it is the difference of: res = power - square.
-pub struct Residue {
+pub struct PowerResidue {
     pub res: f64,
     pub power: f64,
     pub square: f64,
 }
 
 // The primal gradient, and how many Newton rounds it took; 0 where Newton was not entered.
-pub struct Gradient {
+pub struct PowerGradient {
     pub g: [f64; 3],
     pub rounds: u32,
-}
-
-// The gradient and the packed Hessian of the dual barrier.
-pub struct GradH {
-    pub grad: [f64; 3],
-    pub h: [f64; 6],
 }
 
 pub fn unit_initialization(alpha: f64) -> [f64; 3]
@@ -70,11 +65,11 @@ pub fn compute_barrier(
     0.0 + barrier_dual(alpha, cur_z) + barrier_primal(alpha, cur_s)
 }
 
-fn residue_at(power: f64, s2: f64) -> Residue
+fn residue_at(power: f64, s2: f64) -> PowerResidue
     ensures { λ r. ⌜ r ≡ residueAt power s2 ⌝ }
 {
     let square = s2 * s2;
-    Residue {
+    PowerResidue {
         res: power - square,
         power,
         square,
@@ -82,7 +77,7 @@ fn residue_at(power: f64, s2: f64) -> Residue
 }
 
 // `res` of is_primal_feasible.
-pub(crate) fn primal_residue(alpha: f64, s: [f64; 3]) -> Residue
+pub(crate) fn primal_residue(alpha: f64, s: [f64; 3]) -> PowerResidue
     ensures { λ r. ⌜ r ≡ primalResidue alpha s ⌝ }
 {
     let power = exp(2.0 * alpha * log(s[0]) + 2.0 * (1.0 - alpha) * log(s[1]));
@@ -90,7 +85,7 @@ pub(crate) fn primal_residue(alpha: f64, s: [f64; 3]) -> Residue
 }
 
 // `res` of is_dual_feasible.
-pub(crate) fn dual_residue(alpha: f64, z: [f64; 3]) -> Residue
+pub(crate) fn dual_residue(alpha: f64, z: [f64; 3]) -> PowerResidue
     ensures { λ r. ⌜ r ≡ dualResidue alpha z ⌝ }
 {
     let power = exp(
@@ -204,7 +199,7 @@ pub fn update_dual_grad_h(alpha: f64, z: [f64; 3]) -> GradH
 }
 
 // Compute the primal gradient of f(s) at s
-pub fn gradient_primal(alpha: f64, s: [f64; 3]) -> Gradient
+pub fn gradient_primal(alpha: f64, s: [f64; 3]) -> PowerGradient
     ensures { λ r. ⌜ r ≡ gradientPrimalOf alpha s ⌝ }
 {
     let s0 = s[0];
@@ -220,7 +215,7 @@ pub fn gradient_primal(alpha: f64, s: [f64; 3]) -> Gradient
         let found = newton_raphson_powcone(abs_s, phi, alpha);
         gradient_from(alpha, s, found)
     } else {
-        Gradient {
+        PowerGradient {
             g: [-(1.0 + alpha) / s0, -(2.0 - alpha) / s1, 0.0],
             rounds: 0,
         }
@@ -228,7 +223,7 @@ pub fn gradient_primal(alpha: f64, s: [f64; 3]) -> Gradient
 }
 
 // gradient_primal from Newton's answer on
-fn gradient_from(alpha: f64, s: [f64; 3], found: Found) -> Gradient
+fn gradient_from(alpha: f64, s: [f64; 3], found: Solved) -> PowerGradient
     ensures { λ r. ⌜ r ≡ gradientAt alpha s found ⌝ }
 {
     let s0 = s[0];
@@ -240,7 +235,7 @@ fn gradient_from(alpha: f64, s: [f64; 3], found: Found) -> Gradient
         -((1.0 - alpha) * g2 * s2 + 2.0 - alpha) / s1,
         g2,
     ];
-    Gradient {
+    PowerGradient {
         g,
         rounds: found.rounds,
     }
@@ -260,7 +255,7 @@ fn signed(s2: f64, x: f64) -> f64
 // x(k+1) = x(k) - f(x(k))/f'(x(k))
 // When we initialize x0 such that 0 < x0 < x*,
 // the Newton-Raphson method converges quadratically
-fn newton_raphson_powcone(s3: f64, phi: f64, alpha: f64) -> Found
+fn newton_raphson_powcone(s3: f64, phi: f64, alpha: f64) -> Solved
     ensures { λ r. ⌜ r ≡ newtonRaphsonPowconeOf s3 phi alpha ⌝ }
 {
     // init point x0: since our dual barrier has an additional

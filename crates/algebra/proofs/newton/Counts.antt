@@ -8,7 +8,7 @@ use borrow.Author.Count.{below-more}
 use lib.Ieee.{Float}
 use Rattle.arith.proofs.Turns.{iter-none, iter-next}
 use Rattle.double.specs.Operators.{_⊕_}
-use Rattle.algebra.specs.declared.newton.Found.{Found}
+use Rattle.algebra.specs.declared.newton.Solved.{Solved}
 use Rattle.algebra.specs.newton.Rounds.{stopsAt, dxOf, rounds, newtonOf, after, Counted}
 
 module _ (f0 f1 : Float → Float) (x0 : Float) where
@@ -30,7 +30,7 @@ module _ (f0 f1 : Float → Float) (x0 : Float) where
       }
 
   -- what a round answers, whichever way its test goes
-  by-test : (b : Bool) (r s : Found) → (b ≡ true → Counted f0 f1 x0 r) → (b ≡ false → Counted f0 f1 x0 s) → Counted f0 f1 x0 (cond b r s)
+  by-test : (b : Bool) (r s : Solved) → (b ≡ true → Counted f0 f1 x0 r) → (b ≡ false → Counted f0 f1 x0 s) → Counted f0 f1 x0 (cond b r s)
   by-test true r s p q = p refl
   by-test false r s p q = q refl
 

@@ -9,7 +9,7 @@ use Rattle.arith.specs.Turns.{iter}
 use Rattle.double.specs.Operators.{_⊕_, _⊘_, _≺_}
 use Rattle.double.specs.Numbers.{#ε, #√ε}
 use Rattle.double.specs.Sizes.{absOf}
-use Rattle.algebra.specs.declared.newton.Found.{Found}
+use Rattle.algebra.specs.declared.newton.Solved.{Solved}
 
 -- 003 newton_raphson_onesided: the three conditions that stop a round at x, with the step dx and the derivative dfdx
 unfoldable pub stopsOf : Float → Float → Float → Bool
@@ -25,15 +25,15 @@ module _ (f0 f1 : Float → Float) where
   stopsAt x = stopsOf x (dxOf x) (f1 x)
 
   -- n rounds are done and the point is x; at most `left` more
-  unfoldable pub rounds : ℕ → ℕ → Float → Found
+  unfoldable pub rounds : ℕ → ℕ → Float → Solved
   rounds zero n x = record { x = x; rounds = n }
   rounds (suc left) n x =
-      let stopped : Found = record { x = x; rounds = n + 1 } in
+      let stopped : Solved = record { x = x; rounds = n + 1 } in
       let more = rounds left (n + 1) (x ⊕ dxOf x) in
       cond (stopsAt x) stopped more
 
   -- 01: "Newton: at most 100 rounds; a round that meets a stop condition leaves x as it stood"
-  unfoldable pub newtonOf : Float → Found
+  unfoldable pub newtonOf : Float → Solved
   newtonOf x0 = rounds 100 0 x0
 
   -- the point after k rounds that did not stop
@@ -42,7 +42,7 @@ module _ (f0 f1 : Float → Float) where
 
   -- 01: "the round count (1 to 100) is handed back". So many rounds went on, each with a step; then one stopped and left x as it stood, or
   -- there were a hundred
-  pub record Counted (x0 : Float) (r : Found) : Type 0 where
+  pub record Counted (x0 : Float) (r : Solved) : Type 0 where
     pub steps : ℕ
     pub went-on : (k : ℕ) → k < steps → stopsAt (after x0 k) ≡ false
     pub point : r .x ≡ after x0 steps

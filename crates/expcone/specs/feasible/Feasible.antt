@@ -6,22 +6,22 @@ use lib.Ieee.{Float}
 use Rattle.double.specs.Operators.{at}
 use Rattle.cone.specs.declared.verdict.Answer.{Answer}
 use Rattle.cone.specs.verdict.Answers.{judged}
-use Rattle.expcone.specs.declared.feasible.Residue.{Residue}
+use Rattle.expcone.specs.declared.feasible.ExponentialResidue.{ExponentialResidue}
 use Rattle.expcone.specs.feasible.Primal as primal
 use Rattle.expcone.specs.feasible.Dual as dual
 
 -- 000 is_primal_feasible, res: s2·log(s3/s2) - s1, counting from 1; l is the logarithm
-unfoldable pub primalResidueAt : List Float → Float → Residue
+unfoldable pub primalResidueAt : List Float → Float → ExponentialResidue
 primalResidueAt s l = record { res = primal.residue (at s 0) (at s 1) l; log = l }
 
-unfoldable pub primalResidue : List Float → Residue
+unfoldable pub primalResidue : List Float → ExponentialResidue
 primalResidue s = primalResidueAt s (primal.log (at s 1) (at s 2))
 
 -- 000 is_dual_feasible, res: z2 - z1 - z1·log(-z3/z1), counting from 1; l is the logarithm
-unfoldable pub dualResidueAt : List Float → Float → Residue
+unfoldable pub dualResidueAt : List Float → Float → ExponentialResidue
 dualResidueAt z l = record { res = dual.residue (at z 0) (at z 1) l; log = l }
 
-unfoldable pub dualResidue : List Float → Residue
+unfoldable pub dualResidue : List Float → ExponentialResidue
 dualResidue z = dualResidueAt z (dual.log (at z 0) (at z 2))
 
 -- 02, Order 5: "with l the computed log: primal 2^-40·(s2·(1+|l|)+|s1|)", counting from 1

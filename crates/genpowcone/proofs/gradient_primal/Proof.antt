@@ -14,7 +14,7 @@ use Rattle.kernels.specs.Door.{logOf}
 use Rattle.algebra.specs.Vectors.{sumsqOf, normOf}
 use Rattle.algebra.specs.newton.Equations.{genF0, genF0At, genF1}
 use Rattle.algebra.specs.newton.Rounds.{newtonOf}
-use Rattle.algebra.specs.declared.newton.Found.{Found}
+use Rattle.algebra.specs.declared.newton.Solved.{Solved}
 use Rattle.genpowcone.specs.loops.Folds.{primalPhi}
 use Rattle.genpowcone.proofs.loops.Arrays.{logs-front}
 use Rattle.genpowcone.specs.PrimalGradient.{flatGradient, gradientAt, gradientPrimalOf, newtonRaphsonGenpowconeOf, psiOf, x0Of}
@@ -30,7 +30,7 @@ unfolding newtonRaphsonGenpowconeOf genF0 psiOf
 newton-as r α p logs φ q l f s = rw (l, f, s)
 
 gradient-as
-    : (α s w p : List Float) (n : Float) (f : Found)
+    : (α s w p : List Float) (n : Float) (f : Solved)
     → p ≡ take (length α) s → w ≡ drop (length α) s → n ≡ normOf w → (#ε ≺ n) ≡ true
     → f ≡ newtonRaphsonGenpowconeOf n p (primalPhi α p) α (psiOf α)
     → gradientAt α p w n f ≡ gradientPrimalOf α s

@@ -7,11 +7,13 @@ use Rattle.double.specs.Numbers.{#0, #½, #1, #2}
 use Rattle.kernels.specs.Door.{logOf}
 use Rattle.algebra.specs.Vectors.{dotOf, shiftOf}
 use Rattle.algebra.specs.Cholesky.{factorOf, solveOf}
-use Rattle.algebra.specs.declared.sym3.Factor.{Factor}
 
--- 000 higher_correction, from the dot products on: g0 and g2 are the first and the last place of ψ's gradient, whose middle is 1
-unfoldable pub correctionAt : List Float → List Float → List Float → Float → Float → Float → Float → List Float
-correctionAt z u v g2 g0 ψu ψv =
+-- 000 higher_correction at z, with h the dual Hessian there. 01: "a pivot not above 0 fails and makes the correction zero". The Rust keeps
+-- the gradient of ψ in η, here gψ, and writes the correction over it
+unfoldable pub higherCorrectionOf : List Float → List Float → List Float → List Float → List Float
+higherCorrectionOf h z ds v =
+    let cholH = factorOf h in
+    let u = solveOf (cholH .l) ds in
     let z0 = at z 0 in
     let z1 = at z 1 in
     let z2 = at z 2 in
@@ -19,39 +21,27 @@ correctionAt z u v g2 g0 ψu ψv =
     let u2 = at u 2 in
     let v0 = at v 0 in
     let v2 = at v 2 in
-    let ψ = z0 ⊗ g0 ⊖ z0 ⊕ z1 in
-    let coef = ((u0 ⊗ (v0 ⊘ z0 ⊖ v2 ⊘ z2) ⊕ u2 ⊗ (z0 ⊗ v2 ⊘ z2 ⊖ v0) ⊘ z2) ⊗ ψ ⊖ #2 ⊗ ψu ⊗ ψv) ⊘ (ψ ⊗ ψ ⊗ ψ) in
-    let i = #1 ⊘ (ψ ⊗ ψ) in
+    let gψ1 = #1 in
+    let gψ2 = neg z0 ⊘ z2 in
+    let gψ0 = logOf gψ2 in
+    let gψ = gψ0 ∷ gψ1 ∷ gψ2 ∷ [] in
+    let ψ = z0 ⊗ gψ0 ⊖ z0 ⊕ z1 in
+    let dotψu = dotOf u gψ in
+    let dotψv = dotOf v gψ in
+    let coef = ((u0 ⊗ (v0 ⊘ z0 ⊖ v2 ⊘ z2) ⊕ u2 ⊗ (z0 ⊗ v2 ⊘ z2 ⊖ v0) ⊘ z2) ⊗ ψ ⊖ #2 ⊗ dotψu ⊗ dotψv) ⊘ (ψ ⊗ ψ ⊗ ψ) in
+    let inv-ψ2 = #1 ⊘ (ψ ⊗ ψ) in
     let η0 =
-    g0 ⊗ coef
+    gψ0 ⊗ coef
     ⊕ ((#1 ⊘ ψ ⊖ #2 ⊘ z0) ⊗ u0 ⊗ v0 ⊘ (z0 ⊗ z0) ⊖ u2 ⊗ v2 ⊘ (z2 ⊗ z2) ⊘ ψ
-    ⊕ ψu ⊗ i ⊗ (v0 ⊘ z0 ⊖ v2 ⊘ z2)
-    ⊕ ψv ⊗ i ⊗ (u0 ⊘ z0 ⊖ u2 ⊘ z2)) in
-    let η1 = #1 ⊗ coef in
+    ⊕ dotψu ⊗ inv-ψ2 ⊗ (v0 ⊘ z0 ⊖ v2 ⊘ z2)
+    ⊕ dotψv ⊗ inv-ψ2 ⊗ (u0 ⊘ z0 ⊖ u2 ⊘ z2)) in
+    let η1 = gψ1 ⊗ coef in
     let η2 =
-    g2 ⊗ coef
+    gψ2 ⊗ coef
     ⊕ (#2 ⊗ (z0 ⊘ ψ ⊖ #1) ⊗ u2 ⊗ v2 ⊘ (z2 ⊗ z2 ⊗ z2) ⊖ (u2 ⊗ v0 ⊕ u0 ⊗ v2) ⊘ (z2 ⊗ z2) ⊘ ψ
-    ⊕ ψu ⊗ i ⊗ (z0 ⊗ v2 ⊘ (z2 ⊗ z2) ⊖ v0 ⊘ z2)
-    ⊕ ψv ⊗ i ⊗ (z0 ⊗ u2 ⊘ (z2 ⊗ z2) ⊖ u0 ⊘ z2)) in
-    η0 ⊗ #½ ∷ η1 ⊗ #½ ∷ η2 ⊗ #½ ∷ []
-
--- 000 higher_correction, from the logarithm g0 on: ψ's gradient is (g0, 1, g2)
-unfoldable pub correctionWith : List Float → List Float → List Float → Float → Float → List Float
-correctionWith z u v g2 g0 = correctionAt z u v g2 g0 (dotOf u (g0 ∷ #1 ∷ g2 ∷ [])) (dotOf v (g0 ∷ #1 ∷ g2 ∷ []))
-
--- 000 higher_correction, from u = H⁻¹Δs on: g2 is -z1/z3, counting from 1
-unfoldable pub correctionOf : List Float → List Float → List Float → List Float
-correctionOf z u v =
-    let g2 = neg (at z 0) ⊘ at z 2 in
-    correctionWith z u v g2 (logOf g2)
-
--- 01: "a pivot not above 0 fails and makes the correction zero"
-unfoldable pub correctionBy : List Float → List Float → List Float → Factor → List Float
-correctionBy z ds v f = cond (f .ok) (correctionOf z (solveOf (f .l) ds) v) (#0 ∷ #0 ∷ #0 ∷ [])
-
--- 000 higher_correction at z, with h the dual Hessian there
-unfoldable pub higherCorrectionOf : List Float → List Float → List Float → List Float → List Float
-higherCorrectionOf h z ds v = correctionBy z ds v (factorOf h)
+    ⊕ dotψu ⊗ inv-ψ2 ⊗ (z0 ⊗ v2 ⊘ (z2 ⊗ z2) ⊖ v0 ⊘ z2)
+    ⊕ dotψv ⊗ inv-ψ2 ⊗ (z0 ⊗ u2 ⊘ (z2 ⊗ z2) ⊖ u0 ⊘ z2)) in
+    cond (cholH .ok) (η0 ⊗ #½ ∷ η1 ⊗ #½ ∷ η2 ⊗ #½ ∷ []) (#0 ∷ #0 ∷ #0 ∷ [])
 
 -- 000 combined_ds_shift
 unfoldable pub combinedDsShiftOf : List Float → List Float → List Float → List Float → List Float → Float → List Float

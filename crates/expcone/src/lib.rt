@@ -5,7 +5,7 @@
 
 ghost use mathlib.Core.Path.{_≡_};
 ghost use Rattle.expcone.specs.Barriers.{barrierPrimalOf, barrierDualOf, computeBarrierOf};
-ghost use Rattle.expcone.specs.Correction.{correctionOf, higherCorrectionOf, combinedDsShiftOf};
+ghost use Rattle.expcone.specs.Correction.{higherCorrectionOf, combinedDsShiftOf};
 ghost use Rattle.expcone.specs.DualGradient.{updateDualGradHOf};
 ghost use Rattle.expcone.specs.PrimalGradient.{unitInitializationOf, gradientPrimalOf};
 use crate::wright::omega_at;
@@ -114,48 +114,6 @@ pub fn barrier_dual(z: [f64; 3]) -> f64
     -log(-z2 * z0) - log(z1 - z0 - z0 * l)
 }
 
-// higher_correction from u = H^{-1}*Δs on
-fn correction(z: [f64; 3], u: [f64; 3], v: [f64; 3]) -> [f64; 3]
-    ensures { λ r. ⌜ r ≡ correctionOf z u v ⌝ }
-{
-    let z0 = z[0];
-    let z1 = z[1];
-    let z2 = z[2];
-    let u0 = u[0];
-    let u2 = u[2];
-    let v0 = v[0];
-    let v2 = v[2];
-
-    // gradient of ψ
-    let g2 = -z0 / z2;
-    let g0 = log(g2);
-    let eta = [g0, 1.0, g2];
-
-    let psi = z0 * g0 - z0 + z1;
-
-    let dotpsiu = dot3(u, eta);
-    let dotpsiv = dot3(v, eta);
-
-    let coef = ((u0 * (v0 / z0 - v2 / z2) + u2 * (z0 * v2 / z2 - v0) / z2) * psi
-        - 2.0 * dotpsiu * dotpsiv)
-        / (psi * psi * psi);
-
-    let inv_psi2 = 1.0 / (psi * psi);
-
-    // efficient implementation for η above
-    let eta0 = g0 * coef
-        + ((1.0 / psi - 2.0 / z0) * u0 * v0 / (z0 * z0) - u2 * v2 / (z2 * z2) / psi
-            + dotpsiu * inv_psi2 * (v0 / z0 - v2 / z2)
-            + dotpsiv * inv_psi2 * (u0 / z0 - u2 / z2));
-    let eta1 = 1.0 * coef;
-    let eta2 = g2 * coef
-        + (2.0 * (z0 / psi - 1.0) * u2 * v2 / (z2 * z2 * z2) - (u2 * v0 + u0 * v2) / (z2 * z2) / psi
-            + dotpsiu * inv_psi2 * (z0 * v2 / (z2 * z2) - v0 / z2)
-            + dotpsiv * inv_psi2 * (z0 * u2 / (z2 * z2) - u0 / z2));
-
-    [eta0 * 0.5, eta1 * 0.5, eta2 * 0.5]
-}
-
 // 3rd-order correction at the point z, where h is the Hessian of the dual barrier.  Output is η.
 //
 // η = -0.5*[(dot(u,Hψ,v)*ψ - 2*dotψu*dotψv)/(ψ*ψ*ψ)*gψ +
@@ -180,13 +138,49 @@ pub fn higher_correction(h: [f64; 6], z: [f64; 3], ds: [f64; 3], v: [f64; 3]) ->
 {
     // solve H*u = ds
     let chol = cholesky_3x3_explicit_factor(h);
-    if chol.ok {
-        let l = chol.l;
-        let u = cholesky_3x3_explicit_solve(l, ds);
-        correction(z, u, v)
-    } else {
-        [0.0; 3]
+    if !chol.ok {
+        return [0.0; 3];
     }
+    let l = chol.l;
+    let u = cholesky_3x3_explicit_solve(l, ds);
+
+    let z0 = z[0];
+    let z1 = z[1];
+    let z2 = z[2];
+    let u0 = u[0];
+    let u2 = u[2];
+    let v0 = v[0];
+    let v2 = v[2];
+
+    // the gradient of ψ, which the Rust keeps in η
+    let gpsi1 = 1.0;
+    let gpsi2 = -z0 / z2;
+    let gpsi0 = log(gpsi2);
+    let gpsi = [gpsi0, gpsi1, gpsi2];
+
+    let psi = z0 * gpsi0 - z0 + z1;
+
+    let dotpsiu = dot3(u, gpsi);
+    let dotpsiv = dot3(v, gpsi);
+
+    let coef = ((u0 * (v0 / z0 - v2 / z2) + u2 * (z0 * v2 / z2 - v0) / z2) * psi
+        - 2.0 * dotpsiu * dotpsiv)
+        / (psi * psi * psi);
+
+    let inv_psi2 = 1.0 / (psi * psi);
+
+    // efficient implementation for η above
+    let eta0 = gpsi0 * coef
+        + ((1.0 / psi - 2.0 / z0) * u0 * v0 / (z0 * z0) - u2 * v2 / (z2 * z2) / psi
+            + dotpsiu * inv_psi2 * (v0 / z0 - v2 / z2)
+            + dotpsiv * inv_psi2 * (u0 / z0 - u2 / z2));
+    let eta1 = gpsi1 * coef;
+    let eta2 = gpsi2 * coef
+        + (2.0 * (z0 / psi - 1.0) * u2 * v2 / (z2 * z2 * z2) - (u2 * v0 + u0 * v2) / (z2 * z2) / psi
+            + dotpsiu * inv_psi2 * (z0 * v2 / (z2 * z2) - v0 / z2)
+            + dotpsiv * inv_psi2 * (z0 * u2 / (z2 * z2) - u0 / z2));
+
+    [eta0 * 0.5, eta1 * 0.5, eta2 * 0.5]
 }
 
 pub fn update_dual_grad_h(z: [f64; 3]) -> GradH

@@ -14,28 +14,20 @@ noFactor = record { ok = false; l = #0 ∷ #0 ∷ #0 ∷ #0 ∷ #0 ∷ #0 ∷ []
 abbrev pub ifAbove : Float → Factor → Factor
 ifAbove pivot f = cond (#0 ≺ pivot) f noFactor
 
--- The factor from the diagonal's three roots on
-unfoldable pub withThird : Float → Float → Float → Float → Float → Float → Factor
-withThird l00 l10 l11 l20 l21 l22 = record { ok = true; l = l00 ∷ l10 ∷ l11 ∷ l20 ∷ l21 ∷ l22 ∷ [] }
-
--- 01: "l21 = (h12-l10·l20)/l11; l10 = h01/l00, l20 = h02/l00". The factor from the second root on
-unfoldable pub withSecond : Float → Float → Float → Float → Float → Float → Factor
-withSecond h02 h12 h22 l00 l10 l11 =
-    let l20 = h02 ⊘ l00 in
-    let l21 = (h12 ⊖ l10 ⊗ l20) ⊘ l11 in
-    let pivot = h22 ⊖ l20 ⊗ l20 ⊖ l21 ⊗ l21 in
-    ifAbove pivot (withThird l00 l10 l11 l20 l21 (sqrtOf pivot))
-
--- The factor from the first root on
-unfoldable pub withFirst : Float → Float → Float → Float → Float → Float → Factor
-withFirst h01 h11 h02 h12 h22 l00 =
-    let l10 = h01 ⊘ l00 in
-    let pivot = h11 ⊖ l10 ⊗ l10 in
-    ifAbove pivot (withSecond h02 h12 h22 l00 l10 (sqrtOf pivot))
-
--- 01: "pivots h00, h11-l10², h22-l20²-l21²", and "the diagonal holds the pivots' roots"
+-- 01: "pivots h00, h11-l10², h22-l20²-l21²", "the diagonal holds the pivots' roots", and
+-- "l21 = (h12-l10·l20)/l11; l10 = h01/l00, l20 = h02/l00"
 unfoldable pub factorOf : List Float → Factor
-factorOf h = ifAbove (at h 0) (withFirst (at h 1) (at h 2) (at h 3) (at h 4) (at h 5) (sqrtOf (at h 0)))
+factorOf h =
+    let p0 = at h 0 in
+    let l00 = sqrtOf p0 in
+    let l10 = at h 1 ⊘ l00 in
+    let p1 = at h 2 ⊖ l10 ⊗ l10 in
+    let l11 = sqrtOf p1 in
+    let l20 = at h 3 ⊘ l00 in
+    let l21 = (at h 4 ⊖ l10 ⊗ l20) ⊘ l11 in
+    let p2 = at h 5 ⊖ l20 ⊗ l20 ⊖ l21 ⊗ l21 in
+    let l22 = sqrtOf p2 in
+    ifAbove p0 (ifAbove p1 (ifAbove p2 (record { ok = true; l = l00 ∷ l10 ∷ l11 ∷ l20 ∷ l21 ∷ l22 ∷ [] })))
 
 -- 01: "forward then backward substitution, subtracting known products in rising index order, with division by the diagonal"
 unfoldable pub solveOf : List Float → List Float → List Float

@@ -47,11 +47,9 @@ movedOf (x ∷ xs) a (d ∷ dx) = x ⊕ a ⊗ d ∷ movedOf xs a dx
 unfoldable pub shiftOf : List Float → Float → List Float → List Float
 shiftOf grad σμ η = at grad 0 ⊗ σμ ⊖ at η 0 ∷ at grad 1 ⊗ σμ ⊖ at η 1 ∷ at grad 2 ⊗ σμ ⊖ at η 2 ∷ []
 
--- 01: "normalize multiplies by 1/norm and does nothing at norm 0". Three components, n the norm
-unfoldable pub normalizeAt : List Float → Float → List Float
-normalizeAt x n =
-    let c = #1 ⊘ n in
-    cond (eq n #0) x (at x 0 ⊗ c ∷ at x 1 ⊗ c ∷ at x 2 ⊗ c ∷ [])
-
+-- 01: "normalize multiplies by 1/norm and does nothing at norm 0". Three components
 unfoldable pub normalizeOf : List Float → List Float
-normalizeOf x = normalizeAt x (normOf x)
+normalizeOf x =
+    let norm = normOf x in
+    let c = #1 ⊘ norm in
+    cond (eq norm #0) x (at x 0 ⊗ c ∷ at x 1 ⊗ c ∷ at x 2 ⊗ c ∷ [])

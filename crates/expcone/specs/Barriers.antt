@@ -7,20 +7,16 @@ use Rattle.double.specs.Numbers.{#0, #1, #2, #3}
 use Rattle.kernels.specs.Door.{logOf}
 use Rattle.algebra.specs.Vectors.{movedOf}
 use Rattle.expcone.specs.declared.Barrier.{Barrier}
-use Rattle.expcone.specs.declared.wright.Omega.{Omega}
 use Rattle.expcone.specs.wright.Omega.{omegaAt}
 
--- 000 barrier_primal, from omega on
-unfoldable pub barrierPrimalAt : Float → Float → Omega → Barrier
-barrierPrimalAt s1 s2 o =
+-- 000 barrier_primal; where ω panics, so does it
+unfoldable pub barrierPrimalOf : List Float → Barrier
+barrierPrimalOf s =
+    let o = omegaAt s in
     let w = (o .w ⊖ #1) ⊗ (o .w ⊖ #1) ⊘ o .w in
     cond (o .panics)
     (record { panics = true; value = #0 })
-    (record { panics = false; value = neg (logOf w) ⊖ logOf s1 ⊗ #2 ⊖ logOf s2 ⊖ #3 })
-
--- 000 barrier_primal
-unfoldable pub barrierPrimalOf : List Float → Barrier
-barrierPrimalOf s = barrierPrimalAt (at s 1) (at s 2) (omegaAt s)
+    (record { panics = false; value = neg (logOf w) ⊖ logOf (at s 1) ⊗ #2 ⊖ logOf (at s 2) ⊖ #3 })
 
 -- 000 barrier_dual: one logarithm is of the product -z3·z1, counting from 1
 unfoldable pub barrierDualOf : List Float → Float
@@ -29,8 +25,8 @@ barrierDualOf z =
     neg (logOf (neg (at z 2) ⊗ at z 0)) ⊖ logOf (at z 1 ⊖ at z 0 ⊖ at z 0 ⊗ l)
 
 -- 000 compute_barrier: the dual barrier is added to +0 first
-unfoldable pub computeBarrierAt : Float → Barrier → Barrier
-computeBarrierAt dual primal = cond (primal .panics) primal (record { panics = false; value = #0 ⊕ dual ⊕ primal .value })
-
 unfoldable pub computeBarrierOf : List Float → List Float → List Float → List Float → Float → Barrier
-computeBarrierOf z s dz ds α = computeBarrierAt (barrierDualOf (movedOf z α dz)) (barrierPrimalOf (movedOf s α ds))
+computeBarrierOf z s dz ds α =
+    let dual = barrierDualOf (movedOf z α dz) in
+    let primal = barrierPrimalOf (movedOf s α ds) in
+    cond (primal .panics) primal (record { panics = false; value = #0 ⊕ dual ⊕ primal .value })

@@ -6,12 +6,13 @@ use Rattle.double.specs.Numbers.{#1}
 use Rattle.kernels.specs.Door.{logOf}
 use Rattle.algebra.specs.declared.sym3.GradH.{GradH}
 
--- 000 update_dual_grad_H at z, l the logarithm of -z3/z1. 01: "Packed order is (0,0),(0,1),(1,1),(0,2),(1,2),(2,2)"
-unfoldable pub gradHAt : List Float → Float → GradH
-gradHAt z l =
+-- 000 update_dual_grad_H at z. 01: "Packed order is (0,0),(0,1),(1,1),(0,2),(1,2),(2,2)"
+unfoldable pub updateDualGradHOf : List Float → GradH
+updateDualGradHOf z =
     let z0 = at z 0 in
     let z1 = at z 1 in
     let z2 = at z 2 in
+    let l = logOf (neg z2 ⊘ z0) in
     let r = neg z0 ⊗ l ⊖ z0 ⊕ z1 in
     let c2 = #1 ⊘ r in
     record {
@@ -25,7 +26,3 @@ gradHAt z l =
           ∷ (r ⊗ r ⊖ z0 ⊗ r ⊕ z0 ⊗ z0) ⊘ (r ⊗ r ⊗ z2 ⊗ z2)
           ∷ [];
     }
-
--- 000 update_dual_grad_H
-unfoldable pub updateDualGradHOf : List Float → GradH
-updateDualGradHOf z = gradHAt z (logOf (neg (at z 2) ⊘ at z 0))

@@ -17,19 +17,16 @@ barrierDualOf α z =
     let arg1 = dualPhi α (at z 0) (at z 1) ⊖ at z 2 ⊗ at z 2 in
     neg (logOf arg1) ⊖ (#1 ⊖ α) ⊗ logOf (at z 0) ⊖ α ⊗ logOf (at z 1)
 
--- 001 barrier_primal, from the primal gradient g on; the 3 is taken off before the last sum
-unfoldable pub barrierPrimalAt : Float → List Float → Float
-barrierPrimalAt α g =
+-- 001 barrier_primal; the 3 is taken off before the last sum
+unfoldable pub barrierPrimalOf : Float → List Float → Float
+barrierPrimalOf α s =
+    let g = gradientPrimalOf α s .g in
     let g0 = at g 0 in
     let g1 = at g 1 in
     let g2 = at g 2 in
     #0 ⊕ logOf (powfOf (neg g0 ⊘ α) (#2 ⊗ α) ⊗ powfOf (neg g1 ⊘ (#1 ⊖ α)) (#2 ⊖ α ⊗ #2) ⊖ g2 ⊗ g2)
     ⊕ (#1 ⊖ α) ⊗ logOf (neg g0)
     ⊕ (α ⊗ logOf (neg g1) ⊖ #3)
-
--- 001 barrier_primal
-unfoldable pub barrierPrimalOf : Float → List Float → Float
-barrierPrimalOf α s = barrierPrimalAt α (gradientPrimalOf α s .g)
 
 -- 001 compute_barrier after the step a: the dual part first
 unfoldable pub computeBarrierOf : Float → List Float → List Float → List Float → List Float → Float → Float

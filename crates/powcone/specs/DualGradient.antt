@@ -6,12 +6,13 @@ use Rattle.double.specs.Numbers.{#1, #2, #4}
 use Rattle.algebra.specs.declared.sym3.GradH.{GradH}
 use Rattle.powcone.specs.Barriers.{dualPhi}
 
--- 001 update_dual_grad_H at z, with φ given. 01: "Packed order is (0,0),(0,1),(1,1),(0,2),(1,2),(2,2)"
-unfoldable pub gradHAt : Float → List Float → Float → GradH
-gradHAt α z φ =
+-- 001 update_dual_grad_H at z. 01: "Packed order is (0,0),(0,1),(1,1),(0,2),(1,2),(2,2)"
+unfoldable pub updateDualGradHOf : Float → List Float → GradH
+updateDualGradHOf α z =
     let z0 = at z 0 in
     let z1 = at z 1 in
     let z2 = at z 2 in
+    let φ = dualPhi α z0 z1 in
     let ψ = φ ⊖ z2 ⊗ z2 in
     let gψ0 = #2 ⊗ α ⊗ φ ⊘ (z0 ⊗ ψ) in
     let gψ1 = #2 ⊗ (#1 ⊖ α) ⊗ φ ⊘ (z1 ⊗ ψ) in
@@ -31,7 +32,3 @@ gradHAt α z φ =
           ∷ gψ2 ⊗ gψ2 ⊕ #2 ⊘ ψ
           ∷ [];
     }
-
--- 001 update_dual_grad_H
-unfoldable pub updateDualGradHOf : Float → List Float → GradH
-updateDualGradHOf α z = gradHAt α z (dualPhi α (at z 0) (at z 1))

@@ -15,46 +15,29 @@ use Rattle.powcone.specs.declared.PowerGradient.{PowerGradient}
 unfoldable pub unitInitializationOf : Float → List Float
 unitInitializationOf α = sqrtOf (#1 ⊕ α) ∷ sqrtOf (#1 ⊕ (#1 ⊖ α)) ∷ #0 ∷ []
 
--- 001 _newton_raphson_powcone, x0. It lies right of the root for most exponents other than ½, and the rounds then stop at it
-unfoldable pub x0Of : Float → Float → Float
-x0Of s3 φ = neg (#1 ⊘ s3) ⊕ (s3 ⊗ #2 ⊕ sqrtOf (φ ⊗ φ ⊘ (s3 ⊗ s3) ⊕ φ ⊗ #3)) ⊘ (φ ⊖ s3 ⊗ s3)
-
--- 001 _newton_raphson_powcone, t0
-unfoldable pub t0Of : Float → Float
-t0Of α = neg #2 ⊗ α ⊗ logOf α ⊖ #2 ⊗ (#1 ⊖ α) ⊗ logOf (#1 ⊖ α)
-
--- 001 _newton_raphson_powcone
+-- 001 _newton_raphson_powcone. x0 lies right of the root for most exponents other than ½, and the rounds then stop at it
 unfoldable pub newtonRaphsonPowconeOf : Float → Float → Float → Solved
-newtonRaphsonPowconeOf s3 φ α = newtonOf (powF0 s3 φ α (t0Of α)) (powF1 s3 α) (x0Of s3 φ)
+newtonRaphsonPowconeOf s3 φ α =
+    let x0 = neg (#1 ⊘ s3) ⊕ (s3 ⊗ #2 ⊕ sqrtOf (φ ⊗ φ ⊘ (s3 ⊗ s3) ⊕ φ ⊗ #3)) ⊘ (φ ⊖ s3 ⊗ s3) in
+    let t0 = neg #2 ⊗ α ⊗ logOf α ⊖ #2 ⊗ (#1 ⊖ α) ⊗ logOf (#1 ⊖ α) in
+    newtonOf (powF0 s3 φ α t0) (powF1 s3 α) x0
 
 -- 001 gradient_primal: g3 takes the sign of s3
 unfoldable pub signedOf : Float → Float → Float
 signedOf s2 x = cond (s2 ≺ #0) (neg x) x
 
--- 001 gradient_primal, from Newton's answer on
-unfoldable pub gradientAt : Float → List Float → Solved → PowerGradient
-gradientAt α s f =
-    let g2 = signedOf (at s 2) (f .x) in
-    record {
-      g =
-          neg (α ⊗ g2 ⊗ at s 2 ⊕ #1 ⊕ α) ⊘ at s 0
-          ∷ neg ((#1 ⊖ α) ⊗ g2 ⊗ at s 2 ⊕ #2 ⊖ α) ⊘ at s 1
-          ∷ g2
-          ∷ [];
-      rounds = f .rounds;
-    }
-
--- 001 gradient_primal where |s3| is not above ε; a NaN is not
-unfoldable pub flatGradient : Float → List Float → PowerGradient
-flatGradient α s = record { g = neg (#1 ⊕ α) ⊘ at s 0 ∷ neg (#2 ⊖ α) ⊘ at s 1 ∷ #0 ∷ []; rounds = 0 }
-
--- 001 gradient_primal, unscaled ϕ
-unfoldable pub primalPhi : Float → List Float → Float
-primalPhi α s = powfOf (at s 0) (#2 ⊗ α) ⊗ powfOf (at s 1) (#2 ⊖ α ⊗ #2)
-
--- 01: "The primal gradient enters Newton only if |s3| is above ε", and "handed back by it and by every primal gradient, 0 where Newton was
--- not entered"
+-- 001 gradient_primal. 01: "The primal gradient enters Newton only if |s3| is above ε"; a NaN is not. And its round count is
+-- "handed back by it and by every primal gradient, 0 where Newton was not entered"
 unfoldable pub gradientPrimalOf : Float → List Float → PowerGradient
 gradientPrimalOf α s =
-    let size = absOf (at s 2) in
-    cond (#ε ≺ size) (gradientAt α s (newtonRaphsonPowconeOf size (primalPhi α s) α)) (flatGradient α s)
+    let s0 = at s 0 in
+    let s1 = at s 1 in
+    let s2 = at s 2 in
+    let φ = powfOf s0 (#2 ⊗ α) ⊗ powfOf s1 (#2 ⊖ α ⊗ #2) in
+    let abs-s = absOf s2 in
+    let found = newtonRaphsonPowconeOf abs-s φ α in
+    let g2 = signedOf s2 (found .x) in
+    let g0 = neg (α ⊗ g2 ⊗ s2 ⊕ #1 ⊕ α) ⊘ s0 in
+    let g1 = neg ((#1 ⊖ α) ⊗ g2 ⊗ s2 ⊕ #2 ⊖ α) ⊘ s1 in
+    let flat = neg (#1 ⊕ α) ⊘ s0 ∷ neg (#2 ⊖ α) ⊘ s1 ∷ #0 ∷ [] in
+    cond (#ε ≺ abs-s) (record { g = g0 ∷ g1 ∷ g2 ∷ []; rounds = found .rounds }) (record { g = flat; rounds = 0 })

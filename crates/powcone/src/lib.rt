@@ -6,8 +6,8 @@
 // The exponent α is a parameter `alpha` of every function, and 1-α is computed anew at each place, as in the Rust.
 ghost use mathlib.Core.Path.{_≡_};
 ghost use Rattle.powcone.specs.Feasible.{residueAt, primalResidue, dualResidue, primalFeasible, dualFeasible};
-ghost use Rattle.powcone.specs.Barriers.{dualPhi, barrierDualOf, barrierPrimalAt, barrierPrimalOf, computeBarrierOf};
-ghost use Rattle.powcone.specs.PrimalGradient.{unitInitializationOf, newtonRaphsonPowconeOf, signedOf, gradientAt, gradientPrimalOf};
+ghost use Rattle.powcone.specs.Barriers.{dualPhi, barrierDualOf, barrierPrimalOf, computeBarrierOf};
+ghost use Rattle.powcone.specs.PrimalGradient.{unitInitializationOf, newtonRaphsonPowconeOf, signedOf, gradientPrimalOf};
 ghost use Rattle.powcone.specs.DualGradient.{updateDualGradHOf};
 use algebra::newton::Equation;
 use algebra::newton::Solved;
@@ -123,12 +123,6 @@ pub fn barrier_primal(alpha: f64, s: [f64; 3]) -> f64
 {
     let f = gradient_primal(alpha, s);
     let g = f.g;
-    barrier_primal_at(alpha, g)
-}
-
-fn barrier_primal_at(alpha: f64, g: [f64; 3]) -> f64
-    ensures { λ r. ⌜ r ≡ barrierPrimalAt alpha g ⌝ }
-{
     let g0 = g[0];
     let g1 = g[1];
     let g2 = g[2];
@@ -213,31 +207,18 @@ pub fn gradient_primal(alpha: f64, s: [f64; 3]) -> PowerGradient
     let abs_s = abs(s2);
     if abs_s > EPSILON {
         let found = newton_raphson_powcone(abs_s, phi, alpha);
-        gradient_from(alpha, s, found)
+        let g2 = signed(s2, found.x);
+        let g0 = -(alpha * g2 * s2 + 1.0 + alpha) / s0;
+        let g1 = -((1.0 - alpha) * g2 * s2 + 2.0 - alpha) / s1;
+        PowerGradient {
+            g: [g0, g1, g2],
+            rounds: found.rounds,
+        }
     } else {
         PowerGradient {
             g: [-(1.0 + alpha) / s0, -(2.0 - alpha) / s1, 0.0],
             rounds: 0,
         }
-    }
-}
-
-// gradient_primal from Newton's answer on
-fn gradient_from(alpha: f64, s: [f64; 3], found: Solved) -> PowerGradient
-    ensures { λ r. ⌜ r ≡ gradientAt alpha s found ⌝ }
-{
-    let s0 = s[0];
-    let s1 = s[1];
-    let s2 = s[2];
-    let g2 = signed(s2, found.x);
-    let g = [
-        -(alpha * g2 * s2 + 1.0 + alpha) / s0,
-        -((1.0 - alpha) * g2 * s2 + 2.0 - alpha) / s1,
-        g2,
-    ];
-    PowerGradient {
-        g,
-        rounds: found.rounds,
     }
 }
 

@@ -12,7 +12,6 @@ use Rattle.algebra.specs.Packed.{quadFormOf, scaledOf}
 use Rattle.scaling.specs.declared.primal_dual.Measures.{Measures}
 use Rattle.scaling.specs.primal_dual.Block.{primalDualBlock}
 use Rattle.cone.specs.Codes.{dual}
-use Rattle.kinds.specs.declared.three.ThreeGradient.{ThreeGradient}
 use Rattle.kinds.specs.Three.{gradientPrimalOf}
 use Rattle.scaling.specs.declared.Scaled.{Scaled}
 
@@ -41,18 +40,14 @@ apart m = (#√ε ≺ absOf (m .de1)) && (#ε ≺ absOf (m .de2)) && (#0 ≺ m .
 abbrev pub scaledBy : List Float → Scaled
 scaledBy hs = record { panics = false; hs = hs }
 
--- 01: "Fallback uses μ = ⟨s,z⟩/3, not the caller's μ"
-unfoldable pub chosenBy : List Float → List Float → List Float → List Float → List Float → Measures → Scaled
-chosenBy h st zt s z m = cond (apart m) (scaledBy (primalDualBlock h st zt s z m)) (scaledBy (scaledOf (m .mu) h))
-
--- 003 use_primal_dual_scaling, with what the primal gradient answered
-unfoldable pub primalDualBy : List Float → List Float → List Float → List Float → ThreeGradient → Scaled
-primalDualBy grad h s z p =
-    let zt = p .g in
-    let refused : Scaled = record { panics = true; hs = #0 ∷ #0 ∷ #0 ∷ #0 ∷ #0 ∷ #0 ∷ [] } in
-    cond (p .panics) refused (chosenBy h grad zt s z (measureOf h grad zt s z))
-
--- 003 update_Hs. 01: "strategy 1 uses the caller's"; the primal gradient's round count stays behind
+-- 003 update_Hs, with use_dual_scaling and use_primal_dual_scaling. 01: "strategy 1 uses the caller's", and
+-- "Fallback uses μ = ⟨s,z⟩/3, not the caller's μ"; the primal gradient's round count stays behind
 unfoldable pub updateHsOf : ℕ → Float → ℕ → Float → List Float → List Float → List Float → List Float → Scaled
 updateHsOf kind α strategy μ grad h s z =
-    cond (eqb strategy dual) (scaledBy (scaledOf μ h)) (primalDualBy grad h s z (gradientPrimalOf kind α s))
+    let primal = gradientPrimalOf kind α s in
+    let refused : Scaled = record { panics = true; hs = #0 ∷ #0 ∷ #0 ∷ #0 ∷ #0 ∷ #0 ∷ [] } in
+    let zt = primal .g in
+    let m = measureOf h grad zt s z in
+    cond (eqb strategy dual) (scaledBy (scaledOf μ h))
+    (cond (primal .panics) refused
+    (cond (apart m) (scaledBy (primalDualBlock h grad zt s z m)) (scaledBy (scaledOf (m .mu) h))))

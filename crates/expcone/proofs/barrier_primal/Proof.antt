@@ -1,13 +1,26 @@
 -- `barrier_primal` meets its contract: omega's flag picks the definition's branch. Assumes nothing.
 use mathlib.Core.Path.{refl, ap, _∙_}
-use lib.Ieee.{Float}
-use Rattle.arith.proofs.Branches.{taken, left}
-use Rattle.double.specs.Operators.{at}
+use mathlib.Core.Bool.{true, false, cond}
 use mathlib.Core.List.{List}
-use Rattle.expcone.specs.Barriers.{barrierPrimalOf, barrierPrimalAt}
+use lib.Ieee.{Float, neg}
+use Rattle.arith.proofs.Branches.{taken, left}
+use Rattle.double.specs.Operators.{_⊖_, _⊗_, _⊘_, at}
+use Rattle.double.specs.Numbers.{#0, #1, #2, #3}
+use Rattle.kernels.specs.Door.{logOf}
+use Rattle.expcone.specs.declared.Barrier.{Barrier}
+use Rattle.expcone.specs.declared.wright.Omega.{Omega}
+use Rattle.expcone.specs.Barriers.{barrierPrimalOf}
 use borrow.Author.Needs.{needs}
 use Rattle.expcone.proofs.barrier_primal.Statement.{statement}
 use Rattle.expcone.proofs.barrier_primal.Tie as tie
+
+-- the definition, from omega on
+unfoldable barrierPrimalAt : Float → Float → Omega → Barrier
+barrierPrimalAt s1 s2 o =
+    let w = (o .w ⊖ #1) ⊗ (o .w ⊖ #1) ⊘ o .w in
+    cond (o .panics)
+    (record { panics = true; value = #0 })
+    (record { panics = false; value = neg (logOf w) ⊖ logOf s1 ⊗ #2 ⊖ logOf s2 ⊖ #3 })
 
 abbrev point : tie.After-omega-at → List Float
 point w = w .before .args .t1

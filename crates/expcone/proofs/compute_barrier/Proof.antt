@@ -1,11 +1,20 @@
 -- `compute_barrier` meets its contract: the primal barrier's flag picks the definition's branch. Assumes nothing.
 use mathlib.Core.Path.{_≡_, refl, ap, ap₂, _∙_}
+use mathlib.Core.Bool.{false, cond}
+use lib.Ieee.{Float}
 use Rattle.arith.proofs.Branches.{taken, left}
+use Rattle.double.specs.Operators.{_⊕_}
+use Rattle.double.specs.Numbers.{#0}
 use Rattle.algebra.specs.Vectors.{movedOf}
-use Rattle.expcone.specs.Barriers.{barrierPrimalOf, barrierDualOf, computeBarrierOf, computeBarrierAt}
+use Rattle.expcone.specs.declared.Barrier.{Barrier}
+use Rattle.expcone.specs.Barriers.{barrierPrimalOf, barrierDualOf, computeBarrierOf}
 use borrow.Author.Needs.{needs}
 use Rattle.expcone.proofs.compute_barrier.Statement.{statement}
 use Rattle.expcone.proofs.compute_barrier.Tie as tie
+
+-- the definition, from both barriers on
+unfoldable computeBarrierAt : Float → Barrier → Barrier
+computeBarrierAt dual primal = cond (primal .panics) primal (record { panics = false; value = #0 ⊕ dual ⊕ primal .value })
 
 abbrev start : tie.After-barrier-primal → tie.Start
 start p = p .before .before .before .before

@@ -44,21 +44,14 @@ refineOf a =
     let wp16 = wp1 ⊗ wp1 ⊗ wp1 ⊗ wp1 ⊗ wp1 ⊗ wp1 in
     record { w = w'; r = (w' ⊗ w' ⊗ #2 ⊖ w' ⊗ #8 ⊖ #1) ⊘ (wp16 ⊗ #72) ⊗ r4 }
 
--- 01: "exactly two refinements", from the start w with the logarithm l
-unfoldable pub refinedAt : Float → Float → Float → Approx
-refinedAt z w l = iter (λ _ a. refineOf a) (record { w = w; r = z ⊖ w ⊖ l }) 2
-
+-- 01: "exactly two refinements", from the start w
 unfoldable pub refinedOf : Float → Float → Float
-refinedOf z w = refinedAt z w (logOf w) .w
+refinedOf z w = iter (λ _ a. refineOf a) (record { w = w; r = z ⊖ w ⊖ logOf w }) 2 .w
 
 -- 000 _wright_omega. 01, number 6: "Wright omega argument below 0". A NaN is not below 0
 unfoldable pub omegaOf : Float → Omega
 omegaOf z = cond (z ≺ #0) (record { panics = true; w = #0 }) (record { panics = false; w = refinedOf z (startOf z) })
 
--- 000 barrier_primal and gradient_primal, the argument of omega: 1 - s1/s2 - log(s2/s3), counting from 1; l is the logarithm
-unfoldable pub omegaArg : Float → Float → Float → Float
-omegaArg s0 s1 l = #1 ⊖ s0 ⊘ s1 ⊖ l
-
--- 000 barrier_primal and gradient_primal: omega at the point s
+-- 000 barrier_primal and gradient_primal: ω(1 - s1/s2 - log(s2/s3)), counting from 1
 unfoldable pub omegaAt : List Float → Omega
-omegaAt s = omegaOf (omegaArg (at s 0) (at s 1) (logOf (at s 1 ⊘ at s 2)))
+omegaAt s = omegaOf (#1 ⊖ at s 0 ⊘ at s 1 ⊖ logOf (at s 1 ⊘ at s 2))

@@ -2,7 +2,7 @@
 use mathlib.Core.Path.{refl}
 use borrow.Author.Needs.{needs}
 use Rattle.algebra.specs.newton.Equations.{powF0, f0Of, f1Of}
-use Rattle.powcone.specs.PrimalGradient.{newtonRaphsonPowconeOf, t0Of, x0Of}
+use Rattle.powcone.specs.PrimalGradient.{newtonRaphsonPowconeOf}
 use Rattle.powcone.proofs.newton_raphson_powcone.Statement.{statement}
 use Rattle.powcone.proofs.newton_raphson_powcone.Tie as tie
 
@@ -11,7 +11,7 @@ newton-raphson-onesided-requires : tie.Need-newton-raphson-onesided-requires
 newton-raphson-onesided-requires c κs = rw (c .before .head .ensures) refl
 
 returns : tie.Need-returns
-unfolding newtonRaphsonPowconeOf x0Of t0Of powF0 f0Of f1Of
+unfolding newtonRaphsonPowconeOf powF0 f0Of f1Of
 returns c =
     let shift = c .before .before .before .before in
     rw (

@@ -1,13 +1,12 @@
 -- `update_dual_grad_h` is its definition: only φ comes from a call. Assumes nothing.
-use mathlib.Core.Path.{ap}
 use borrow.Author.Needs.{needs}
-use Rattle.powcone.specs.DualGradient.{gradHAt, updateDualGradHOf}
+use Rattle.powcone.specs.DualGradient.{updateDualGradHOf}
 use Rattle.powcone.proofs.update_dual_grad_h.Statement.{statement}
 use Rattle.powcone.proofs.update_dual_grad_h.Tie as tie
 
 returns : tie.Need-returns
-unfolding updateDualGradHOf gradHAt
-returns c = let a = c .before .args in ap (gradHAt (a .alpha) (a .t2)) (c .dual-phi .ensures)
+unfolding updateDualGradHOf
+returns c = rw (c .dual-phi .ensures)
 
 pub update-dual-grad-h-spec : {M : Type 1} → statement M
 update-dual-grad-h-spec =

@@ -19,9 +19,9 @@ use Rattle.judges.specs.Judges.{allOf, coneOk, coneOkWithin, threeOk, threeFini
 use Rattle.cone.specs.table.Table.{firstRow, settle}
 use Rattle.judges.specs.Refusals.{lastRows}
 use Rattle.expcone.specs.feasible.Feasible as expcone
-use Rattle.expcone.specs.wright.Omega.{taylorStart, startOf, refineOf, refinedAt, refinedOf, omegaOf, omegaArg, omegaAt}
-use Rattle.expcone.specs.PrimalGradient.{gradientBy, gradientPrimalOf}
-use Rattle.expcone.specs.DualGradient.{gradHAt, updateDualGradHOf}
+use Rattle.expcone.specs.wright.Omega.{taylorStart, startOf, refineOf, refinedOf, omegaOf, omegaAt}
+use Rattle.expcone.specs.PrimalGradient.{gradientPrimalOf}
+use Rattle.expcone.specs.DualGradient.{updateDualGradHOf}
 use Rattle.powcone.specs.Feasible as powcone
 use Rattle.kinds.specs.Answers.{expAnswer, powAnswer, answerIn}
 use Rattle.kinds.specs.Passes.{passesIn}
@@ -45,7 +45,7 @@ unfolding table isPrimalFeasibleOf isDualFeasibleOf dualGradHOf backtrackSearchO
     trial movedOf toldOf absOf powerMargin expcone.primalFeasible expcone.primalSigns expcone.primalResidue expcone.primalResidueAt
     expcone.primalMargin expcone.primalMarginAt expcone.dualFeasible expcone.dualSigns expcone.dualResidue expcone.dualResidueAt
     expcone.dualMargin expcone.dualMarginAt powcone.primalFeasible powcone.signs powcone.primalResidue powcone.primalMargin
-    powcone.residueAt taylorStart startOf refineOf refinedAt refinedOf omegaOf omegaArg omegaAt gradientBy gradientPrimalOf gradHAt
+    powcone.residueAt taylorStart startOf refineOf refinedOf omegaOf omegaAt gradientPrimalOf
     updateDualGradHOf iter dec logOf byFieldOf positiveOf normalOf scaledOf mantissaOf shortSeriesOf ratioOf upper logarithms expOf expAt
     composed horner coefficient factorial rest raised placeOf gap border mag shift add sub mul div neg lt le eq ne isNan toBits ofBits
     ofFields ofInt round size units odd span climb trailingZeros leadingZeros

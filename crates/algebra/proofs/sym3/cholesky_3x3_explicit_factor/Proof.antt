@@ -1,11 +1,34 @@
--- `cholesky_3x3_explicit_factor` meets its contract: each pivot's test picks the definition's branch, and each root is the kernel's.
--- Assumes nothing.
+-- `cholesky_3x3_explicit_factor` meets its contract: each pivot's test picks the definition's branch, and each root is the kernel's. The
+-- definition is taken in stages, one for each root. Assumes nothing.
 use mathlib.Core.Path.{refl, ap, _∙_}
+use mathlib.Core.Bool.{true}
+use mathlib.Core.List.{[], _∷_}
+use lib.Ieee.{Float}
 use Rattle.arith.proofs.Branches.{taken, left}
-use Rattle.algebra.specs.Cholesky.{factorOf, withFirst, withSecond, withThird}
+use Rattle.double.specs.Operators.{_⊖_, _⊗_, _⊘_}
+use Rattle.kernels.specs.Door.{sqrtOf}
+use Rattle.algebra.specs.declared.sym3.Factor.{Factor}
+use Rattle.algebra.specs.Cholesky.{ifAbove, factorOf}
 use borrow.Author.Needs.{needs}
 use Rattle.algebra.proofs.sym3.cholesky_3x3_explicit_factor.Statement.{statement}
 use Rattle.algebra.proofs.sym3.cholesky_3x3_explicit_factor.Tie as tie
+
+-- the factor from the third root on, from the second, from the first
+unfoldable withThird : Float → Float → Float → Float → Float → Float → Factor
+withThird l00 l10 l11 l20 l21 l22 = record { ok = true; l = l00 ∷ l10 ∷ l11 ∷ l20 ∷ l21 ∷ l22 ∷ [] }
+
+unfoldable withSecond : Float → Float → Float → Float → Float → Float → Factor
+withSecond h02 h12 h22 l00 l10 l11 =
+    let l20 = h02 ⊘ l00 in
+    let l21 = (h12 ⊖ l10 ⊗ l20) ⊘ l11 in
+    let p2 = h22 ⊖ l20 ⊗ l20 ⊖ l21 ⊗ l21 in
+    ifAbove p2 (withThird l00 l10 l11 l20 l21 (sqrtOf p2))
+
+unfoldable withFirst : Float → Float → Float → Float → Float → Float → Factor
+withFirst h01 h11 h02 h12 h22 l00 =
+    let l10 = h01 ⊘ l00 in
+    let p1 = h11 ⊖ l10 ⊗ l10 in
+    ifAbove p1 (withSecond h02 h12 h22 l00 l10 (sqrtOf p1))
 
 returns : tie.Need-returns
 unfolding factorOf withFirst withSecond withThird
@@ -19,7 +42,7 @@ returns c =
     ∙ ap (withFirst _ _ _ _ _) (s1 .sqrt .ensures))
 
 returns-2 : tie.Need-returns-2
-unfolding factorOf withFirst withSecond
+unfolding factorOf withFirst withSecond withThird
 returns-2 c =
     let s2 = c .before in
     let s1 = s2 .before .before in
@@ -28,7 +51,7 @@ returns-2 c =
     ∙ ap (withFirst _ _ _ _ _) (s1 .sqrt .ensures))
 
 returns-3 : tie.Need-returns-3
-unfolding factorOf withFirst
+unfolding factorOf withFirst withSecond withThird
 returns-3 c =
     let s1 = c .before in
     taken _ (s1 .before .if1 .taken) (left _ (c .if2 .left) refl ∙ ap (withFirst _ _ _ _ _) (s1 .sqrt .ensures))

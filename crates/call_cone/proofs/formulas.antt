@@ -1,4 +1,4 @@
--- Laws that the entries share: lengths of a call that is let through, lists changed place by place; and that outcomes agree.
+-- Laws that the entries share: lengths of a call that is let through and of the rectified numbers; and that outcomes agree.
 mod Lengths
 mod Places
 pub mod Agree

@@ -5,7 +5,7 @@ ghost use Prim.Native.Nat.{_≤_};
 ghost use lib.ListN.{length};
 ghost use Rattle.cone.specs.Codes.{isWide};
 ghost use Rattle.cone.specs.Fresh.{freshOf, emptyCone, noThree, noWide, attemptOf, houseSettings, houseStrategy};
-ghost use Rattle.cone.specs.Points.{threeOf, wideOf};
+ghost use Rattle.cone.specs.Points.{threeOf, padded};
 ghost use Rattle.double.specs.Operators.{at};
 use double::nan;
 
@@ -241,7 +241,7 @@ pub fn three_of(xs: &[f64]) -> [f64; 3]
 // A lent slice in 64 places, as a record of kind 3 keeps it.
 pub fn wide_of(xs: &[f64]) -> [f64; 64]
     requires { ⌜ length (now xs) ≤ 64 ⌝ }
-    ensures { λ r. ⌜ r ≡ wideOf (now (xs .entry)) ⌝ }
+    ensures { λ r. ⌜ r ≡ padded 64 (now (xs .entry)) ⌝ }
 {
     let mut a = [0.0; 64];
     for i in 0..xs.len() {

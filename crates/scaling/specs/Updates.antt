@@ -8,7 +8,7 @@ use Rattle.cone.specs.declared.Cone.{Cone}
 use Rattle.cone.specs.declared.Wide.{Wide}
 use Rattle.cone.specs.declared.Attempt.{Attempt}
 use Rattle.cone.specs.Fresh.{noThree, noWide, attemptOf}
-use Rattle.cone.specs.Points.{threeOf, wideOf}
+use Rattle.cone.specs.Points.{threeOf, padded}
 use Rattle.genpowcone.specs.DualGradient as genDual
 use Rattle.kinds.specs.Three.{updateDualGradHOf}
 use Rattle.kinds.specs.Cones.{alphaOf, alphasOf}
@@ -28,7 +28,7 @@ wideAt w z μ = record { z = z; mu = μ; grad = w .grad; p = w .p; q = w .q; r =
 unfoldable pub newWide : Cone → List Float → Float → Attempt
 newWide c z μ =
     let dual = genDual.updateDualGradHOf (alphasOf c) z in
-    attemptOf c (dual .panics) noThree (wideAt (dual .wide) (wideOf z) μ)
+    attemptOf c (dual .panics) noThree (wideAt (dual .wide) (padded 64 z) μ)
 
 unfoldable pub newRecordOf : Cone → List Float → List Float → Float → ℕ → Attempt
 newRecordOf c s z μ strategy = cond (isWide (c .kind)) (newWide c z μ) (newThree c (threeOf s) (threeOf z) μ strategy)

@@ -15,10 +15,10 @@ use Rattle.cone.specs.declared.Updated.{Updated}
 use Rattle.cone.specs.declared.Attempt.{Attempt}
 use Rattle.cone.specs.Fresh.{noThree, noWide}
 use Rattle.cone.specs.Codes.{numelOf}
-use Rattle.cone.specs.Points.{threeOf, wideOf}
+use Rattle.cone.specs.Points.{threeOf, padded}
 use Rattle.cone.specs.table.Table.{settle}
 use Rattle.judges.specs.Refusals.{lastRows, refuseUpdate}
-use Rattle.cone.proofs.Points.{three-of-three, wide-front, wide-behind}
+use Rattle.cone.proofs.Points.{three-of-three, padded-front, padded-behind}
 use Rattle.judges.proofs.Lengths.{numel-3D}
 use Rattle.genpowcone.proofs.Held.{unused-zero}
 use Rattle.cone.specs.Calls.{WideCall}
@@ -123,16 +123,13 @@ module _ (r : Scaling) (s z : List Float) (μ : Float) (k : ℕ) where
   unfolding newThree
   three-z = refl
 
-  wide-z : newWide (r .cone) z μ .scaling .wide .z ≡ wideOf z
+  wide-z : newWide (r .cone) z μ .scaling .wide .z ≡ padded 64 z
   unfolding newWide
   wide-z = refl
 
   -- all of its numbers stand in front
-  wide-kept : WideCall (r .cone) z → r .cone .kind ≡ 3 → take (r .cone .dim1 + r .cone .dim2) (wideOf z) ≡ z
-  wide-kept w e =
-      let m = w .sized e in
-      let d = w .dims e in
-      rw (← m) (wide-front z (omega (arith, m, d .0, d .1)))
+  wide-kept : WideCall (r .cone) z → r .cone .kind ≡ 3 → take (r .cone .dim1 + r .cone .dim2) (padded 64 z) ≡ z
+  wide-kept w e = padded-front 64 z _ (w .sized e)
 
   three-wide : newThree (r .cone) (threeOf s) (threeOf z) μ k .scaling .wide ≡ noWide
   unfolding newThree
@@ -147,7 +144,7 @@ module _ (r : Scaling) (s z : List Float) (μ : Float) (k : ℕ) where
       let m = w .sized e in
       let u = unused-zero (alphasOf (r .cone)) z (omega (arith, n, m)) in
       record {
-        z-behind = λ i h b. wide-behind z i (omega (arith, m)) b;
+        z-behind = λ i h b. padded-behind 64 z i (omega (arith, m)) b;
         grad-behind = λ i h b. u .grad-unused i (omega (arith, m)) b;
         p-behind = λ i h b. u .p-unused i (omega (arith, m)) b;
         q-behind = λ i h b. u .q-unused i (omega (arith, n)) b;

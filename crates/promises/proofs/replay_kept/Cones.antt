@@ -7,12 +7,13 @@ use native.Mathlib.Omega.{arith}
 use lib.Dec.{leb}
 use lib.Ieee.{Float}
 use lib.ListN.{length, take}
-use lib.Seq.{take-at, length-take-le}
+use lib.Seq.{length-take-le}
 use Rattle.double.specs.Operators.{at}
 use Rattle.cone.specs.declared.Cone.{Cone}
 use Rattle.cone.specs.Codes.{numelOf}
 use Rattle.judges.specs.Judges.{allOf, exponentOk, ruleOk, toleranceOf, sumOk, wideOk, threeOk, coneOkWithin, coneOk}
-use Rattle.cone.specs.Points.{threeOf}
+use Rattle.cone.specs.Points.{threeOf, padded}
+use Rattle.cone.proofs.Points.{padded-front}
 use Rattle.judges.proofs.Lengths.{dim1-at-most}
 use Rattle.cone.specs.verdict.Answers.{isYes}
 use Rattle.kinds.specs.Answers.{answerIn, powAnswer, genpowAnswer}
@@ -20,7 +21,6 @@ use Rattle.kinds.specs.Passes.{passesIn}
 use Rattle.kinds.proofs.EachKind.{cone, each-kind}
 use Rattle.trace_layout.specs.Records.{exponents}
 use Rattle.trace.specs.places.Given.{dim1Of, dim2Of, usedExps}
-use Rattle.trace.specs.value.Recorded.{padded}
 
 -- as `keptOf` has it
 abbrev pub keptCone : Cone → Cone
@@ -35,10 +35,6 @@ pub record Alike (k c : Cone) : Type 0 where
   pub ok : coneOk k ≡ coneOk c
   pub dual : test k false ≡ test c false
   pub primal : test k true ≡ test c true
-
-pub take-padded : (m n : ℕ) (xs : List Float) → length xs ≡ n → take n (padded m xs) ≡ xs
-unfolding padded
-take-padded m n xs h = take-at xs _ n h
 
 alike-1 : (d₁ d₂ rule : ℕ) (exps : List Float) → Alike (keptCone (cone 1 d₁ d₂ rule exps)) (cone 1 d₁ d₂ rule exps)
 unfolding numelOf coneOk coneOkWithin threeOk passesIn answerIn
@@ -85,4 +81,4 @@ kept-alike c places ok =
         → take (c .dim1) (padded 32 (take (c .dim1) (c .exps))) ≡ take (c .dim1) (c .exps)
     heads-kept wide =
         let few = dim1-at-most (c .dim1) (c .dim2) (c .exps) (toleranceOf (c .rule)) wide in
-        take-padded 32 (c .dim1) (take (c .dim1) (c .exps)) (length-take-le (c .dim1) (c .exps) (omega (arith, few, places)))
+        padded-front 32 (take (c .dim1) (c .exps)) (c .dim1) (length-take-le (c .dim1) (c .exps) (omega (arith, few, places)))

@@ -12,7 +12,8 @@ use Rattle.call_search.specs.single.Entries.{stepLengthOf}
 use Rattle.trace_layout.specs.Records.{Record, sizeIn}
 use Rattle.trace_layout.specs.Traces.{editionAt}
 use Rattle.trace.specs.value.Defaults.{defaultOf, toldStep}
-use Rattle.trace.specs.value.Recorded.{valuesOf, padded, coneOf, settingsOf, stepsOf, recordedOf}
+use Rattle.cone.specs.Points.{padded}
+use Rattle.trace.specs.value.Recorded.{valuesOf, coneOf, settingsOf, stepsOf, recordedOf}
 use Rattle.trace.proofs.value.Defaults.{defaults-right}
 use Rattle.trace_replay.specs.rerun.Rerun.{sameAnswers, blankPoint, rerunOf, agreesOf}
 use Rattle.trace_replay.specs.slices.Replay.{sameRecord, sameCount, differing, replayOf}

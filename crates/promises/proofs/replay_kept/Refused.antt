@@ -18,11 +18,12 @@ use Rattle.call_search.specs.single.Rows.{stepFaults}
 use Rattle.call_search.specs.single.Entries.{refuseSteps, stepLengthOf}
 use Rattle.call_search.proofs.single.Demand3.{let-through}
 use Rattle.trace_layout.specs.Records.{Record, Laid, dimsOk, shapeOk}
-use Rattle.trace.specs.value.Recorded.{padded, valuesOf, coneOf, settingsOf, stepsOf, recordedOf}
+use Rattle.cone.specs.Points.{padded}
+use Rattle.cone.proofs.Points.{padded-front}
+use Rattle.trace.specs.value.Recorded.{valuesOf, coneOf, settingsOf, stepsOf, recordedOf}
 use Rattle.trace_replay.specs.rerun.Rerun.{blankPoint, rerunOf, agreesOf}
 use Rattle.trace_replay.specs.slices.Replay.{sameRecord}
 use Rattle.promises.specs.replay_kept.Refused.{RefusedDiffers}
-use Rattle.promises.proofs.replay_kept.Cones.{take-padded}
 use Rattle.promises.proofs.replay_kept.Exactly.{compared}
 
 -- ---- the vectors of a record that can be laid out have the cone's length
@@ -44,7 +45,7 @@ unfolding numelOf coneOf shapeOk dimsOk
 numel-laid e r l = numel-by (eqb (r .kind) 3) (r .kind) (r .dim1) (r .dim2) (and-left _ (leb (r .flag) 1) (l .shape))
 
 vector-back : (n : ℕ) (ws : List ℕ) → length ws ≡ n → take n (padded 64 (valuesOf ws)) ≡ valuesOf ws
-vector-back n ws h = take-padded 64 n (valuesOf ws) (length-map ws (ofBits binary64) ∙ h)
+vector-back n ws h = padded-front 64 (valuesOf ws) n (length-map ws (ofBits binary64) ∙ h)
 
 -- ---- what a record that is the same has
 

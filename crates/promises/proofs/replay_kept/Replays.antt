@@ -17,7 +17,9 @@ use Rattle.trace_layout.specs.Records.{Record, sizeIn}
 use Rattle.trace.specs.places.Given.{givenOf}
 use Rattle.trace.specs.entries.Values.{Passed}
 use Rattle.trace.specs.value.Defaults.{defaultOf}
-use Rattle.trace.specs.value.Recorded.{padded, valuesOf, coneOf, settingsOf, stepsOf, recordedOf}
+use Rattle.cone.specs.Points.{padded}
+use Rattle.cone.proofs.Points.{padded-front}
+use Rattle.trace.specs.value.Recorded.{valuesOf, coneOf, settingsOf, stepsOf, recordedOf}
 use Rattle.trace.specs.kept.Kept.{keptOf, keptSteps}
 use Rattle.trace.proofs.kept.Appended.{append-done}
 use Rattle.trace.proofs.kept.Kept.{values-kept}
@@ -26,7 +28,7 @@ use Rattle.promises.proofs.rules.Answers.{answers}
 use Rattle.trace_replay.specs.rerun.Rerun.{sameAnswers, blankPoint, rerunOf, agreesOf}
 use Rattle.trace_replay.specs.slices.Replay.{sameRecord, noted, differing}
 use Rattle.promises.specs.replay_kept.Replays.{Searched, ReplaysSame, NoRuleDiffers}
-use Rattle.promises.proofs.replay_kept.Cones.{keptCone, Alike, take-padded, kept-alike}
+use Rattle.promises.proofs.replay_kept.Cones.{keptCone, Alike, kept-alike}
 use Rattle.promises.proofs.replay_kept.Exactly.{same-gives, gives-same}
 use Rattle.promises.proofs.replay_kept.Again.{Taken, taken, other-cone, same-kept, blank-length}
 
@@ -60,10 +62,10 @@ module _ (e : ℕ) (c : Cone) (flag : ℕ) (settings : Settings) (dz ds z s : Li
       let point = take (numelOf k) blankPoint in
       let places = blank-length (numelOf k) few in
       same-vectors k point how steps _ _ _ _ dz ds z s
-      (take-padded 64 (numelOf k) dz (was .dz-length ∙ sym n))
-      (take-padded 64 (numelOf k) ds (was .ds-length ∙ sym n))
-      (take-padded 64 (numelOf k) z (was .z-length ∙ sym n))
-      (take-padded 64 (numelOf k) s (was .s-length ∙ sym n))
+      (padded-front 64 dz (numelOf k) (was .dz-length ∙ sym n))
+      (padded-front 64 ds (numelOf k) (was .ds-length ∙ sym n))
+      (padded-front 64 z (numelOf k) (was .z-length ∙ sym n))
+      (padded-front 64 s (numelOf k) (was .s-length ∙ sym n))
       (other-cone c dz ds z s (made .dualPoint) (made .primalPoint) how k alike point point (places ∙ n ∙ sym (was .p-length))
       (places ∙ n ∙ sym (was .q-length)) ∙ made .answer)
 

@@ -16,7 +16,8 @@ use Rattle.call_search.specs.single.Entries.{stepLengthOf}
 use Rattle.trace_layout.specs.Records.{Record, sizeIn}
 use Rattle.trace_layout.specs.Traces.{editionAt, goodTrace, recordsOf}
 use Rattle.trace.specs.value.Defaults.{toldStep}
-use Rattle.trace.specs.value.Recorded.{valuesOf, padded, coneOf, stepsOf}
+use Rattle.cone.specs.Points.{padded}
+use Rattle.trace.specs.value.Recorded.{valuesOf, coneOf, stepsOf}
 use Rattle.trace_replay.specs.rerun.Rerun.{sameAnswers, blankPoint}
 use Rattle.trace_replay.specs.slices.Replay.{noted, Noted, refuse, replayOf}
 

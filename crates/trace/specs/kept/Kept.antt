@@ -11,7 +11,7 @@ use Rattle.trace_layout.specs.Records.{sizeIn}
 use Rattle.trace.specs.places.Given.{dim1Of, dim2Of, usedExps, givenOf}
 use Rattle.trace.specs.declared.value.Recorded.{Recorded}
 use Rattle.trace.specs.value.Defaults.{defaultOf}
-use Rattle.trace.specs.value.Recorded.{padded}
+use Rattle.cone.specs.Points.{padded}
 
 -- the steps' code is no part of a record
 abbrev pub keptSteps : Steps → Steps

@@ -1,15 +1,16 @@
 -- A record by value, its numbers as doubles. Definitions only.
-use Prim.Native.Nat.{ℕ, _+_, _-_}
+use Prim.Native.Nat.{ℕ, _+_}
 use mathlib.Core.Bool.{cond, _&&_}
-use mathlib.Core.List.{List, [], _++_, map}
+use mathlib.Core.List.{List, [], map}
 use lib.Dec.{eqb, ltb}
 use lib.Ieee.{Float, binary64, ofBits}
-use lib.ListN.{length, getD, replicate}
+use lib.ListN.{getD, replicate}
 use Rattle.double.specs.Numbers.{#0}
 use Rattle.cone.specs.declared.Cone.{Cone}
 use Rattle.cone.specs.declared.Settings.{Settings}
 use Rattle.cone.specs.declared.Steps.{Steps}
 use Rattle.cone.specs.Fresh.{emptyCone}
+use Rattle.cone.specs.Points.{padded}
 use Rattle.octets.specs.words.Words.{rowOf}
 use Rattle.trace_layout.specs.Records.{Record, sizeIn, recordAt}
 use Rattle.trace_layout.specs.Traces.{countAt, editionAt, offsetAt, goodTrace, recordsOf}
@@ -19,10 +20,6 @@ use Rattle.trace.specs.value.Defaults.{defaultOf}
 -- the doubles of their bits
 abbrev pub valuesOf : List ℕ → List Float
 valuesOf ws = map (ofBits binary64) ws
-
--- a vector in m places: behind its end they are +0
-unfoldable pub padded : ℕ → List Float → List Float
-padded m xs = xs ++ replicate (m - length xs) #0
 
 -- the first n doubles of a row of bytes, in m places
 unfoldable pub rowIn : ℕ → ℕ → List ℕ → List Float

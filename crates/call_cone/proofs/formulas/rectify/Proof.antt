@@ -2,26 +2,22 @@
 use mathlib.Core.Path.{_≡_, _∙_, sym, ap}
 use mathlib.Core.List.{List}
 use Prim.Native.Nat.{ℕ, _≤_}
-use native.Mathlib.Omega.{arith}
 use lib.Ieee.{Float}
-use lib.ListN.{length, take, length-map}
+use lib.ListN.{length, take}
 use Rattle.cone.specs.declared.Cone.{Cone}
-use Rattle.cone.specs.Points.{wideOf}
+use Rattle.cone.specs.Points.{padded}
 use Rattle.judges.specs.Refusals.{Lent, publishOf, refuse}
-use Rattle.cone.proofs.Points.{wide-front}
+use Rattle.cone.proofs.Points.{padded-front}
 use Rattle.judges.proofs.Lengths.{cut}
 use Rattle.cone.proofs.table.Settled.{refused, done}
 use Rattle.call_cone.proofs.copies.Lengths.{copy-length}
 use Rattle.call_cone.specs.formulas.Rows.{copyRows}
 use Rattle.call_cone.specs.formulas.Equilibration.{rectifiedOf}
 use Rattle.call_cone.specs.formulas.Entries.{rectifyOf}
+use Rattle.call_cone.proofs.formulas.Places.{same-count}
 use borrow.Author.Needs.{needs}
 use Rattle.call_cone.proofs.formulas.rectify.Statement.{statement}
 use Rattle.call_cone.proofs.formulas.rectify.Tie as tie
-
-same-count : (e : List Float) → length (rectifiedOf e) ≡ length e
-unfolding rectifiedOf
-same-count e = simp length-map
 
 module _ (c : Cone) (δ e : List Float) (r : ℕ) (k : r ≡ copyRows c (length δ) e) (z : r ≡ 0) where
   let-through : (length e ≡ length δ) × (length e ≤ 64)
@@ -31,13 +27,11 @@ module _ (c : Cone) (δ e : List Float) (r : ℕ) (k : r ≡ copyRows c (length 
   as-long : {sent : List Float} (d : List Float) → length d ≡ 64 → sent ≡ take (length e) d → length sent ≡ length δ
   as-long d l h = cut (length e) 64 d (let-through .1) l h ∙ let-through .0
 
-  answer : {sent d : List Float} {x : Lent ℕ} → x ≡ publishOf δ sent → sent ≡ take (length e) d → d ≡ wideOf (rectifiedOf e)
+  answer : {sent d : List Float} {x : Lent ℕ} → x ≡ publishOf δ sent → sent ≡ take (length e) d → d ≡ padded 64 (rectifiedOf e)
       → x ≡ rectifyOf c δ e
   unfolding rectifyOf
   answer {d = d} p h w =
-      let n : length (rectifiedOf e) ≡ length e = same-count e in
-      let f = wide-front (rectifiedOf e) (omega (arith, n, let-through .1)) in
-      p ∙ ap (publishOf δ) (h ∙ ap (take (length e)) w ∙ ap (λ (m : ℕ). take m (wideOf (rectifiedOf e))) (sym n) ∙ f)
+      p ∙ ap (publishOf δ) (h ∙ ap (take (length e)) w ∙ padded-front 64 (rectifiedOf e) (length e) (same-count e))
       ∙ done _ r _ (refuse δ) k z
 
 -- the rows were asked

@@ -1,103 +1,71 @@
--- The statements of specs/Places, by the laws of arrays written place by place: a place behind the last written one holds the +0 it began
--- with. Assumes nothing.
-use Prim.Native.Nat.{ℕ, _+_, _≤_, _<_, min}
-use mathlib.Core.Path.{_≡_, sym, subst, _∙_}
+-- The places of the dual gradient and Hessian that no number stands in: each array is a list with +0 behind it, and the list is no longer than
+-- the places in use. Assumes nothing.
+use Prim.Native.Nat.{ℕ, _+_, _≤_, _<_}
+use mathlib.Core.Path.{_≡_}
 use mathlib.Core.Bool.{Bool, true, false, cond}
 use mathlib.Core.List.{List}
 use native.Mathlib.Omega.{arith}
-use lib.ListN.{length, drop, length-take, length-drop, getD-replicate}
+use lib.ListN.{length, drop, length-append, length-map, length-take, length-drop, getD-replicate}
 use lib.Ieee.{Float, nan}
-use Rattle.double.specs.Operators.{_⊖_, _⊗_, _≺_, at}
+use Rattle.double.specs.Operators.{_⊖_, _≺_, at}
 use Rattle.double.specs.Numbers.{#0}
 use Rattle.algebra.specs.Vectors.{sumsqOf}
 use Rattle.cone.specs.Fresh.{noWide}
+use Rattle.cone.proofs.Points.{padded-behind}
 use Rattle.cone.specs.declared.Wide.{Wide}
 use Rattle.genpowcone.specs.loops.Folds.{dualPhi}
-use Rattle.genpowcone.specs.loops.Places.{wide, withTail, timesAt, constantAt, headsOf}
-use Rattle.genpowcone.proofs.loops.Arrays.{narrow-behind, wide-behind, wide-within, wide-length, withTail-before, withTail-behind}
-use Rattle.genpowcone.proofs.loops.Arrays.{withTail-within}
-use Rattle.genpowcone.specs.Rank3.{getHsOf, pOf, qOf, rank3At}
-use Rattle.genpowcone.specs.DualGradient.{gradHAt, updateDualGradHOf}
-use Rattle.genpowcone.specs.Places.{HsPlaces, UnusedZero}
-use Rattle.genpowcone.specs.declared.GradH.{GradH}
+use Rattle.genpowcone.proofs.loops.Arrays.{zip-length}
+use Rattle.genpowcone.specs.Rank3.{rank3At}
+use Rattle.genpowcone.specs.DualGradient.{updateDualGradHOf}
+use Rattle.genpowcone.specs.declared.WideGradH.{WideGradH}
 
-pub hs-places : (μ : Float) (d1 : List Float) (d2 : Float) (dim2 : ℕ) → length d1 + dim2 ≤ 64 → HsPlaces μ d1 d2 dim2
-unfolding getHsOf
-hs-places μ d1 d2 dim2 fits =
-    record {
-      head-places =
-          λ i h.
-          withTail-before heads (length d1) (constantAt (μ ⊗ d2)) dim2 i h
-          ∙ wide-within (timesAt μ d1) (length d1) i h (omega arith);
-      tail-places =
-          λ j h.
-          withTail-within heads (length d1) (constantAt (μ ⊗ d2)) dim2 j h
-          (subst (λ (t : ℕ). length d1 + dim2 ≤ t) (sym (wide-length (timesAt μ d1) (length d1))) fits);
-    }
-  where
-    heads : List Float
-    heads = wide (timesAt μ d1) (length d1)
+-- dim1 + dim2 places of the gradient and p are in use, dim1 of q and d1, dim2 of r
+pub record UnusedZero (α z : List Float) (w : Wide) : Type 0 where
+  pub grad-unused : (k : ℕ) → length z ≤ k → k < 64 → at (w .grad) k ≡ #0
+  pub p-unused : (k : ℕ) → length z ≤ k → k < 64 → at (w .p) k ≡ #0
+  pub q-unused : (k : ℕ) → length α ≤ k → k < 32 → at (w .q) k ≡ #0
+  pub r-unused : (k : ℕ) → length z ≤ length α + k → k < 32 → at (w .r) k ≡ #0
+  pub d1-unused : (k : ℕ) → length α ≤ k → k < 32 → at (w .d1) k ≡ #0
 
--- a head of n places and a tail of m from place d on
-both-behind : (h t : ℕ → Float) (n d m k : ℕ) → n ≤ k → d + m ≤ k → k < 64 → at (withTail (wide h n) d t m) k ≡ #0
-both-behind h t n d m k hn hm l = withTail-behind (wide h n) d t m k hm ∙ wide-behind h n k hn l
+module _ (α z : List Float) (n : length α ≤ length z) where
+  abbrev w : List Float
+  w = drop (length α) z
 
--- what holds of the numbers computed and of no numbers holds of the answer
-either : (P : Wide → Type 0) (α z : List Float) (φ n2 : Float) → P (rank3At α z φ n2) → P noWide → P (gradHAt α z φ n2 .wide)
-unfolding gradHAt
-either P α z φ n2 there nowhere = go (#0 ≺ (φ ⊖ n2))
-  where
-    computed : GradH
-    computed = record { panics = false; wide = rank3At α z φ n2 }
+  tail-length : length α + length w ≡ length z
+  tail-length = omega (arith, length-drop (length α) z)
 
-    none : GradH
-    none = record { panics = true; wide = noWide }
-
-    go : (b : Bool) → P (cond b computed none .wide)
-    go true = there
-    go false = nowhere
-
-module _ (α z : List Float) (φ n2 : Float) (n : length α ≤ length z) where
-  tail-length : length α + length (drop (length α) z) ≡ length z
-  tail-length = simp length-drop (omega arith)
-
-  grad-behind : (k : ℕ) → length z ≤ k → k < 64 → at (rank3At α z φ n2 .grad) k ≡ #0
-  unfolding rank3At headsOf
-  grad-behind k h l =
-      both-behind _ _ (min (length α) (length z)) (length α) (length (drop (length α) z)) k (omega arith)
-      (subst (λ (t : ℕ). t ≤ k) (sym tail-length) h) l
-
-  p-behind : (k : ℕ) → length z ≤ k → k < 64 → at (rank3At α z φ n2 .p) k ≡ #0
-  unfolding rank3At pOf headsOf
-  p-behind k h l =
-      both-behind _ _ _ (length α) (length (drop (length α) z)) k (simp length-take (omega arith))
-      (subst (λ (t : ℕ). t ≤ k) (sym tail-length) h) l
-
-  q-behind : (k : ℕ) → length α ≤ k → k < 32 → at (rank3At α z φ n2 .q) k ≡ #0
-  unfolding rank3At qOf headsOf
-  q-behind k h l = narrow-behind _ _ k (simp length-take (omega arith)) l
-
-  r-behind : (k : ℕ) → length z ≤ length α + k → k < 32 → at (rank3At α z φ n2 .r) k ≡ #0
+  computed : (φ n2 : Float) → UnusedZero α z (rank3At α z φ n2)
   unfolding rank3At
-  r-behind k h l = narrow-behind _ (length (drop (length α) z)) k (simp length-drop (omega arith)) l
+  computed φ n2 =
+      record {
+        grad-unused = λ k h l. padded-behind 64 _ k (simp (length-append, zip-length, length-map) (omega (arith, tail-length))) l;
+        p-unused = λ k h l. padded-behind 64 _ k (simp (length-append, length-map, length-take) (omega (arith, tail-length))) l;
+        q-unused = λ k h l. padded-behind 32 _ k (simp (length-map, length-take) (omega arith)) l;
+        r-unused = λ k h l. padded-behind 32 _ k (simp length-map (omega (arith, tail-length))) l;
+        d1-unused = λ k h l. padded-behind 32 _ k (simp zip-length (omega arith)) l;
+      }
 
-  d1-behind : (k : ℕ) → length α ≤ k → k < 32 → at (rank3At α z φ n2 .d1) k ≡ #0
-  unfolding rank3At
-  d1-behind k h l = narrow-behind _ (min (length α) (length z)) k (omega arith) l
+  none : UnusedZero α z noWide
+  unfolding noWide
+  none =
+      record {
+        grad-unused = λ k h l. getD-replicate 64 k #0 nan l;
+        p-unused = λ k h l. getD-replicate 64 k #0 nan l;
+        q-unused = λ k h l. getD-replicate 32 k #0 nan l;
+        r-unused = λ k h l. getD-replicate 32 k #0 nan l;
+        d1-unused = λ k h l. getD-replicate 32 k #0 nan l;
+      }
 
-pub unused-zero : (α z : List Float) → length α ≤ length z → UnusedZero α z
-unfolding updateDualGradHOf noWide
-unused-zero α z n =
-    record {
-      grad-unused = λ k h l. either (λ w. at (w .grad) k ≡ #0) α z φ n2 (grad-behind α z φ n2 n k h l) (getD-replicate 64 k #0 nan l);
-      p-unused = λ k h l. either (λ w. at (w .p) k ≡ #0) α z φ n2 (p-behind α z φ n2 n k h l) (getD-replicate 64 k #0 nan l);
-      q-unused = λ k h l. either (λ w. at (w .q) k ≡ #0) α z φ n2 (q-behind α z φ n2 n k h l) (getD-replicate 32 k #0 nan l);
-      r-unused = λ k h l. either (λ w. at (w .r) k ≡ #0) α z φ n2 (r-behind α z φ n2 n k h l) (getD-replicate 32 k #0 nan l);
-      d1-unused = λ k h l. either (λ w. at (w .d1) k ≡ #0) α z φ n2 (d1-behind α z φ n2 n k h l) (getD-replicate 32 k #0 nan l);
-    }
-  where
-    φ : Float
-    φ = dualPhi α z
+  pub unused-zero : UnusedZero α z (updateDualGradHOf α z .wide)
+  unfolding updateDualGradHOf
+  unused-zero = go (#0 ≺ (dualPhi α z ⊖ sumsqOf w))
+    where
+      made : WideGradH
+      made = record { panics = false; wide = rank3At α z (dualPhi α z) (sumsqOf w) }
 
-    n2 : Float
-    n2 = sumsqOf (drop (length α) z)
+      refused : WideGradH
+      refused = record { panics = true; wide = noWide }
+
+      go : (b : Bool) → UnusedZero α z (cond b made refused .wide)
+      go true = computed (dualPhi α z) (sumsqOf w)
+      go false = none

@@ -1,5 +1,5 @@
 -- The barriers of the generalized power cone, as 002 computes them. Definitions only.
-use Prim.Native.Nat.{ℕ, _+_}
+use Prim.Native.Nat.{_+_}
 use mathlib.Core.List.{List, map}
 use lib.IntN.{pos}
 use lib.ListN.{length, take}
@@ -16,13 +16,11 @@ use Rattle.genpowcone.specs.PrimalGradient.{gradientPrimalOf}
 unfoldable pub barrierDualOf : List Float → List Float → Float
 barrierDualOf α z = lessLogs (neg (logOf (dualResidue α z .res))) α z
 
--- 002 barrier_primal, from the primal gradient on, of which n places are in use. 01: "Degree is dim1+1"
-unfoldable pub barrierPrimalAt : List Float → List Float → ℕ → Float
-barrierPrimalAt α g n = neg (barrierDualOf α (map neg (take n g))) ⊖ ofInt binary64 (pos (length α + 1))
-
--- 002 barrier_primal at s
+-- 002 barrier_primal at s, by the primal gradient g, of which as many places are in use. 01: "Degree is dim1+1"
 unfoldable pub barrierPrimalOf : List Float → List Float → Float
-barrierPrimalOf α s = barrierPrimalAt α (gradientPrimalOf α s .g) (length s)
+barrierPrimalOf α s =
+    let g = take (length s) (gradientPrimalOf α s .g) in
+    neg (barrierDualOf α (map neg g)) ⊖ ofInt binary64 (pos (length α + 1))
 
 -- 002 compute_barrier after the step a: the primal part first
 unfoldable pub computeBarrierOf : List Float → List Float → List Float → List Float → List Float → Float → Float

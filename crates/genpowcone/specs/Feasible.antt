@@ -11,10 +11,10 @@ use Rattle.cone.specs.verdict.Answers.{judged}
 use Rattle.cone.specs.verdict.Margins.{powerMargin}
 use Rattle.algebra.specs.Vectors.{sumsqOf}
 use Rattle.genpowcone.specs.loops.Folds.{allAboveZero, primalLogSum, dualLogSum}
-use Rattle.genpowcone.specs.declared.Residue.{Residue}
+use Rattle.genpowcone.specs.declared.WideResidue.{WideResidue}
 
 -- the residue p - w, beside the two numbers that it is made of
-unfoldable pub residueAt : Float → Float → Residue
+unfoldable pub residueAt : Float → Float → WideResidue
 residueAt p w = record { res = p ⊖ w; power = p; square = w }
 
 -- the point's tail behind its head, which is as long as the exponents α
@@ -22,11 +22,11 @@ abbrev pub tailOf : List Float → List Float → List Float
 tailOf α s = drop (length α) s
 
 -- 002 is_primal_feasible, res: exp(Σ 2αᵢ·log sᵢ) less the tail's sumsq
-unfoldable pub primalResidue : List Float → List Float → Residue
+unfoldable pub primalResidue : List Float → List Float → WideResidue
 primalResidue α s = residueAt (expOf (primalLogSum α s)) (sumsqOf (tailOf α s))
 
 -- 002 is_dual_feasible, res: exp(Σ 2αᵢ·log(zᵢ/αᵢ)) less the tail's sumsq
-unfoldable pub dualResidue : List Float → List Float → Residue
+unfoldable pub dualResidue : List Float → List Float → WideResidue
 dualResidue α z = residueAt (expOf (dualLogSum α z)) (sumsqOf (tailOf α z))
 
 -- 02, Order 5: "2^-30·(the exponential plus the sumsq)", of the two numbers that the residue is made of

@@ -3,5 +3,4 @@ pub mod PrimalGradient
 pub mod Barriers
 pub mod Rank3
 pub mod DualGradient
-pub mod Places
 pub mod loops

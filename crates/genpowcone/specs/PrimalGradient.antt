@@ -1,7 +1,6 @@
 -- The unit start and the gradient of the generalized power cone's primal barrier, as 002 computes them. Definitions only.
-use Prim.Native.Nat.{min}
 use mathlib.Core.Bool.{cond}
-use mathlib.Core.List.{List}
+use mathlib.Core.List.{List, _++_}
 use lib.ListN.{length, take, drop}
 use lib.Ieee.{Float, neg}
 use Rattle.double.specs.Operators.{_⊕_, _⊖_, _⊗_, _⊘_, _≺_}
@@ -11,13 +10,14 @@ use Rattle.algebra.specs.Vectors.{sumsqOf, normOf}
 use Rattle.algebra.specs.newton.Equations.{genF0, genF1}
 use Rattle.algebra.specs.newton.Rounds.{newtonOf}
 use Rattle.algebra.specs.declared.newton.Solved.{Solved}
+use Rattle.cone.specs.Points.{padded}
 use Rattle.genpowcone.specs.loops.Folds.{primalPhi}
-use Rattle.genpowcone.specs.loops.Places.{wide, withTail, unitAt, headAt, flatHeadAt, timesAt}
-use Rattle.genpowcone.specs.declared.Gradient.{Gradient}
+use Rattle.genpowcone.specs.loops.Places.{times, unitHead, gradientHead, flatHead}
+use Rattle.genpowcone.specs.declared.WideGradient.{WideGradient}
 
--- 002 unit_initialization: z and s alike
+-- 002 unit_initialization: z and s alike; the tail is +0
 unfoldable pub unitInitializationOf : List Float → List Float
-unitInitializationOf α = wide (unitAt α) (length α)
+unitInitializationOf α = padded 64 (unitHead α)
 
 -- 01: "Generalized ψ is 1/sumsq of the exponents"
 unfoldable pub psiOf : List Float → Float
@@ -31,28 +31,17 @@ x0Of r φ ψ = neg (#1 ⊘ r) ⊕ (ψ ⊗ r ⊕ sqrtOf ((φ ⊘ r ⊘ r ⊕ ψ �
 unfoldable pub newtonRaphsonGenpowconeOf : Float → List Float → Float → List Float → Float → Solved
 newtonRaphsonGenpowconeOf r p φ α ψ = newtonOf (genF0 r α p) (genF1 r α) (x0Of r φ ψ)
 
--- 002 gradient_primal, from Newton's answer on. 01: "The primal gradient's tail is g1/norm_r times the tail of the given point", which is
--- the list w
-unfoldable pub gradientAt : List Float → List Float → List Float → Float → Solved → Gradient
-gradientAt α p w norm f =
-    let g1 = f .x in
-    record {
-      g = withTail (wide (headAt α p g1 norm) (min (length α) (length p))) (length α) (timesAt (g1 ⊘ norm) w) (length w);
-      rounds = f .rounds;
-    }
-
--- 002 gradient_primal where norm_r is not above ε; a NaN is not. Its tail is +0
-unfoldable pub flatGradient : List Float → List Float → Gradient
-flatGradient α p = record { g = wide (flatHeadAt α p) (min (length α) (length p)); rounds = 0 }
-
--- 002 gradient_primal at s. 01: "when norm_r is above ε", and "handed back by it and by every primal gradient, 0 where Newton was not
--- entered"
-unfoldable pub gradientPrimalOf : List Float → List Float → Gradient
+-- 002 gradient_primal at s: p is its head, r its tail. 01: "when norm_r is above ε", which a NaN is not; "The primal gradient's tail is
+-- g1/norm_r times the tail of the given point", else +0; the rounds are "handed back by it and by every primal gradient, 0 where Newton was
+-- not entered"
+unfoldable pub gradientPrimalOf : List Float → List Float → WideGradient
 gradientPrimalOf α s =
     let p = take (length α) s in
-    let w = drop (length α) s in
-    let norm = normOf w in
+    let r = drop (length α) s in
+    let norm = normOf r in
+    let found = newtonRaphsonGenpowconeOf norm p (primalPhi α p) α (psiOf α) in
+    let g1 = found .x in
     cond
     (#ε ≺ norm)
-    (gradientAt α p w norm (newtonRaphsonGenpowconeOf norm p (primalPhi α p) α (psiOf α)))
-    (flatGradient α p)
+    (record { g = padded 64 (gradientHead α p g1 norm ++ times (g1 ⊘ norm) r); rounds = found .rounds })
+    (record { g = padded 64 (flatHead α p); rounds = 0 })

@@ -9,12 +9,15 @@ ghost use mathlib.Core.Path.{_≡_};
 ghost use Rattle.algebra.specs.newton.Equations.{genF0At, genF1};
 ghost use Rattle.algebra.specs.newton.Rounds.{newtonOf};
 ghost use Prim.Native.Nat.{_+_, _≤_};
-ghost use lib.ListN.{length};
+ghost use lib.ListN.{length, take};
+ghost use mathlib.Core.List.{_++_};
+ghost use Rattle.cone.specs.Points.{padded};
 ghost use Rattle.genpowcone.specs.Feasible.{residueAt, primalResidue, dualResidue, primalFeasible, dualFeasible};
-ghost use Rattle.genpowcone.specs.PrimalGradient.{unitInitializationOf, x0Of, gradientAt, gradientPrimalOf};
-ghost use Rattle.genpowcone.specs.Barriers.{barrierDualOf, barrierPrimalAt, barrierPrimalOf, computeBarrierOf};
+ghost use Rattle.genpowcone.specs.PrimalGradient.{unitInitializationOf, x0Of, gradientPrimalOf};
+ghost use Rattle.genpowcone.specs.Barriers.{barrierDualOf, barrierPrimalOf, computeBarrierOf};
 ghost use Rattle.genpowcone.specs.DualGradient.{updateDualGradHOf};
-ghost use Rattle.genpowcone.specs.Rank3.{getHsOf, mulHsAt, coefficientsOf, pOf, qOf, rank3At};
+ghost use Rattle.genpowcone.specs.Rank3.{getHsOf, mulHsAt, coefficientsOf, rank3At};
+ghost use Rattle.genpowcone.specs.loops.Places.{times, scaled};
 use crate::loops::folds::all_above_zero;
 use crate::loops::folds::dual_log_sum;
 use crate::loops::folds::dual_phi;
@@ -59,20 +62,20 @@ use kernels::sqrt;
 pub mod loops;
 
 // What a cone test compares, with the two numbers that it is the difference of: res = power - square.
-pub struct Residue {
+pub struct WideResidue {
     pub res: f64,
     pub power: f64,
     pub square: f64,
 }
 
 // The primal gradient, and how many Newton rounds it took; 0 where Newton was not entered.
-pub struct Gradient {
+pub struct WideGradient {
     pub g: [f64; 64],
     pub rounds: u32,
 }
 
 // What update_dual_grad_h computes. Where the Rust panics, since ζ is not above 0, all its numbers are +0.
-pub struct GradH {
+pub struct WideGradH {
     pub panics: bool,
     pub wide: Wide,
 }
@@ -152,10 +155,10 @@ pub fn compute_barrier(
     0.0 + primal + dual
 }
 
-fn residue_at(power: f64, square: f64) -> Residue
+fn residue_at(power: f64, square: f64) -> WideResidue
     ensures { λ r. ⌜ r ≡ residueAt power square ⌝ }
 {
-    Residue {
+    WideResidue {
         res: power - square,
         power,
         square,
@@ -163,7 +166,7 @@ fn residue_at(power: f64, square: f64) -> Residue
 }
 
 // `res` of is_primal_feasible.
-pub(crate) fn primal_residue(alpha: &[f64], s: &[f64]) -> Residue
+pub(crate) fn primal_residue(alpha: &[f64], s: &[f64]) -> WideResidue
     ensures { λ r. ⌜ r ≡ primalResidue (now (alpha .entry)) (now (s .entry)) ⌝ }
 {
     let power = exp(primal_log_sum(alpha, s));
@@ -172,7 +175,7 @@ pub(crate) fn primal_residue(alpha: &[f64], s: &[f64]) -> Residue
 }
 
 // `res` of is_dual_feasible, and what barrier_dual begins with.
-pub(crate) fn dual_residue(alpha: &[f64], z: &[f64]) -> Residue
+pub(crate) fn dual_residue(alpha: &[f64], z: &[f64]) -> WideResidue
     ensures { λ r. ⌜ r ≡ dualResidue (now (alpha .entry)) (now (z .entry)) ⌝ }
 {
     let power = exp(dual_log_sum(alpha, z));
@@ -210,14 +213,7 @@ pub fn barrier_primal(alpha: &[f64], s: &[f64]) -> f64
 {
     let f = gradient_primal(alpha, s);
     let g = f.g;
-    barrier_primal_at(alpha, &g, s.len())
-}
-
-// barrier_primal from the gradient on, of which n places are in use
-fn barrier_primal_at(alpha: &[f64], g: &[f64; 64], n: usize) -> f64
-    ensures { λ r. ⌜ r ≡ barrierPrimalAt (now (alpha .entry)) (now (g .entry)) n ⌝ }
-{
-    let used = head(g, n);
+    let used = head(&g, s.len());
     let minus_g = negated(used); //-g(s)
     let barrier = barrier_dual(alpha, head(&minus_g, used.len()));
     let degree = alpha.len() as u64 + 1;
@@ -231,7 +227,7 @@ pub fn barrier_dual(alpha: &[f64], z: &[f64]) -> f64
     less_logs(-log(r.res), alpha, z)
 }
 
-pub fn update_dual_grad_h(alpha: &[f64], z: &[f64]) -> GradH
+pub fn update_dual_grad_h(alpha: &[f64], z: &[f64]) -> WideGradH
     requires { ⌜ (length (now alpha) ≤ 32) × (length (now z) ≤ length (now alpha) + 32) ⌝ }
     ensures { λ r. ⌜ r ≡ updateDualGradHOf (now (alpha .entry)) (now (z .entry)) ⌝ }
 {
@@ -242,13 +238,13 @@ pub fn update_dual_grad_h(alpha: &[f64], z: &[f64]) -> GradH
     // the Rust asserts this; a NaN is not above 0
     if zeta > 0.0 {
         let wide = rank3(alpha, z, phi, norm2w);
-        GradH {
+        WideGradH {
             panics: false,
             wide,
         }
     } else {
         let wide = no_wide();
-        GradH { panics: true, wide }
+        WideGradH { panics: true, wide }
     }
 }
 
@@ -302,21 +298,21 @@ fn coefficients_of(phi: f64, norm2w: f64) -> Coefficients
 
 // c0 times τ, then c1 times the tail w
 fn p_of(tau: &[f64; 32], dim1: usize, c0: f64, w: &[f64], c1: f64) -> [f64; 64]
-    requires { ⌜ dim1 + length (now w) ≤ 64 ⌝ }
-    ensures { λ r. ⌜ r ≡ pOf (now (tau .entry)) dim1 c0 (now (w .entry)) c1 ⌝ }
+    requires { ⌜ (dim1 ≤ 32) × (length (now w) ≤ 32) ⌝ }
+    ensures { λ r. ⌜ r ≡ padded 64 (times c0 (take dim1 (now (tau .entry))) ++ times c1 (now (w .entry))) ⌝ }
 {
     let p = times_from([0.0; 64], 0, c0, head(tau, dim1));
     times_from(p, dim1, c1, w)
 }
 
 fn q_of(tau: &[f64; 32], dim1: usize, c: f64) -> [f64; 32]
-    ensures { λ r. ⌜ r ≡ qOf (now (tau .entry)) dim1 c ⌝ }
+    ensures { λ r. ⌜ r ≡ padded 32 (scaled (take dim1 (now (tau .entry))) c) ⌝ }
 {
     scale32(head(tau, dim1), c)
 }
 
 // Compute the primal gradient of f(s) at s. Its tail is g1/norm_r times s's own (02, Order 4): the Rust takes the r of the last scaling
-pub fn gradient_primal(alpha: &[f64], s: &[f64]) -> Gradient
+pub fn gradient_primal(alpha: &[f64], s: &[f64]) -> WideGradient
     requires { ⌜ (length (now alpha) ≤ 64) × (length (now s) ≤ 64) ⌝ }
     ensures { λ r. ⌜ r ≡ gradientPrimalOf (now (alpha .entry)) (now (s .entry)) ⌝ }
 {
@@ -335,24 +331,16 @@ pub fn gradient_primal(alpha: &[f64], s: &[f64]) -> Gradient
     if norm_r > EPSILON {
         let psi = 1.0 / sumsq(alpha);
         let found = newton_raphson_genpowcone(norm_r, logs, phi, alpha, psi);
-        gradient_from(alpha, p, r, norm_r, found)
+        let g1 = found.x;
+        let gp = gradient_head(alpha, p, g1, norm_r);
+        let g = times_from(gp, alpha.len(), g1 / norm_r, r);
+        WideGradient {
+            g,
+            rounds: found.rounds,
+        }
     } else {
         let g = gradient_flat_head(alpha, p);
-        Gradient { g, rounds: 0 }
-    }
-}
-
-// gradient_primal from Newton's answer on
-fn gradient_from(alpha: &[f64], p: &[f64], w: &[f64], normr: f64, found: Solved) -> Gradient
-    requires { ⌜ length (now alpha) + length (now w) ≤ 64 ⌝ }
-    ensures { λ r. ⌜ r ≡ gradientAt (now (alpha .entry)) (now (p .entry)) (now (w .entry)) normr found ⌝ }
-{
-    let g1 = found.x;
-    let gp = gradient_head(alpha, p, g1, normr);
-    let g = times_from(gp, alpha.len(), g1 / normr, w);
-    Gradient {
-        g,
-        rounds: found.rounds,
+        WideGradient { g, rounds: 0 }
     }
 }
 

@@ -7,14 +7,14 @@ use lib.ListN.{take}
 use Rattle.genpowcone.specs.PrimalGradient as genPrimal
 use Rattle.genpowcone.specs.Barriers as genBarriers
 use Rattle.genpowcone.specs.Rank3 as genRank3
-use Rattle.genpowcone.specs.declared.Gradient.{Gradient}
+use Rattle.genpowcone.specs.declared.WideGradient.{WideGradient}
 
 -- 002 unit_initialization: z and s alike
 unfoldable pub unitInitializationOf : List Float → ℕ → List Float
 unitInitializationOf exps dim1 = genPrimal.unitInitializationOf (take dim1 exps)
 
 -- 002 gradient_primal
-unfoldable pub gradientPrimalOf : List Float → ℕ → List Float → Gradient
+unfoldable pub gradientPrimalOf : List Float → ℕ → List Float → WideGradient
 gradientPrimalOf exps dim1 s = genPrimal.gradientPrimalOf (take dim1 exps) s
 
 -- 002 barrier_primal

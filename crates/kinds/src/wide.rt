@@ -12,7 +12,7 @@ pub fn unit_initialization(exps: &[f64; 32], dim1: usize) -> [f64; 64]
     genpowcone::unit_initialization(head(exps, dim1))
 }
 
-pub fn gradient_primal(exps: &[f64; 32], dim1: usize, s: &[f64]) -> genpowcone::Gradient
+pub fn gradient_primal(exps: &[f64; 32], dim1: usize, s: &[f64]) -> genpowcone::WideGradient
     requires { ⌜ length (now s) ≤ 64 ⌝ }
     ensures { λ r. ⌜ r ≡ gradientPrimalOf (now (exps .entry)) dim1 (now (s .entry)) ⌝ }
 {

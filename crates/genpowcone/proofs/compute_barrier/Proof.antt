@@ -7,7 +7,9 @@ use native.Mathlib.Omega.{arith}
 use lib.ListN.{length, take, length-take}
 use lib.Ieee.{Float}
 use borrow.Author.Needs.{needs}
-use Rattle.genpowcone.proofs.loops.Arrays.{moved-front}
+use Rattle.algebra.specs.Vectors.{movedOf}
+use Rattle.algebra.proofs.Moved.{moved-length}
+use Rattle.cone.proofs.Points.{padded-front}
 use Rattle.genpowcone.specs.Barriers.{computeBarrierOf}
 use Rattle.genpowcone.proofs.compute_barrier.Statement.{statement}
 use Rattle.genpowcone.proofs.compute_barrier.Tie as tie
@@ -46,8 +48,8 @@ returns c =
       primal .before .head .ensures,
       primal .before .before .before .shorter .ensures,
       moves .moved .ensures,
-      moved-front (a .s .now) (a .step) (a .ds .now) (start .pre .1),
-      moved-front (a .z .now) (a .step) (a .dz .now) (start .pre .2),
+      padded-front 64 (movedOf (a .s .now) (a .step) (a .ds .now)) _ (moved-length (a .s .now) (a .step) (a .ds .now)),
+      padded-front 64 (movedOf (a .z .now) (a .step) (a .dz .now)) _ (moved-length (a .z .now) (a .step) (a .dz .now)),
     )
 
 pub compute-barrier-spec : {M : Type 1} → statement M

@@ -1,176 +1,150 @@
--- What an array holds that a loop wrote place by place: f at the written places, what it held before at the others. Proved by the turns.
--- Assumes nothing. In order: put (from the front), putFrom (from place n on), by them narrow, wide and withTail; then arrays whose used
--- places are a list that has a name:
--- -x, log x, and x + a·dx.
+-- The loops of 002. One that writes a list xs from the front holds `padded m (take i xs)` after i turns (cone's laws; here for a list that is
+-- mapped or zipped), and one that writes xs from place n on holds `sets g n (take j xs)`; behind a head of n places that is the head and xs.
+-- Then the front of an array, cut back to its list. Assumes nothing.
 use Prim.Native.Nat.{ℕ, zero, suc, _+_, _≤_, _<_, min}
-use mathlib.Core.Path.{_≡_, refl, sym, subst, _∙_}
-use mathlib.Core.List.{List, map}
-use mathlib.Core.Logic.{_⊎_, inl, inr}
-use native.Mathlib.Nat.{zero-add, not-suc-le-zero, eq-or-lt-of-le, le-of-suc-le-suc}
+use mathlib.Core.Path.{_≡_, refl, sym, _∙_, ap}
+use mathlib.Core.List.{List, [], _∷_, _++_, map, zipWith, append-nil}
+use native.Mathlib.Nat.{not-suc-le-zero, le-of-suc-le-suc, zero-min, min-zero, suc-min-suc, add-zero, suc-add, add-suc}
+use native.Mathlib.Numerals.{add-one}
 use native.Mathlib.Omega.{arith}
-use lib.ListN.{length, take, set, replicate, length-set, length-take, length-map, length-replicate, getD-replicate}
-use lib.Seq.{getD-set-same, getD-set-other, getD-take, ext-getD}
-use lib.Ieee.{Float, nan, neg, isNan}
-use Rattle.arith.specs.Turns.{iter}
-use Rattle.double.specs.Operators.{at}
-use Rattle.double.specs.Numbers.{#0}
-use Rattle.kernels.specs.Door.{logOf}
-use Rattle.algebra.specs.Vectors.{movedOf}
-use Rattle.algebra.proofs.Mapped.{mapped-place}
-use Rattle.algebra.proofs.Moved.{moved-length, moved-place}
-use Rattle.genpowcone.specs.loops.Places.{put, putFrom, narrow, wide, withTail, negatedAt, logAt, movedAt}
+use lib.ListN.{length, take, set, replicate, length-append, length-map}
+use lib.Seq.{sets, take-suc, take-all, length-take-le, append-snoc}
+use lib.Ieee.{Float, nan}
+use Rattle.double.specs.Operators.{_⊕_, _⊖_, _⊗_, _⊘_, at}
+use Rattle.double.specs.Numbers.{#0, #1}
+use Rattle.algebra.proofs.Mapped.{map-place}
+use Rattle.cone.specs.Points.{padded}
+use Rattle.cone.proofs.Points.{padded-none, padded-set, padded-more, padded-all}
+use Rattle.genpowcone.specs.loops.Places.{times, diagonalOf, productHead, productTail}
 
-module _ (f : ℕ → Float) (g : List Float) where
-  pub put-length : (n : ℕ) → length (iter (put f) g n) ≡ length g
-  unfolding iter
-  put-length zero = refl
-  put-length (suc n) = length-set (iter (put f) g n) n (f n) ∙ put-length n
+-- ---- a zip
 
-  pub put-behind : (n k : ℕ) → n ≤ k → at (iter (put f) g n) k ≡ at g k
-  unfolding iter
-  put-behind zero k h = refl
-  put-behind (suc n) k h = getD-set-other (iter (put f) g n) n k (f n) nan (λ e. omega arith) ∙ put-behind n k (omega arith)
+module _ (f : Float → Float → Float) where
+  pub zip-length : (xs ys : List Float) → length (zipWith f xs ys) ≡ min (length xs) (length ys)
+  unfolding zipWith
+  zip-length [] ys = sym (zero-min (length ys))
+  zip-length (x ∷ xs) [] = sym (min-zero (suc (length xs)))
+  zip-length (x ∷ xs) (y ∷ ys) = ap suc (zip-length xs ys) ∙ sym (suc-min-suc (length xs) (length ys))
 
-  pub put-within : (n k : ℕ) → k < n → n ≤ length g → at (iter (put f) g n) k ≡ f k
-  unfolding iter
-  put-within zero k h l = absurd (not-suc-le-zero h)
-  put-within (suc n) k h l = go (λ less. put-within n k less (omega arith)) (eq-or-lt-of-le (le-of-suc-le-suc h))
-    where
-      written : List Float
-      written = iter (put f) g n
+  pub zip-place : (xs ys : List Float) (i : ℕ) → i < length xs → i < length ys → at (zipWith f xs ys) i ≡ f (at xs i) (at ys i)
+  unfolding zipWith
+  zip-place [] ys i h k = absurd (not-suc-le-zero h)
+  zip-place (x ∷ xs) [] i h k = absurd (not-suc-le-zero k)
+  zip-place (x ∷ xs) (y ∷ ys) zero h k = refl
+  zip-place (x ∷ xs) (y ∷ ys) (suc i) h k = zip-place xs ys i (le-of-suc-le-suc h) (le-of-suc-le-suc k)
 
-      go : (k < n → at written k ≡ f k) → (k ≡ n) ⊎ (k < n) → at (set written n (f n)) k ≡ f k
-      go more (inl e) =
-          subst (λ (i : ℕ). at (set written n (f n)) i ≡ f i) (sym e)
-          (getD-set-same written n (f n) nan (subst (λ (t : ℕ). n < t) (sym (put-length n)) l))
-      go more (inr less) = getD-set-other written n k (f n) nan (λ e. omega arith) ∙ more less
+  -- what stands behind a list is not zipped, where only as many are taken
+  zip-front : (xs ys zs : List Float) → take (length ys) (zipWith f xs (ys ++ zs)) ≡ zipWith f xs ys
+  unfolding zipWith
+  zip-front [] [] zs = refl
+  zip-front [] (y ∷ ys) zs = refl
+  zip-front (x ∷ xs) [] zs = refl
+  zip-front (x ∷ xs) (y ∷ ys) zs = ap (λ (l : List Float). f x y ∷ l) (zip-front xs ys zs)
 
-module _ (n : ℕ) (f : ℕ → Float) (g : List Float) where
-  pub putFrom-length : (m : ℕ) → length (iter (putFrom n f) g m) ≡ length g
-  unfolding iter
-  putFrom-length zero = refl
-  putFrom-length (suc m) = length-set (iter (putFrom n f) g m) (n + m) (f m) ∙ putFrom-length m
+  pub zip-padded : (m : ℕ) (xs ys : List Float) → take (length ys) (zipWith f xs (padded m ys)) ≡ zipWith f xs ys
+  unfolding padded
+  zip-padded m xs ys = zip-front xs ys _
 
-  pub putFrom-before : (m k : ℕ) → k < n → at (iter (putFrom n f) g m) k ≡ at g k
-  unfolding iter
-  putFrom-before zero k h = refl
-  putFrom-before (suc m) k h =
-      getD-set-other (iter (putFrom n f) g m) (n + m) k (f m) nan (λ e. omega arith) ∙ putFrom-before m k h
+-- ---- a loop from the front
 
-  pub putFrom-behind : (m k : ℕ) → n + m ≤ k → at (iter (putFrom n f) g m) k ≡ at g k
-  unfolding iter
-  putFrom-behind zero k h = refl
-  putFrom-behind (suc m) k h =
-      getD-set-other (iter (putFrom n f) g m) (n + m) k (f m) nan (λ e. omega arith) ∙ putFrom-behind m k (omega arith)
+module _ (m : ℕ) (f : Float → Float) (xs : List Float) (i : ℕ) {g : List Float} (so-far : g ≡ padded m (take i (map f xs))) where
+  pub map-more : i < length xs → i < m → set g i (f (at xs i)) ≡ padded m (take (i + 1) (map f xs))
+  map-more h room =
+      padded-more m (map f xs) i so-far (sym (map-place f xs i h)) (omega (arith, length-map xs f)) room
 
-  pub putFrom-within : (m j : ℕ) → j < m → n + m ≤ length g → at (iter (putFrom n f) g m) (n + j) ≡ f j
-  unfolding iter
-  putFrom-within zero j h l = absurd (not-suc-le-zero h)
-  putFrom-within (suc m) j h l = go (λ less. putFrom-within m j less (omega arith)) (eq-or-lt-of-le (le-of-suc-le-suc h))
-    where
-      written : List Float
-      written = iter (putFrom n f) g m
+  pub map-all : length xs ≤ i → g ≡ padded m (map f xs)
+  map-all h = padded-all m (map f xs) i so-far (omega (arith, length-map xs f))
 
-      fits : n + m < length written
-      fits = subst (λ (t : ℕ). n + m < t) (sym (putFrom-length m)) (omega arith)
-
-      go : (j < m → at written (n + j) ≡ f j) → (j ≡ m) ⊎ (j < m) → at (set written (n + m) (f m)) (n + j) ≡ f j
-      go more (inl e) =
-          subst (λ (i : ℕ). at (set written (n + m) (f m)) (n + i) ≡ f i) (sym e) (getD-set-same written (n + m) (f m) nan fits)
-      go more (inr less) = getD-set-other written (n + m) (n + j) (f m) nan (λ e. omega arith) ∙ more less
-
-module _ (f : ℕ → Float) (n : ℕ) where
-  pub narrow-behind : (k : ℕ) → n ≤ k → k < 32 → at (narrow f n) k ≡ #0
-  unfolding narrow
-  narrow-behind k h l = put-behind f (replicate 32 #0) n k h ∙ getD-replicate 32 k #0 nan l
-
-  pub wide-behind : (k : ℕ) → n ≤ k → k < 64 → at (wide f n) k ≡ #0
-  unfolding wide
-  wide-behind k h l = put-behind f (replicate 64 #0) n k h ∙ getD-replicate 64 k #0 nan l
-
-  pub wide-length : length (wide f n) ≡ 64
-  unfolding wide
-  wide-length = put-length f (replicate 64 #0) n ∙ length-replicate 64 #0
-
-  pub wide-within : (k : ℕ) → k < n → n ≤ 64 → at (wide f n) k ≡ f k
-  unfolding wide
-  wide-within k h l = put-within f (replicate 64 #0) n k h (subst (λ (t : ℕ). n ≤ t) (sym (length-replicate 64 #0)) l)
-
-module _ (g : List Float) (n : ℕ) (f : ℕ → Float) (m : ℕ) where
-  pub withTail-before : (k : ℕ) → k < n → at (withTail g n f m) k ≡ at g k
-  unfolding withTail
-  withTail-before k h = putFrom-before n f g m k h
-
-  pub withTail-behind : (k : ℕ) → n + m ≤ k → at (withTail g n f m) k ≡ at g k
-  unfolding withTail
-  withTail-behind k h = putFrom-behind n f g m k h
-
-  pub withTail-within : (j : ℕ) → j < m → n + m ≤ length g → at (withTail g n f m) (n + j) ≡ f j
-  unfolding withTail
-  withTail-within j h l = putFrom-within n f g m j h l
-
--- from place 0 on is from the front
-turns-from-first : (f : ℕ → Float) (g : List Float) (n : ℕ) → iter (putFrom 0 f) g n ≡ iter (put f) g n
-unfolding iter
-turns-from-first f g zero = refl
-turns-from-first f g (suc n) = rw (zero-add, turns-from-first f g n)
-
-pub from-first : (f : ℕ → Float) (n : ℕ) → withTail (replicate 64 #0) 0 f n ≡ wide f n
-unfolding wide withTail
-from-first f n = turns-from-first f (replicate 64 #0) n
-
--- ---- the used places as a list
-
--- a list whose places are f's stands in front of the array that f filled
-pub wide-front :
-    (f : ℕ → Float) (xs : List Float) → length xs ≤ 64 → ((i : ℕ) → i < length xs → f i ≡ at xs i)
-    → take (length xs) (wide f (length xs)) ≡ xs
-wide-front f xs fits same =
-    ext-getD nan front xs front-length
-    (λ i h.
-    let within : i < n = subst (λ (t : ℕ). i < t) front-length h in
-    getD-take n (wide f n) i nan within ∙ wide-within f n i within fits ∙ same i within)
+module _
+    (m : ℕ) (f : Float → Float → Float) (xs ys : List Float) (i : ℕ) {g : List Float} (so-far : g ≡ padded m (take i (zipWith f xs ys)))
   where
-    n : ℕ
-    n = length xs
+    pub zip-more
+        : i < min (length xs) (length ys) → i < m
+        → set g i (f (at xs i) (at ys i)) ≡ padded m (take (i + 1) (zipWith f xs ys))
+    zip-more h room =
+        padded-more m (zipWith f xs ys) i so-far (sym (zip-place f xs ys i (omega arith) (omega arith)))
+        (omega (arith, zip-length f xs ys)) room
 
-    front : List Float
-    front = take n (wide f n)
+    pub zip-all : min (length xs) (length ys) ≤ i → g ≡ padded m (zipWith f xs ys)
+    zip-all h = padded-all m (zipWith f xs ys) i so-far (omega (arith, zip-length f xs ys))
 
-    front-length : length front ≡ n
-    front-length = simp (length-take, wide-length f n) (omega arith)
+-- one that stops at n
+pub front-all
+    : (m : ℕ) (xs : List Float) (n i : ℕ) {g : List Float} → g ≡ padded m (take i xs) → i ≤ n → n ≤ i → g ≡ padded m (take n xs)
+front-all m xs n i so-far h k = let end : i ≡ n = omega arith in so-far ∙ ap (λ (j : ℕ). padded m (take j xs)) end
 
--- f of each number; what stands behind the list does not matter, since f of a NaN is a NaN
-pub map-front
-    : (f : Float → Float)
-    → f nan ≡ nan
-    → (xs : List Float) → length xs ≤ 64 → take (length xs) (wide (λ (i : ℕ). f (at xs i)) (length xs)) ≡ map f xs
-map-front f e xs fits =
-    subst (λ (n : ℕ). take n (wide (λ (i : ℕ). f (at xs i)) n) ≡ map f xs) (length-map xs f)
-    (wide-front (λ (i : ℕ). f (at xs i)) (map f xs) (subst (λ (n : ℕ). n ≤ 64) (sym (length-map xs f)) fits)
-    (λ i h. sym (mapped-place f xs (map f xs) refl e i)))
+-- ---- a loop from place n on
 
-pub negated-front : (xs : List Float) → length xs ≤ 64 → take (length xs) (wide (negatedAt xs) (length xs)) ≡ map neg xs
-unfolding neg
-negated-front = map-front neg refl
+sets-snoc : (g : List Float) (n : ℕ) (xs : List Float) (a : Float) → set (sets g n xs) (n + length xs) a ≡ sets g n (xs ++ (a ∷ []))
+sets-snoc g n [] a = ap (λ (k : ℕ). set g k a) (add-zero n)
+sets-snoc g n (x ∷ xs) a =
+    let e : n + suc (length xs) ≡ suc n + length xs = add-suc n (length xs) ∙ sym (suc-add n (length xs)) in
+    ap (λ (k : ℕ). set (sets (set g n x) (suc n) xs) k a) e ∙ sets-snoc (set g n x) (suc n) xs a
 
-pub log-of-nan : logOf nan ≡ nan
-unfolding logOf isNan
-log-of-nan = refl
+module _ (g₀ : List Float) (n : ℕ) (xs : List Float) (j : ℕ) {g : List Float} (so-far : g ≡ sets g₀ n (take j xs)) where
+  pub sets-more : {a : Float} → a ≡ at xs j → j < length xs → set g (n + j) a ≡ sets g₀ n (take (j + 1) xs)
+  sets-more {a} e h =
+      let long : length (take j xs) ≡ j = length-take-le j xs (omega arith) in
+      ap (λ (l : List Float). set l (n + j) a) so-far ∙ ap (λ (k : ℕ). set (sets g₀ n (take j xs)) (n + k) a) (sym long)
+      ∙ sets-snoc g₀ n (take j xs) a ∙ ap (λ (x : Float). sets g₀ n (take j xs ++ (x ∷ []))) e
+      ∙ ap (sets g₀ n) (sym (take-suc xs j nan h)) ∙ ap (λ (k : ℕ). sets g₀ n (take k xs)) (sym (add-one j))
 
-pub logs-front : (xs : List Float) → length xs ≤ 64 → take (length xs) (wide (logAt xs) (length xs)) ≡ map logOf xs
-logs-front = map-front logOf log-of-nan
+  pub sets-all : length xs ≤ j → g ≡ sets g₀ n xs
+  sets-all h = so-far ∙ ap (sets g₀ n) (take-all j xs h)
 
-pub moved-front
-    : (x : List Float) (a : Float) (dx : List Float)
-    → length x ≤ 64
-    → take (min (length x) (length dx)) (wide (movedAt x a dx) (min (length x) (length dx))) ≡ movedOf x a dx
-moved-front x a dx fits =
-    subst (λ (n : ℕ). take n (wide (movedAt x a dx) n) ≡ movedOf x a dx) shorter
-    (wide-front (movedAt x a dx) (movedOf x a dx) (omega (arith, shorter))
-    (λ i h.
-    let both : i < min (length x) (length dx) = subst (λ (n : ℕ). i < n) shorter h in
-    sym (moved-place x a dx i (omega arith) (omega arith))))
-  where
-    shorter : length (movedOf x a dx) ≡ min (length x) (length dx)
-    shorter = moved-length x a dx
+-- behind a head of n places; one that is shorter has no tail behind it
+pub head-and-tail
+    : (m : ℕ) (xs ys : List Float) (n : ℕ)
+    → (0 < length ys → length xs ≡ n) → n + length ys ≤ m
+    → sets (padded m xs) n ys ≡ padded m (xs ++ ys)
+head-and-tail m xs [] n e h = ap (padded m) (sym (append-nil xs))
+head-and-tail m xs (y ∷ ys) n e h =
+    let here : length xs ≡ n = e (omega arith) in
+    let more : length (xs ++ (y ∷ [])) ≡ suc (length xs) = omega (arith, length-append xs (y ∷ [])) in
+    ap (λ (k : ℕ). sets (set (padded m xs) k y) (suc k) ys) (sym here)
+    ∙ ap (λ (l : List Float). sets l (suc (length xs)) ys) (padded-set m xs y (omega (arith, here)))
+    ∙ head-and-tail m (xs ++ (y ∷ [])) ys (suc (length xs)) (λ some. more) (omega (arith, here))
+    ∙ ap (padded m) (append-snoc xs y ys)
+
+-- both from places that are +0
+pub two-parts
+    : (xs ys : List Float) (n : ℕ)
+    → (0 < length ys → length xs ≡ n) → length xs ≤ 64 → n + length ys ≤ 64
+    → sets (sets (replicate 64 #0) 0 xs) n ys ≡ padded 64 (xs ++ ys)
+two-parts xs ys n e h k =
+    let first : sets (replicate 64 #0) 0 xs ≡ padded 64 xs =
+    ap (λ (l : List Float). sets l 0 xs) (padded-none 64) ∙ head-and-tail 64 [] xs 0 (λ some. refl) (omega arith) in
+    ap (λ (l : List Float). sets l n ys) first ∙ head-and-tail 64 xs ys n e k
+
+-- ---- lists zipped twice
+
+pub product-head-length
+    : (d1 q : List Float) (c : Float) (x : List Float)
+    → length x ≤ length d1 → length x ≤ length q → length (productHead d1 q c x) ≡ length x
+product-head-length d1 q c x h k =
+    omega (
+      arith,
+      zip-length _⊖_ (zipWith _⊗_ d1 x) (times c q),
+      zip-length _⊗_ d1 x,
+      length-map q (λ (v : Float). c ⊗ v),
+    )
+
+pub product-tail-length
+    : (d2 : Float) (r : List Float) (c : Float) (x : List Float) → length x ≤ length r → length (productTail d2 r c x) ≡ length x
+product-tail-length d2 r c x h =
+    omega (
+      arith,
+      zip-length _⊖_ (times d2 x) (times c r),
+      length-map x (λ (v : Float). d2 ⊗ v),
+      length-map r (λ (v : Float). c ⊗ v),
+    )
+
+pub diagonal-length
+    : (α z τ : List Float) (φ ζ : Float) → length α ≤ length τ → length (diagonalOf α z τ φ ζ) ≡ min (length α) (length z)
+diagonal-length α z τ φ ζ h =
+    omega (
+      arith,
+      zip-length _⊕_ (zipWith (λ (t x : Float). t ⊗ φ ⊘ (ζ ⊗ x)) τ z) (zipWith (λ (a x : Float). (#1 ⊖ a) ⊘ (x ⊗ x)) α z),
+      zip-length (λ (t x : Float). t ⊗ φ ⊘ (ζ ⊗ x)) τ z,
+      zip-length (λ (a x : Float). (#1 ⊖ a) ⊘ (x ⊗ x)) α z,
+    )

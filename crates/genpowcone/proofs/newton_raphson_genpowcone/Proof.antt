@@ -1,22 +1,13 @@
 -- `newton_raphson_genpowcone` is its definition: the rounds at this kind's equation, from x0 as computed; the ratios stand in the first
 -- places of an array. Assumes nothing.
-use Prim.Native.Nat.{_≤_}
-use mathlib.Core.Path.{_≡_}
-use mathlib.Core.List.{List, map}
-use lib.ListN.{length, take}
-use lib.Ieee.{Float}
+use mathlib.Core.List.{map}
+use lib.ListN.{length, length-map}
 use borrow.Author.Needs.{needs}
 use Rattle.algebra.specs.newton.Equations.{ratioOf, f0Of, f1Of}
-use Rattle.algebra.proofs.newton.Ratios.{ratio-of-nan}
-use Rattle.genpowcone.specs.loops.Places.{wide, ratioAt}
-use Rattle.genpowcone.proofs.loops.Arrays.{map-front}
+use Rattle.cone.proofs.Points.{padded-front}
 use Rattle.genpowcone.specs.PrimalGradient.{x0Of}
 use Rattle.genpowcone.proofs.newton_raphson_genpowcone.Statement.{statement}
 use Rattle.genpowcone.proofs.newton_raphson_genpowcone.Tie as tie
-
-ratios-front : (xs : List Float) → length xs ≤ 64 → take (length xs) (wide (ratioAt xs) (length xs)) ≡ map ratioOf xs
-unfolding ratioOf
-ratios-front = map-front ratioOf ratio-of-nan
 
 abbrev begun : tie.After-ratios → tie.Start
 begun c = c .before .before .before .before
@@ -24,7 +15,8 @@ begun c = c .before .before .before .before
 newton-raphson-onesided-requires : tie.Need-newton-raphson-onesided-requires
 newton-raphson-onesided-requires c κs =
     let made = c .before .before in
-    rw (c .head .ensures, made .ratios .ensures) (ratios-front (begun made .args .alpha .now) (begun made .pre))
+    let α = begun made .args .alpha .now in
+    rw (c .head .ensures, made .ratios .ensures) (padded-front 64 (map ratioOf α) (length α) (length-map α ratioOf))
 
 returns : tie.Need-returns
 unfolding x0Of f0Of f1Of

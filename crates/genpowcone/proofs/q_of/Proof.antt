@@ -2,7 +2,6 @@
 use native.Mathlib.Omega.{arith}
 use lib.ListN.{length-take}
 use borrow.Author.Needs.{needs}
-use Rattle.genpowcone.specs.Rank3.{qOf}
 use Rattle.genpowcone.proofs.q_of.Statement.{statement}
 use Rattle.genpowcone.proofs.q_of.Tie as tie
 
@@ -10,7 +9,6 @@ scale32-requires : tie.Need-scale32-requires
 scale32-requires c κs = rw (c .head .ensures) (simp length-take (omega arith))
 
 returns : tie.Need-returns
-unfolding qOf
 returns c = rw (c .scale32 .ensures, c .before .head .ensures)
 
 pub q-of-spec : {M : Type 1} → statement M

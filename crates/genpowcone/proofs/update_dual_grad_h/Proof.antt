@@ -1,11 +1,11 @@
 -- `update_dual_grad_h` is its definition, whether ζ is above 0 or not. Assumes nothing.
 use borrow.Author.Needs.{needs}
-use Rattle.genpowcone.specs.DualGradient.{gradHAt, updateDualGradHOf}
+use Rattle.genpowcone.specs.DualGradient.{updateDualGradHOf}
 use Rattle.genpowcone.proofs.update_dual_grad_h.Statement.{statement}
 use Rattle.genpowcone.proofs.update_dual_grad_h.Tie as tie
 
 returns : tie.Need-returns
-unfolding updateDualGradHOf gradHAt
+unfolding updateDualGradHOf
 returns c =
     let sums = c .before .before in
     simp (
@@ -17,7 +17,7 @@ returns c =
     )
 
 returns-2 : tie.Need-returns-2
-unfolding updateDualGradHOf gradHAt
+unfolding updateDualGradHOf
 returns-2 c =
     let sums = c .before .before in
     simp (

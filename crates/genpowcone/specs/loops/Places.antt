@@ -1,93 +1,54 @@
--- Arrays whose first places are in use and whose others are +0. 01: "those of the record's numbers are +0 after an update". Definitions
--- only.
-use Prim.Native.Nat.{ℕ, _+_, min}
-use mathlib.Core.List.{List}
-use lib.ListN.{length, set, replicate}
+-- The lists that 002's loops write. An array has such a list in its first places and +0 behind it: `padded`, of cone. A zip ends with its
+-- shorter list, as the Rust's izip does. Definitions only.
+use mathlib.Core.List.{List, map, zipWith}
 use lib.Ieee.{Float, neg}
-use Rattle.arith.specs.Turns.{iter}
-use Rattle.double.specs.Operators.{_⊕_, _⊖_, _⊗_, _⊘_, at}
-use Rattle.double.specs.Numbers.{#0, #1, #2}
-use Rattle.kernels.specs.Door.{sqrtOf, logOf}
+use Rattle.double.specs.Operators.{_⊕_, _⊖_, _⊗_, _⊘_}
+use Rattle.double.specs.Numbers.{#1, #2}
+use Rattle.kernels.specs.Door.{sqrtOf}
+use Rattle.cone.specs.Points.{padded}
 use Rattle.genpowcone.specs.declared.loops.places.Heads.{Heads}
 
--- turn i writes f i at place i
-abbrev pub put : (ℕ → Float) → ℕ → List Float → List Float
-put f i g = set g i (f i)
+-- c·x, and x·c
+abbrev pub times : Float → List Float → List Float
+times c xs = map (λ (x : Float). c ⊗ x) xs
 
--- turn j writes f j at place n + j
-abbrev pub putFrom : ℕ → (ℕ → Float) → ℕ → List Float → List Float
-putFrom n f j g = set g (n + j) (f j)
-
--- f 0 to f (n - 1) in 32 places
-unfoldable pub narrow : (ℕ → Float) → ℕ → List Float
-narrow f n = iter (put f) (replicate 32 #0) n
-
--- f 0 to f (n - 1) in 64 places
-unfoldable pub wide : (ℕ → Float) → ℕ → List Float
-wide f n = iter (put f) (replicate 64 #0) n
-
--- g, with f 0 to f (m - 1) from place n on
-unfoldable pub withTail : List Float → ℕ → (ℕ → Float) → ℕ → List Float
-withTail g n f m = iter (putFrom n f) g m
-
--- place i of c·x, of x·c, and of one number throughout
-abbrev pub timesAt : Float → List Float → ℕ → Float
-timesAt c x i = c ⊗ at x i
-
-abbrev pub scaledAt : List Float → Float → ℕ → Float
-scaledAt x c i = at x i ⊗ c
-
-abbrev pub constantAt : Float → ℕ → Float
-constantAt v i = v
-
--- place i of -x, and of x + a·dx. 01: "Trial point: q[i] + α·dq[i], two roundings"
-abbrev pub negatedAt : List Float → ℕ → Float
-negatedAt x i = neg (at x i)
-
-abbrev pub movedAt : List Float → Float → List Float → ℕ → Float
-movedAt x a dx i = at x i ⊕ a ⊗ at dx i
-
--- place i of the logarithms of x
-abbrev pub logAt : List Float → ℕ → Float
-logAt x i = logOf (at x i)
-
--- place i of the ratios (1 + x)/x
-abbrev pub ratioAt : List Float → ℕ → Float
-ratioAt x i = (#1 ⊕ at x i) ⊘ at x i
+abbrev pub scaled : List Float → Float → List Float
+scaled xs c = map (λ (x : Float). x ⊗ c) xs
 
 -- 002 unit_initialization, the head
-abbrev pub unitAt : List Float → ℕ → Float
-unitAt α i = sqrtOf (#1 ⊕ at α i)
+abbrev pub unitHead : List Float → List Float
+unitHead α = map (λ (a : Float). sqrtOf (#1 ⊕ a)) α
 
 -- 002 gradient_primal, the head: where Newton was entered, and where it was not
-abbrev pub headAt : List Float → List Float → Float → Float → ℕ → Float
-headAt α p g1 norm i = neg (#1 ⊕ at α i ⊕ at α i ⊗ g1 ⊗ norm) ⊘ at p i
+abbrev pub gradientHead : List Float → List Float → Float → Float → List Float
+gradientHead α p g1 norm = zipWith (λ (a x : Float). neg (#1 ⊕ a ⊕ a ⊗ g1 ⊗ norm) ⊘ x) α p
 
-abbrev pub flatHeadAt : List Float → List Float → ℕ → Float
-flatHeadAt α p i = neg (#1 ⊕ at α i) ⊘ at p i
+abbrev pub flatHead : List Float → List Float → List Float
+flatHead α p = zipWith (λ (a x : Float). neg (#1 ⊕ a) ⊘ x) α p
 
--- 002 update_dual_grad_H, the first loop: τ and the gradient's head
-abbrev pub tauAt : List Float → List Float → ℕ → Float
-tauAt α z i = #2 ⊗ at α i ⊘ at z i
+-- 002 update_dual_grad_H, the first loop: τ, and the gradient's head
+abbrev pub tauOf : List Float → List Float → List Float
+tauOf α z = zipWith (λ (a x : Float). #2 ⊗ a ⊘ x) α z
 
-abbrev pub gradAt : List Float → List Float → Float → Float → ℕ → Float
-gradAt α z φ ζ i = neg (tauAt α z i) ⊗ φ ⊘ ζ ⊖ (#1 ⊖ at α i) ⊘ at z i
+abbrev pub gradHead : List Float → List Float → Float → Float → List Float
+gradHead α z φ ζ = zipWith (λ (a x : Float). neg (#2 ⊗ a ⊘ x) ⊗ φ ⊘ ζ ⊖ (#1 ⊖ a) ⊘ x) α z
 
 unfoldable pub headsOf : List Float → List Float → Float → Float → Heads
-headsOf α z φ ζ =
-    let n = min (length α) (length z) in
-    record { tau = narrow (tauAt α z) n; grad = wide (gradAt α z φ ζ) n }
+headsOf α z φ ζ = record { tau = padded 32 (tauOf α z); grad = padded 64 (gradHead α z φ ζ) }
 
--- 002 update_dual_grad_H, the diagonal d1
-abbrev pub d1At : List Float → List Float → List Float → Float → Float → ℕ → Float
-d1At α z τ φ ζ i = at τ i ⊗ φ ⊘ (ζ ⊗ at z i) ⊕ (#1 ⊖ at α i) ⊘ (at z i ⊗ at z i)
+-- 002 update_dual_grad_H, the diagonal d1: τφ/(ζz) + (1-α)/(zz)
+abbrev pub diagonalOf : List Float → List Float → List Float → Float → Float → List Float
+diagonalOf α z τ φ ζ =
+    zipWith _⊕_
+    (zipWith (λ (t x : Float). t ⊗ φ ⊘ (ζ ⊗ x)) τ z)
+    (zipWith (λ (a x : Float). (#1 ⊖ a) ⊘ (x ⊗ x)) α z)
 
--- 002 mul_Hs: the head's places, the tail's, and what axpby and scale make of each
-abbrev pub productHeadAt : List Float → List Float → Float → List Float → ℕ → Float
-productHeadAt d1 q coefq x i = at d1 i ⊗ at x i ⊖ coefq ⊗ at q i
+-- 002 mul_Hs: "y1 .= K.d1 .* x1 - coef_q.*K.q" and "y2 .= K.d2 .* x2 - coef_r.*K.r", then what axpby and scale make of y
+abbrev pub productHead : List Float → List Float → Float → List Float → List Float
+productHead d1 q coefq x = zipWith _⊖_ (zipWith _⊗_ d1 x) (times coefq q)
 
-abbrev pub productTailAt : Float → List Float → Float → List Float → ℕ → Float
-productTailAt d2 r coefr x j = d2 ⊗ at x j ⊖ coefr ⊗ at r j
+abbrev pub productTail : Float → List Float → Float → List Float → List Float
+productTail d2 r coefr x = zipWith _⊖_ (times d2 x) (times coefr r)
 
-abbrev pub finishedAt : List Float → Float → List Float → Float → ℕ → Float
-finishedAt y coefp p μ i = (coefp ⊗ at p i ⊕ #1 ⊗ at y i) ⊗ μ
+abbrev pub finished : List Float → Float → List Float → Float → List Float
+finished y coefp p μ = zipWith (λ (a b : Float). (coefp ⊗ a ⊕ #1 ⊗ b) ⊗ μ) p y

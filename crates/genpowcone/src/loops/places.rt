@@ -1,10 +1,16 @@
 // Arrays filled from the front; what is not written is +0. The counts of the caller's cone keep each place within its array.
 ghost use mathlib.Core.Path.{_≡_};
-ghost use Prim.Native.Nat.{_+_, _≤_, min};
-ghost use lib.ListN.{length};
-ghost use Rattle.genpowcone.specs.loops.Places.{narrow, wide, withTail, timesAt, scaledAt, constantAt, negatedAt, movedAt, unitAt};
-ghost use Rattle.genpowcone.specs.loops.Places.{headAt, flatHeadAt, logAt, ratioAt, headsOf, d1At, productHeadAt, productTailAt};
-ghost use Rattle.genpowcone.specs.loops.Places.{finishedAt};
+ghost use mathlib.Core.List.{map};
+ghost use Prim.Native.Nat.{_+_, _≤_};
+ghost use lib.Ieee.{neg};
+ghost use lib.ListN.{length, take, replicate};
+ghost use lib.Seq.{sets};
+ghost use Rattle.kernels.specs.Door.{logOf};
+ghost use Rattle.algebra.specs.Vectors.{movedOf};
+ghost use Rattle.algebra.specs.newton.Equations.{ratioOf};
+ghost use Rattle.cone.specs.Points.{padded};
+ghost use Rattle.genpowcone.specs.loops.Places.{times, scaled, unitHead, gradientHead, flatHead, headsOf, diagonalOf};
+ghost use Rattle.genpowcone.specs.loops.Places.{productHead, productTail, finished};
 use algebra::vector::shorter;
 use kernels::log;
 use kernels::sqrt;
@@ -12,7 +18,7 @@ use kernels::sqrt;
 // c*x in each place.
 pub(crate) fn times32(c: f64, xs: &[f64]) -> [f64; 32]
     requires { ⌜ length (now xs) ≤ 32 ⌝ }
-    ensures { λ r. ⌜ r ≡ narrow (timesAt c (now (xs .entry))) (length (now (xs .entry))) ⌝ }
+    ensures { λ r. ⌜ r ≡ padded 32 (times c (now (xs .entry))) ⌝ }
 {
     let mut g = [0.0; 32];
     for i in 0..xs.len() {
@@ -24,7 +30,7 @@ pub(crate) fn times32(c: f64, xs: &[f64]) -> [f64; 32]
 // c*x from place n on.
 pub(crate) fn times_from(g0: [f64; 64], n: usize, c: f64, xs: &[f64]) -> [f64; 64]
     requires { ⌜ n + length (now xs) ≤ 64 ⌝ }
-    ensures { λ r. ⌜ r ≡ withTail g0 n (timesAt c (now (xs .entry))) (length (now (xs .entry))) ⌝ }
+    ensures { λ r. ⌜ r ≡ sets g0 n (times c (now (xs .entry))) ⌝ }
 {
     let mut g = g0;
     for j in 0..xs.len() {
@@ -37,7 +43,7 @@ pub(crate) fn times_from(g0: [f64; 64], n: usize, c: f64, xs: &[f64]) -> [f64; 6
 // `scale`: x*c in each place.
 pub(crate) fn scale32(xs: &[f64], c: f64) -> [f64; 32]
     requires { ⌜ length (now xs) ≤ 32 ⌝ }
-    ensures { λ r. ⌜ r ≡ narrow (scaledAt (now (xs .entry)) c) (length (now (xs .entry))) ⌝ }
+    ensures { λ r. ⌜ r ≡ padded 32 (scaled (now (xs .entry)) c) ⌝ }
 {
     let mut g = [0.0; 32];
     for i in 0..xs.len() {
@@ -49,7 +55,7 @@ pub(crate) fn scale32(xs: &[f64], c: f64) -> [f64; 32]
 // `set`: v in the m places from place n on.
 pub(crate) fn set_tail(g0: [f64; 64], n: usize, m: usize, v: f64) -> [f64; 64]
     requires { ⌜ n + m ≤ 64 ⌝ }
-    ensures { λ r. ⌜ r ≡ withTail g0 n (constantAt v) m ⌝ }
+    ensures { λ r. ⌜ r ≡ sets g0 n (replicate m v) ⌝ }
 {
     let mut g = g0;
     for j in 0..m {
@@ -62,7 +68,7 @@ pub(crate) fn set_tail(g0: [f64; 64], n: usize, m: usize, v: f64) -> [f64; 64]
 // log(x) in each place.
 pub(crate) fn logarithms(xs: &[f64]) -> [f64; 64]
     requires { ⌜ length (now xs) ≤ 64 ⌝ }
-    ensures { λ r. ⌜ r ≡ wide (logAt (now (xs .entry))) (length (now (xs .entry))) ⌝ }
+    ensures { λ r. ⌜ r ≡ padded 64 (map logOf (now (xs .entry))) ⌝ }
 {
     let mut g = [0.0; 64];
     for i in 0..xs.len() {
@@ -74,7 +80,7 @@ pub(crate) fn logarithms(xs: &[f64]) -> [f64; 64]
 // (1 + x)/x in each place.
 pub(crate) fn ratios(xs: &[f64]) -> [f64; 64]
     requires { ⌜ length (now xs) ≤ 64 ⌝ }
-    ensures { λ r. ⌜ r ≡ wide (ratioAt (now (xs .entry))) (length (now (xs .entry))) ⌝ }
+    ensures { λ r. ⌜ r ≡ padded 64 (map ratioOf (now (xs .entry))) ⌝ }
 {
     let mut g = [0.0; 64];
     for i in 0..xs.len() {
@@ -87,7 +93,7 @@ pub(crate) fn ratios(xs: &[f64]) -> [f64; 64]
 // `negate`
 pub(crate) fn negated(xs: &[f64]) -> [f64; 64]
     requires { ⌜ length (now xs) ≤ 64 ⌝ }
-    ensures { λ r. ⌜ r ≡ wide (negatedAt (now (xs .entry))) (length (now (xs .entry))) ⌝ }
+    ensures { λ r. ⌜ r ≡ padded 64 (map neg (now (xs .entry))) ⌝ }
 {
     let mut g = [0.0; 64];
     for i in 0..xs.len() {
@@ -99,7 +105,7 @@ pub(crate) fn negated(xs: &[f64]) -> [f64; 64]
 // `waxpby` with the factor 1: x + a*dx, over the shorter of the two.
 pub(crate) fn moved(x: &[f64], a: f64, dx: &[f64]) -> [f64; 64]
     requires { ⌜ length (now x) ≤ 64 ⌝ }
-    ensures { λ r. ⌜ r ≡ wide (movedAt (now (x .entry)) a (now (dx .entry))) (min (length (now (x .entry))) (length (now (dx .entry)))) ⌝ }
+    ensures { λ r. ⌜ r ≡ padded 64 (movedOf (now (x .entry)) a (now (dx .entry))) ⌝ }
 {
     let n = shorter(x.len(), dx.len());
     let mut g = [0.0; 64];
@@ -112,7 +118,7 @@ pub(crate) fn moved(x: &[f64], a: f64, dx: &[f64]) -> [f64; 64]
 // The head of unit_initialization.
 pub(crate) fn unit_head(alpha: &[f64]) -> [f64; 64]
     requires { ⌜ length (now alpha) ≤ 64 ⌝ }
-    ensures { λ r. ⌜ r ≡ wide (unitAt (now (alpha .entry))) (length (now (alpha .entry))) ⌝ }
+    ensures { λ r. ⌜ r ≡ padded 64 (unitHead (now (alpha .entry))) ⌝ }
 {
     let mut g = [0.0; 64];
     for i in 0..alpha.len() {
@@ -124,8 +130,7 @@ pub(crate) fn unit_head(alpha: &[f64]) -> [f64; 64]
 // The head of gradient_primal where Newton was entered.
 pub(crate) fn gradient_head(alpha: &[f64], p: &[f64], g1: f64, normr: f64) -> [f64; 64]
     requires { ⌜ length (now alpha) ≤ 64 ⌝ }
-    ensures { λ r. ⌜ r ≡ wide (headAt (now (alpha .entry)) (now (p .entry)) g1 normr)
-        (min (length (now (alpha .entry))) (length (now (p .entry)))) ⌝ }
+    ensures { λ r. ⌜ r ≡ padded 64 (gradientHead (now (alpha .entry)) (now (p .entry)) g1 normr) ⌝ }
 {
     let n = shorter(alpha.len(), p.len());
     let mut g = [0.0; 64];
@@ -139,8 +144,7 @@ pub(crate) fn gradient_head(alpha: &[f64], p: &[f64], g1: f64, normr: f64) -> [f
 // The head of gradient_primal where it was not.
 pub(crate) fn gradient_flat_head(alpha: &[f64], p: &[f64]) -> [f64; 64]
     requires { ⌜ length (now alpha) ≤ 64 ⌝ }
-    ensures { λ r. ⌜ r ≡ wide (flatHeadAt (now (alpha .entry)) (now (p .entry)))
-        (min (length (now (alpha .entry))) (length (now (p .entry)))) ⌝ }
+    ensures { λ r. ⌜ r ≡ padded 64 (flatHead (now (alpha .entry)) (now (p .entry))) ⌝ }
 {
     let n = shorter(alpha.len(), p.len());
     let mut g = [0.0; 64];
@@ -173,10 +177,9 @@ pub(crate) fn tau_and_grad(alpha: &[f64], z: &[f64], phi: f64, zeta: f64) -> Hea
     Heads { tau, grad }
 }
 
-pub(crate) fn diagonal(alpha: &[f64], z: &[f64], tau: &[f64; 32], phi: f64, zeta: f64) -> [f64; 32]
-    requires { ⌜ length (now alpha) ≤ 32 ⌝ }
-    ensures { λ r. ⌜ r ≡ narrow (d1At (now (alpha .entry)) (now (z .entry)) (now (tau .entry)) phi zeta)
-        (min (length (now (alpha .entry))) (length (now (z .entry)))) ⌝ }
+pub(crate) fn diagonal(alpha: &[f64], z: &[f64], tau: &[f64], phi: f64, zeta: f64) -> [f64; 32]
+    requires { ⌜ (length (now alpha) ≤ 32) × (length (now alpha) ≤ length (now tau)) ⌝ }
+    ensures { λ r. ⌜ r ≡ padded 32 (diagonalOf (now (alpha .entry)) (now (z .entry)) (now (tau .entry)) phi zeta) ⌝ }
 {
     let n = shorter(alpha.len(), z.len());
     let mut d1 = [0.0; 32];
@@ -188,9 +191,9 @@ pub(crate) fn diagonal(alpha: &[f64], z: &[f64], tau: &[f64; 32], phi: f64, zeta
 }
 
 // mul_hs, y1 .= K.d1 .* x1 - coef_q.*K.q
-pub(crate) fn product_head(d1: &[f64; 32], q: &[f64; 32], coefq: f64, x: &[f64]) -> [f64; 64]
-    requires { ⌜ length (now x) ≤ 32 ⌝ }
-    ensures { λ r. ⌜ r ≡ wide (productHeadAt (now (d1 .entry)) (now (q .entry)) coefq (now (x .entry))) (length (now (x .entry))) ⌝ }
+pub(crate) fn product_head(d1: &[f64], q: &[f64], coefq: f64, x: &[f64]) -> [f64; 64]
+    requires { ⌜ (length (now x) ≤ 64) × (length (now x) ≤ length (now d1)) × (length (now x) ≤ length (now q)) ⌝ }
+    ensures { λ r. ⌜ r ≡ padded 64 (productHead (now (d1 .entry)) (now (q .entry)) coefq (now (x .entry))) ⌝ }
 {
     let mut y = [0.0; 64];
     for i in 0..x.len() {
@@ -204,12 +207,12 @@ pub(crate) fn product_tail(
     y0: [f64; 64],
     n: usize,
     d2: f64,
-    r: &[f64; 32],
+    r: &[f64],
     coefr: f64,
     x: &[f64],
 ) -> [f64; 64]
-    requires { ⌜ (n + length (now x) ≤ 64) × (length (now x) ≤ 32) ⌝ }
-    ensures { λ t. ⌜ t ≡ withTail y0 n (productTailAt d2 (now (r .entry)) coefr (now (x .entry))) (length (now (x .entry))) ⌝ }
+    requires { ⌜ (n + length (now x) ≤ 64) × (length (now x) ≤ length (now r)) ⌝ }
+    ensures { λ t. ⌜ t ≡ sets y0 n (productTail d2 (now (r .entry)) coefr (now (x .entry))) ⌝ }
 {
     let mut y = y0;
     for j in 0..x.len() {
@@ -220,15 +223,9 @@ pub(crate) fn product_tail(
 }
 
 // mul_hs, y.axpby(coef_p, p, 1) and y.scale(μ): the first n places
-pub(crate) fn product_finished(
-    y: &[f64; 64],
-    n: usize,
-    coefp: f64,
-    p: &[f64; 64],
-    mu: f64,
-) -> [f64; 64]
-    requires { ⌜ n ≤ 64 ⌝ }
-    ensures { λ r. ⌜ r ≡ wide (finishedAt (now (y .entry)) coefp (now (p .entry)) mu) n ⌝ }
+pub(crate) fn product_finished(y: &[f64], n: usize, coefp: f64, p: &[f64], mu: f64) -> [f64; 64]
+    requires { ⌜ (n ≤ 64) × (n ≤ length (now y)) × (n ≤ length (now p)) ⌝ }
+    ensures { λ r. ⌜ r ≡ padded 64 (take n (finished (now (y .entry)) coefp (now (p .entry)) mu)) ⌝ }
 {
     let mut g = [0.0; 64];
     for i in 0..n {

@@ -3,7 +3,7 @@
 use Prim.Native.Nat.{ℕ, zero, suc, _+_, _-_, _*_, _^_, _≤_, _<_}
 use mathlib.Core.Path.{_≡_, refl, sym, ap, subst, _∙_}
 use mathlib.Core.Bool.{Bool, true, false, cond, _&&_, _||_}
-use mathlib.Core.List.{List, [], _∷_}
+use mathlib.Core.List.{List, [], _∷_, _++_}
 use native.Mathlib.Omega.{arith}
 use lib.Dec.{T, eqb, ltb, leb}
 use lib.IntN.{ℤ}
@@ -15,9 +15,8 @@ use lib.Ieee.Fits.{down-pos, add-fits}
 use lib.Ieee.Order.{round-mono}
 use lib.Ieee.Positive.{between, value-pos}
 use lib.Ieee.Scale.{finite, grid, round-val, round-under}
-use lib.ListN.{length, take, set, replicate}
+use lib.ListN.{length, take, replicate}
 use borrow.Author.Tests.{ltb-true, eqb-true, le-ltb}
-use Rattle.arith.specs.Turns.{iter}
 use Rattle.arith.proofs.Branches.{and-left, and-right, and-both, false-not-true}
 use Rattle.rounding.specs.Units.{unitsOf}
 use Rattle.rounding.proofs.Units.{is-units}
@@ -28,13 +27,14 @@ use Rattle.double.proofs.Numbers.{names-right}
 use Rattle.root.proofs.Theorem.{square-root}
 use Rattle.kernels.specs.Door.{sqrtOf}
 use Rattle.cone.specs.declared.Cone.{Cone}
+use Rattle.cone.specs.Points.{padded}
 use Rattle.judges.specs.Judges.{allOf, allFinite, powerOk, exponentOk, toleranceOf, sumOk, wideOk, coneOk}
 use Rattle.judges.specs.Refusals.{publishTwoOf}
 use Rattle.search.proofs.Settings.{of-true}
 use Rattle.expcone.specs.PrimalGradient as exp
 use Rattle.powcone.specs.PrimalGradient as pow
 use Rattle.genpowcone.specs.PrimalGradient as genpow
-use Rattle.genpowcone.specs.loops.Places.{put, unitAt, wide}
+use Rattle.genpowcone.specs.loops.Places.{unitHead}
 use Rattle.kinds.specs.Cones.{alphaOf}
 use Rattle.kinds.specs.Three as three
 use Rattle.kinds.specs.Wide as general
@@ -167,28 +167,22 @@ root-finite x p =
 
 -- ---- lists of finite numbers
 
-all-set : (l : List Float) (i : ℕ) (x : Float) → allFinite l ≡ true → finite x ≡ true → allFinite (set l i x) ≡ true
+all-append : (l m : List Float) → allFinite l ≡ true → allFinite m ≡ true → allFinite (l ++ m) ≡ true
 unfolding allOf
-all-set [] i x h f = h
-all-set (y ∷ l) zero x h f = and-both _ _ f (and-right (finite y) (allFinite l) h)
-all-set (y ∷ l) (suc i) x h f = and-both _ _ (and-left (finite y) (allFinite l) h) (all-set l i x (and-right (finite y) (allFinite l) h) f)
+all-append [] m h f = f
+all-append (y ∷ l) m h f =
+    and-both _ _ (and-left (finite y) (allFinite l) h) (all-append l m (and-right (finite y) (allFinite l) h) f)
+
+all-zero : (n : ℕ) → allFinite (replicate n #0) ≡ true
+unfolding allOf ofBits
+all-zero zero = refl
+all-zero (suc n) = all-zero n
 
 all-take : (n : ℕ) (l : List Float) → allFinite l ≡ true → allFinite (take n l) ≡ true
 unfolding allOf
 all-take zero l h = refl
 all-take (suc n) [] h = refl
 all-take (suc n) (y ∷ l) h = and-both _ _ (and-left (finite y) (allFinite l) h) (all-take n l (and-right (finite y) (allFinite l) h))
-
-each-ok : (l : List Float) (i : ℕ) → allOf exponentOk l ≡ true → i < length l → exponentOk (at l i) ≡ true
-unfolding allOf
-each-ok [] i h l = absurd (omega arith)
-each-ok (y ∷ l) zero h g = and-left (exponentOk y) (allOf exponentOk l) h
-each-ok (y ∷ l) (suc i) h g = each-ok l i (and-right (exponentOk y) (allOf exponentOk l) h) (omega arith)
-
-filled : (f : ℕ → Float) (n : ℕ) → ((i : ℕ) → i < n → finite (f i) ≡ true) → allFinite (iter (put f) (replicate 64 #0) n) ≡ true
-unfolding iter allOf ofBits
-filled f zero h = refl
-filled f (suc n) h = all-set (iter (put f) (replicate 64 #0) n) n (f n) (filled f n (λ i l. h i (omega arith))) (h n (omega arith))
 
 -- ---- the unit start, by kind
 
@@ -200,13 +194,17 @@ power-finite α ok =
     let part = part-of-exponent α above below in
     rw (root-finite α part, root-finite (#1 ⊖ α) (part-of-difference α part))
 
+heads-finite : (α : List Float) → allOf exponentOk α ≡ true → allFinite (unitHead α) ≡ true
+unfolding allOf
+heads-finite [] ok = refl
+heads-finite (x ∷ α) ok =
+    let e = and-left (exponentOk x) (allOf exponentOk α) ok in
+    let part = part-of-exponent x (of-true _ (and-left (#0 ≺ x) (x ≼ #1) e)) (of-true _ (and-right (#0 ≺ x) (x ≼ #1) e)) in
+    and-both _ _ (root-finite x part) (heads-finite α (and-right (exponentOk x) (allOf exponentOk α) ok))
+
 exponents-finite : (α : List Float) → allOf exponentOk α ≡ true → allFinite (genpow.unitInitializationOf α) ≡ true
-unfolding genpow.unitInitializationOf wide
-exponents-finite α ok =
-    filled (unitAt α) (length α) (λ i l.
-    let x = at α i in
-    let e = each-ok α i ok l in
-    root-finite x (part-of-exponent x (of-true _ (and-left (#0 ≺ x) (x ≼ #1) e)) (of-true _ (and-right (#0 ≺ x) (x ≼ #1) e))))
+unfolding genpow.unitInitializationOf padded
+exponents-finite α ok = all-append (unitHead α) _ (heads-finite α ok) (all-zero (64 - length (unitHead α)))
 
 -- what is published
 abbrev start : Cone → ℕ → List Float

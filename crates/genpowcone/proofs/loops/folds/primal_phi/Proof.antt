@@ -1,9 +1,10 @@
 -- `primal_phi` meets its contract: after i turns the loop holds the product of the first i powers. The measure is what is left of the
 -- shorter length. Assumes nothing.
 use Prim.Native.Nat.{_-_, _≤_, min}
-use mathlib.Core.Path.{_≡_}
+use mathlib.Core.Path.{_≡_, refl}
 use native.Mathlib.Omega.{arith}
 use lib.ListN.{length}
+use lib.Ieee.{nan, isNan}
 use borrow.Author.Needs.{needs}
 use Rattle.arith.proofs.Turns.{iter-end, iter-next, iter-none}
 use Rattle.arith.specs.Turns.{iter}
@@ -11,9 +12,12 @@ use Rattle.double.specs.Numbers.{#1}
 use Rattle.kernels.specs.Door.{logOf, powfOf}
 use Rattle.algebra.proofs.Mapped.{mapped-length, mapped-place}
 use Rattle.genpowcone.specs.loops.Folds.{primalPhi, primalPhiTurn}
-use Rattle.genpowcone.proofs.loops.Arrays.{log-of-nan}
 use Rattle.genpowcone.proofs.loops.folds.primal_phi.Statement.{statement}
 use Rattle.genpowcone.proofs.loops.folds.primal_phi.Tie as tie
+
+log-of-nan : logOf nan ≡ nan
+unfolding logOf isNan
+log-of-nan = refl
 
 abbrev Inv-loop : tie.InvT-loop
 Inv-loop alpha p logs n phi₀ i₀ phi i =

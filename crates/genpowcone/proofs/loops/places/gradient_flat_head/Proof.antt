@@ -3,32 +3,33 @@
 use Prim.Native.Nat.{_-_, _≤_, min}
 use mathlib.Core.Path.{_≡_}
 use native.Mathlib.Omega.{arith}
-use lib.ListN.{length, replicate}
+use lib.ListN.{length, take}
 use borrow.Author.Needs.{needs}
-use Rattle.arith.proofs.Turns.{iter-end, iter-next, iter-none}
-use Rattle.arith.specs.Turns.{iter}
-use Rattle.double.specs.Numbers.{#0}
-use Rattle.genpowcone.specs.loops.Places.{flatHeadAt, put, wide}
+use Rattle.cone.specs.Points.{padded}
+use Rattle.cone.proofs.Points.{padded-none}
+use Rattle.genpowcone.specs.loops.Places.{flatHead}
+use Rattle.genpowcone.proofs.loops.Arrays.{zip-more, zip-all}
 use Rattle.genpowcone.proofs.loops.places.gradient_flat_head.Statement.{statement}
 use Rattle.genpowcone.proofs.loops.places.gradient_flat_head.Tie as tie
 
 abbrev Inv-loop : tie.InvT-loop
-Inv-loop alpha p n g₀ i₀ g i = (n ≡ min (length alpha) (length p)) × (i ≤ n) × (g ≡ iter (put (flatHeadAt alpha p)) (replicate 64 #0) i)
+Inv-loop alpha p n g₀ i₀ g i = (n ≡ min (length alpha) (length p)) × (i ≤ n) × (g ≡ padded 64 (take i (flatHead alpha p)))
 
 abbrev μ-loop : tie.MeasureT-loop
 μ-loop alpha p n g₀ i₀ g i = n - i
 
 loop-holds : tie.Need-loop-holds Inv-loop μ-loop
-loop-holds c = (c .shorter .ensures, omega arith, iter-none _ _)
+loop-holds c = (c .shorter .ensures, omega arith, padded-none 64)
 
 loop-again : tie.Need-loop-again Inv-loop μ-loop
 loop-again c =
     let l = c .before .before .before .loop in
-    (l .inv .0, omega arith, iter-next _ _ _ (l .inv .2))
+    (l .inv .0, omega arith, zip-more 64 _ _ _ _ (l .inv .2) (omega arith) (omega arith))
 
 returns : tie.Need-returns Inv-loop μ-loop
-unfolding wide
-returns c = iter-end _ _ _ _ (c .before .loop .inv .2) (omega arith) (omega arith)
+returns c =
+    let l = c .before .loop in
+    zip-all 64 _ _ _ (l .i) (l .inv .2) (omega arith)
 
 pub gradient-flat-head-spec : {M : Type 1} → statement M
 gradient-flat-head-spec =

@@ -2,32 +2,36 @@
 use Prim.Native.Nat.{_-_, _≤_}
 use mathlib.Core.Path.{_≡_}
 use native.Mathlib.Omega.{arith}
-use lib.ListN.{length, replicate}
+use lib.ListN.{length, take}
 use borrow.Author.Needs.{needs}
-use Rattle.arith.proofs.Turns.{iter-end, iter-next, iter-none}
-use Rattle.arith.specs.Turns.{iter}
-use Rattle.double.specs.Numbers.{#0}
-use Rattle.genpowcone.specs.loops.Places.{put, logAt, wide}
+use mathlib.Core.List.{map}
+use Rattle.kernels.specs.Door.{logOf}
+use Rattle.cone.specs.Points.{padded}
+use Rattle.cone.proofs.Points.{padded-none}
+use Rattle.genpowcone.proofs.loops.Arrays.{map-more, map-all}
 use Rattle.genpowcone.proofs.loops.places.logarithms.Statement.{statement}
 use Rattle.genpowcone.proofs.loops.places.logarithms.Tie as tie
 
 abbrev Inv-loop : tie.InvT-loop
-Inv-loop xs g₀ i₀ i-end g i = (i ≤ length xs) × (g ≡ iter (put (logAt xs)) (replicate 64 #0) i)
+Inv-loop xs g₀ i₀ i-end g i = (i ≤ length xs) × (g ≡ padded 64 (take i (map logOf xs)))
 
 abbrev μ-loop : tie.MeasureT-loop
 μ-loop xs g₀ i₀ i-end g i = length xs - i
 
 loop-holds : tie.Need-loop-holds Inv-loop μ-loop
-loop-holds c = (omega arith, iter-none _ _)
+loop-holds c = (omega arith, padded-none 64)
 
 loop-again : tie.Need-loop-again Inv-loop μ-loop
 loop-again c =
-    let l = c .before .before .before .loop in
-    (omega arith, rw (c .log .ensures) (iter-next _ _ _ (l .inv .1)))
+    let at-loop = c .before .before .before in
+    let l = at-loop .loop in
+    let xs = at-loop .before .before .args .xs .now in
+    (omega arith, rw (c .log .ensures) (map-more 64 _ xs _ (l .inv .1) (omega arith) (omega arith)))
 
 returns : tie.Need-returns Inv-loop μ-loop
-unfolding wide
-returns c = iter-end _ _ _ _ (c .before .loop .inv .1) (omega arith) (omega arith)
+returns c =
+    let l = c .before .loop in
+    map-all 64 _ (c .before .before .before .args .xs .now) (l .i) (l .inv .1) (omega arith)
 
 pub logarithms-spec : {M : Type 1} → statement M
 logarithms-spec =

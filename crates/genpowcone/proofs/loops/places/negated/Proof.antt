@@ -2,31 +2,34 @@
 use Prim.Native.Nat.{_-_, _≤_}
 use mathlib.Core.Path.{_≡_}
 use native.Mathlib.Omega.{arith}
-use lib.ListN.{length, replicate}
-use Rattle.arith.proofs.Turns.{iter-end, iter-next, iter-none}
-use Rattle.arith.specs.Turns.{iter}
-use Rattle.double.specs.Numbers.{#0}
-use Rattle.genpowcone.specs.loops.Places.{negatedAt, put, wide}
+use lib.ListN.{length, take}
+use mathlib.Core.List.{map}
+use lib.Ieee.{neg}
+use Rattle.cone.specs.Points.{padded}
+use Rattle.cone.proofs.Points.{padded-none}
+use Rattle.genpowcone.proofs.loops.Arrays.{map-more, map-all}
 use Rattle.genpowcone.proofs.loops.places.negated.Statement.{statement}
 use Rattle.genpowcone.proofs.loops.places.negated.Tie as tie
 
 abbrev Inv-loop : tie.InvT-loop
-Inv-loop xs g₀ i₀ i-end g i = (i ≤ length xs) × (g ≡ iter (put (negatedAt xs)) (replicate 64 #0) i)
+Inv-loop xs g₀ i₀ i-end g i = (i ≤ length xs) × (g ≡ padded 64 (take i (map neg xs)))
 
 abbrev μ-loop : tie.MeasureT-loop
 μ-loop xs g₀ i₀ i-end g i = length xs - i
 
 loop-holds : tie.Need-loop-holds Inv-loop μ-loop
-loop-holds c = (omega arith, iter-none _ _)
+loop-holds c = (omega arith, padded-none 64)
 
 loop-again : tie.Need-loop-again Inv-loop μ-loop
 loop-again c =
-    let l = c .before .before .loop in
-    (omega arith, iter-next _ _ _ (l .inv .1))
+    let at-loop = c .before .before in
+    let l = at-loop .loop in
+    (omega arith, map-more 64 _ (at-loop .before .args .xs .now) _ (l .inv .1) (omega arith) (omega arith))
 
 returns : tie.Need-returns Inv-loop μ-loop
-unfolding wide
-returns c = iter-end _ _ _ _ (c .before .loop .inv .1) (omega arith) (omega arith)
+returns c =
+    let l = c .before .loop in
+    map-all 64 _ (c .before .before .args .xs .now) (l .i) (l .inv .1) (omega arith)
 
 pub negated-spec : {M : Type 1} → statement M
 negated-spec =

@@ -4,8 +4,8 @@ use mathlib.Core.Bool.{false}
 use mathlib.Core.List.{List}
 use Prim.Native.Nat.{ℕ}
 use Rattle.trace_layout.specs.Traces.{tooLarge, known}
-use Rattle.trace_rescue.specs.slices.Rescue.{endsKnown, rescueOf}
-use Rattle.trace_rescue.proofs.slices.Rescues.{editions}
+use Rattle.trace_rescue.specs.call.Rescue.{endsKnown, rescueOf}
+use Rattle.trace_rescue.proofs.call.Rescues.{editions}
 use Rattle.rescue.specs.Deeds.{ask, editionNamed, deedBy, deedOf}
 
 none-known : known 0 ≡ false

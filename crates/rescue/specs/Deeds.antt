@@ -4,7 +4,7 @@ use mathlib.Core.Bool.{Bool, cond}
 use mathlib.Core.List.{List}
 use lib.Dec.{eqb, ltb}
 use Rattle.trace_layout.specs.Traces.{tooLarge}
-use Rattle.trace_rescue.specs.declared.slices.Rescued.{Rescued}
+use Rattle.trace_rescue.specs.declared.call.Rescued.{Rescued}
 use Rattle.trace_rescue.specs.file.Printed.{editionOf}
 
 -- Order 8: rescue "takes it from its caller" where the input does not end in a known edition. The program's caller names one by a word, or

@@ -4,7 +4,7 @@
 // asked for, and where no record would be kept of bytes that are there. The file, its text and the output lie on the stack.
 ghost use mathlib.Core.Path.{_≡_};
 ghost use lib.ListN.{length};
-ghost use Rattle.trace_rescue.specs.slices.Rescue.{keptOf, rescueOf};
+ghost use Rattle.trace_rescue.specs.call.Rescue.{keptOf, rescueOf};
 ghost use Rattle.rescue.specs.Deeds.{editionNamed, deedBy, deedOf};
 use libc::STDERR_FILENO;
 use octets::words::front;
@@ -15,10 +15,10 @@ use trace::whole::walk;
 use trace_layout::pieces::MOST_BYTES;
 use trace_layout::rooms::file_room;
 use trace_layout::rooms::row;
+use trace_rescue::call::Rescued;
+use trace_rescue::call::rescue;
 use trace_rescue::file::edition_of;
 use trace_rescue::file::put_rescue;
-use trace_rescue::slices::Rescued;
-use trace_rescue::slices::rescue;
 
 // What is done: the trace is written or IN refused, an edition is asked for, or OUT is left alone.
 const WRITE: u32 = 0;

@@ -17,9 +17,9 @@ ghost use Rattle.trace.specs.entries.Writing.{createOf, appendOf};
 ghost use Rattle.trace.specs.entries.Opened.{openedOf};
 ghost use Rattle.trace.specs.value.Recorded.{recordedIn};
 ghost use Rattle.trace.specs.recording.Recording.{recordPutOf, recordAtOf, traceSealOf};
-ghost use Rattle.trace_replay.specs.slices.Replay.{Noted, replayOf};
-ghost use Rattle.trace_rescue.specs.slices.Rescue.{rescueOf};
-ghost use Rattle.trace_thin.specs.slices.Thin.{thinOf, thinInPlaceOf};
+ghost use Rattle.trace_replay.specs.call.Replay.{Noted, replayOf};
+ghost use Rattle.trace_rescue.specs.call.Rescue.{rescueOf};
+ghost use Rattle.trace_thin.specs.call.Thin.{thinOf, thinInPlaceOf};
 ghost use Rattle.trace_sheet.specs.rows.Rows.{joinOf, addOf};
 ghost use Rattle.trace_sheet.specs.text.Printed.{printOf};
 use cone::Cone;
@@ -37,11 +37,11 @@ use root::table_root::Root;
 use trace::entries::Opened;
 use trace::entries::Written;
 use trace::value::Recorded;
-use trace_replay::slices::Replayed;
-use trace_rescue::slices::Rescued;
+use trace_replay::call::Replayed;
+use trace_rescue::call::Rescued;
 use trace_sheet::rows::Totals;
 use trace_sheet::text::Printed;
-use trace_thin::slices::Thinned;
+use trace_thin::call::Thinned;
 
 // Which library this is: 10,000 times the version's first number, 100 times its second, its third. For 1.0.0.
 #[no_mangle]
@@ -443,7 +443,7 @@ pub extern "C" fn spindle_trace_seal(bytes: &mut [u8], used: usize, edition: u32
 pub extern "C" fn spindle_replay(trace: &[u8], at: &mut [u64]) -> Replayed
     ensures { λ r. ⌜ record { answer = r; offsets = now (at .exit) } ≡ replayOf (now (trace .entry)) (now (at .entry)) ⌝ }
 {
-    trace_replay::slices::replay(trace, at)
+    trace_replay::call::replay(trace, at)
 }
 
 // ---- 02, Order 7: a cut trace rescued
@@ -452,7 +452,7 @@ pub extern "C" fn spindle_replay(trace: &[u8], at: &mut [u64]) -> Replayed
 pub extern "C" fn spindle_rescue(input: &[u8], output: &mut [u8], edition: u32) -> Rescued
     ensures { λ r. ⌜ record { answer = r; output = now (output .exit) } ≡ rescueOf (now (input .entry)) (now (output .entry)) edition ⌝ }
 {
-    trace_rescue::slices::rescue(input, output, edition)
+    trace_rescue::call::rescue(input, output, edition)
 }
 
 // ---- 02, Order 13: a trace thinned
@@ -461,14 +461,14 @@ pub extern "C" fn spindle_rescue(input: &[u8], output: &mut [u8], edition: u32) 
 pub extern "C" fn spindle_thin(trace: &[u8], output: &mut [u8]) -> Thinned
     ensures { λ r. ⌜ record { answer = r; output = now (output .exit) } ≡ thinOf (now (trace .entry)) (now (output .entry)) ⌝ }
 {
-    trace_thin::slices::thin(trace, output)
+    trace_thin::call::thin(trace, output)
 }
 
 #[no_mangle]
 pub extern "C" fn spindle_thin_in_place(trace: &mut [u8]) -> Thinned
     ensures { λ r. ⌜ record { answer = r; output = now (trace .exit) } ≡ thinInPlaceOf (now (trace .entry)) ⌝ }
 {
-    trace_thin::slices::thin_in_place(trace)
+    trace_thin::call::thin_in_place(trace)
 }
 
 // ---- 02, Order 14: a sheet in lent rows

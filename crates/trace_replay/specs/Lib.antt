@@ -1,4 +1,4 @@
 pub mod rerun
-pub mod slices
+pub mod call
 pub mod text
 pub mod file

@@ -5,7 +5,7 @@ ghost use Prim.Native.Nat.{_≤_};
 ghost use lib.ListN.{length};
 ghost use lib.Seq.{sets};
 ghost use Rattle.trace_replay.specs.file.Printed.{printedOf};
-use crate::slices::replay;
+use crate::call::replay;
 use crate::text::put_text;
 use octets::lines::put_refused;
 use trace_layout::pieces::MOST_BYTES;

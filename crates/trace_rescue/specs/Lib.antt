@@ -1,2 +1,2 @@
-pub mod slices
+pub mod call
 pub mod file

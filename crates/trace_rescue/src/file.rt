@@ -6,7 +6,7 @@ ghost use lib.ListN.{length};
 ghost use lib.Seq.{sets};
 ghost use Rattle.trace_rescue.specs.file.Text.{verdictLine, rescueText};
 ghost use Rattle.trace_rescue.specs.file.Printed.{printedOf, writtenOf, lengthsOf, editionOf};
-use crate::slices::rescue;
+use crate::call::rescue;
 use octets::lines::put_line;
 use octets::lines::put_refused;
 use octets::lines::put_word;

@@ -1,3 +1,3 @@
-// A cut trace rescued (slices), and what the program prints and writes of a file (file).
+// A cut trace rescued (call), and what the program prints and writes of a file (file).
+pub mod call;
 pub mod file;
-pub mod slices;

@@ -1,3 +1,3 @@
 pub mod firsts
-pub mod slices
+pub mod call
 pub mod file

@@ -7,7 +7,7 @@ ghost use lib.Seq.{sets};
 ghost use Rattle.trace_layout.specs.Traces.{mostBytes};
 ghost use Rattle.trace_thin.specs.file.Text.{thinText};
 ghost use Rattle.trace_thin.specs.file.Printed.{printedOf, writtenOf, lengthsOf};
-use crate::slices::thin;
+use crate::call::thin;
 use octets::lines::put_line;
 use octets::lines::put_refused;
 use trace_layout::pieces::MOST_BYTES;

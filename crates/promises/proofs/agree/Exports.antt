@@ -12,9 +12,9 @@ use Rattle.cone.specs.declared.Steps.{Steps}
 use Rattle.cone.specs.declared.Rounds.{Rounds}
 use Rattle.judges.proofs.Outcomes.{one, two}
 use Rattle.trace.proofs.entries.Agree.{left}
-use Rattle.trace_replay.proofs.slices.Agree.{noted-alike}
-use Rattle.trace_rescue.proofs.slices.Agree.{saved-alike}
-use Rattle.trace_thin.proofs.slices.Agree.{left-alike}
+use Rattle.trace_replay.proofs.call.Agree.{noted-alike}
+use Rattle.trace_rescue.proofs.call.Agree.{saved-alike}
+use Rattle.trace_thin.proofs.call.Agree.{left-alike}
 use Rattle.trace_sheet.proofs.rows.Agree.{held-alike}
 use Rattle.trace_sheet.proofs.text.Agree.{told-alike}
 use Rattle.spindle.proofs.spindle_version.Reads as version

@@ -13,9 +13,9 @@ use Rattle.judges.specs.Refusals.{Lent, LentTwo}
 use Rattle.trace.specs.declared.entries.Opened.{Opened}
 use Rattle.trace.specs.declared.value.Recorded.{Recorded}
 use Rattle.trace.specs.entries.Writing as writing
-use Rattle.trace_replay.specs.slices.Replay as replays
-use Rattle.trace_rescue.specs.slices.Rescue as rescues
-use Rattle.trace_thin.specs.slices.Thin as thins
+use Rattle.trace_replay.specs.call.Replay as replays
+use Rattle.trace_rescue.specs.call.Rescue as rescues
+use Rattle.trace_thin.specs.call.Thin as thins
 use Rattle.trace_sheet.specs.rows.Rows as rows
 use Rattle.trace_sheet.specs.text.Printed as text
 use Rattle.promises.specs.rules.Entries.{call, verdict, number, dualGrad, written, writtenTwo, rectified, counted, found, foundTwo}

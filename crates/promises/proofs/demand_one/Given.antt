@@ -43,9 +43,9 @@ use Rattle.trace.specs.recording.Recording as recording
 use Rattle.trace.specs.value.Recorded as value
 use Rattle.trace.specs.whole.Whole.{wholeIn}
 use Rattle.trace.specs.kept.Made as appends
-use Rattle.trace_replay.specs.slices.Replay as replays
-use Rattle.trace_rescue.specs.slices.Rescue as rescues
-use Rattle.trace_thin.specs.slices.Thin as thins
+use Rattle.trace_replay.specs.call.Replay as replays
+use Rattle.trace_rescue.specs.call.Rescue as rescues
+use Rattle.trace_thin.specs.call.Thin as thins
 use Rattle.trace_thin.specs.firsts.Firsts.{firstsBehind}
 use Rattle.trace_sheet.specs.declared.counts.Largest.{Largest}
 use Rattle.trace_sheet.specs.counts.Counts.{largestOf}

@@ -51,9 +51,9 @@ use Rattle.trace.specs.recording.Recording as recording
 use Rattle.trace.specs.value.Recorded as value
 use Rattle.trace_layout.specs.Records.{laidAt}
 use Rattle.trace_layout.specs.Traces.{known, goodTrace, countAt}
-use Rattle.trace_replay.specs.slices.Replay as replays
-use Rattle.trace_rescue.specs.slices.Rescue as rescues
-use Rattle.trace_thin.specs.slices.Thin as thins
+use Rattle.trace_replay.specs.call.Replay as replays
+use Rattle.trace_rescue.specs.call.Rescue as rescues
+use Rattle.trace_thin.specs.call.Thin as thins
 use Rattle.trace_sheet.specs.counts.Sheet.{sheetOf}
 use Rattle.trace_sheet.specs.rows.Rows as rows
 use Rattle.trace_sheet.proofs.rows.Named.{sheet-named}

@@ -14,7 +14,7 @@ use Rattle.cone.specs.declared.Steps.{Steps}
 use Rattle.trace_layout.specs.Records.{Record, Laid, stepOk}
 use Rattle.trace.specs.value.Recorded.{stepsOf, recordedOf}
 use Rattle.trace_replay.specs.rerun.Rerun.{sameAnswers, rerunOf, agreesOf}
-use Rattle.trace_replay.specs.slices.Replay.{sameRecord}
+use Rattle.trace_replay.specs.call.Replay.{sameRecord}
 use Rattle.promises.specs.replay_kept.Replays.{GivesHeld}
 
 -- ---- the comparison

@@ -16,7 +16,7 @@ use Rattle.cone.specs.Points.{padded}
 use Rattle.trace.specs.value.Recorded.{valuesOf, coneOf, settingsOf, stepsOf, recordedOf}
 use Rattle.trace.proofs.value.Defaults.{defaults-right}
 use Rattle.trace_replay.specs.rerun.Rerun.{sameAnswers, blankPoint, rerunOf, agreesOf}
-use Rattle.trace_replay.specs.slices.Replay.{sameRecord, sameCount, differing, replayOf}
+use Rattle.trace_replay.specs.call.Replay.{sameRecord, sameCount, differing, replayOf}
 use Rattle.promises.specs.replay_kept.Outright.{toldSettings, sameTold, countBy, differingBy, replayBy, Outright}
 
 -- an edition whose default is a step that is told

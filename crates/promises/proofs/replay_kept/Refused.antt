@@ -22,7 +22,7 @@ use Rattle.cone.specs.Points.{padded}
 use Rattle.cone.proofs.Points.{padded-front}
 use Rattle.trace.specs.value.Recorded.{valuesOf, coneOf, settingsOf, stepsOf, recordedOf}
 use Rattle.trace_replay.specs.rerun.Rerun.{blankPoint, rerunOf, agreesOf}
-use Rattle.trace_replay.specs.slices.Replay.{sameRecord}
+use Rattle.trace_replay.specs.call.Replay.{sameRecord}
 use Rattle.promises.specs.replay_kept.Refused.{RefusedDiffers}
 use Rattle.promises.proofs.replay_kept.Exactly.{compared}
 

@@ -26,7 +26,7 @@ use Rattle.trace.proofs.kept.Kept.{values-kept}
 use Rattle.promises.specs.rules.Entries.{stepLength, call, codeOf}
 use Rattle.promises.proofs.rules.Answers.{answers}
 use Rattle.trace_replay.specs.rerun.Rerun.{sameAnswers, blankPoint, rerunOf, agreesOf}
-use Rattle.trace_replay.specs.slices.Replay.{sameRecord, noted, differing}
+use Rattle.trace_replay.specs.call.Replay.{sameRecord, noted, differing}
 use Rattle.promises.specs.replay_kept.Replays.{Searched, ReplaysSame, NoRuleDiffers}
 use Rattle.promises.proofs.replay_kept.Cones.{keptCone, Alike, kept-alike}
 use Rattle.promises.proofs.replay_kept.Exactly.{same-gives, gives-same}

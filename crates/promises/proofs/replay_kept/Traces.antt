@@ -20,7 +20,7 @@ use Rattle.trace.specs.entries.Writing.{createOf}
 use Rattle.trace.specs.kept.Made.{Call, handed, called, AllPassed, Held, begun, appendOne, appendAll}
 use Rattle.trace.proofs.kept.Appended.{append-done, bytes-after}
 use Rattle.trace.proofs.kept.Made.{create-done}
-use Rattle.trace_replay.specs.slices.Replay.{sameRecord, sameCount, noted, differing, replayOf}
+use Rattle.trace_replay.specs.call.Replay.{sameRecord, sameCount, noted, differing, replayOf}
 use Rattle.trace_replay.specs.text.Text.{replayText}
 use Rattle.trace_replay.specs.file.Printed.{traceText, printedOf}
 use Rattle.promises.specs.replay_kept.Replays.{Searched}

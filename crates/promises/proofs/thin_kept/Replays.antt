@@ -7,11 +7,11 @@ use lib.ListN.{length}
 use Rattle.cone.specs.table.Table.{settle}
 use Rattle.trace_layout.specs.Records.{Record}
 use Rattle.trace_layout.specs.Traces.{editionAt, recordsOf}
-use Rattle.trace_replay.specs.declared.slices.Replayed.{Replayed}
-use Rattle.trace_replay.specs.slices.Replay.{sameCount, differing, refuse, replayOf}
-use Rattle.trace_thin.specs.slices.Thin.{Left}
-use Rattle.trace_thin.specs.slices.Thins.{traceIn, Done}
-use Rattle.trace_thin.proofs.slices.Thins.{thins}
+use Rattle.trace_replay.specs.declared.call.Replayed.{Replayed}
+use Rattle.trace_replay.specs.call.Replay.{sameCount, differing, refuse, replayOf}
+use Rattle.trace_thin.specs.call.Thin.{Left}
+use Rattle.trace_thin.specs.call.Thins.{traceIn, Done}
+use Rattle.trace_thin.proofs.call.Thins.{thins}
 use Rattle.promises.specs.thin_kept.Replays.{Counted, ThinReplays}
 
 abbrev countsOf : ℕ → List Record → Replayed

@@ -9,8 +9,8 @@ use lib.ListN.{length, take}
 use Rattle.octets.specs.words.Words.{AllBelow}
 use Rattle.trace_layout.specs.Records.{Record, sizeIn}
 use Rattle.trace_layout.specs.Traces.{traceOf, editionAt, goodTrace, recordsOf}
-use Rattle.trace_rescue.specs.slices.Rescue.{Saved, editionFor, rescueOf}
-use Rattle.trace_rescue.specs.slices.Rescues.{traceIn}
+use Rattle.trace_rescue.specs.call.Rescue.{Saved, editionFor, rescueOf}
+use Rattle.trace_rescue.specs.call.Rescues.{traceIn}
 
 -- the records that end at or before the byte k; the first of them begins at the offset `at`, and each where the one before it ends
 unfoldable pub endingBy : ℕ → ℕ → ℕ → List Record → List Record

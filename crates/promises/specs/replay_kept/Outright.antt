@@ -19,7 +19,7 @@ use Rattle.trace.specs.value.Defaults.{toldStep}
 use Rattle.cone.specs.Points.{padded}
 use Rattle.trace.specs.value.Recorded.{valuesOf, coneOf, stepsOf}
 use Rattle.trace_replay.specs.rerun.Rerun.{sameAnswers, blankPoint}
-use Rattle.trace_replay.specs.slices.Replay.{noted, Noted, refuse, replayOf}
+use Rattle.trace_replay.specs.call.Replay.{noted, Noted, refuse, replayOf}
 
 -- the settings of a record: those that follow a flag of 0, and else the step that is told
 unfoldable pub toldSettings : Float → Record → Settings

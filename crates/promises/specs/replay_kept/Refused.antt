@@ -6,7 +6,7 @@ use mathlib.Core.Bool.{false, _&&_}
 use Rattle.judges.specs.Judges.{coneOk, sidesFinite, settingsFinite, settingsOk}
 use Rattle.trace_layout.specs.Records.{Record, Laid}
 use Rattle.trace.specs.value.Recorded.{valuesOf, coneOf, settingsOf}
-use Rattle.trace_replay.specs.slices.Replay.{sameRecord}
+use Rattle.trace_replay.specs.call.Replay.{sameRecord}
 
 -- of a record that can be laid out, as each one of a good trace is, in a trace of the edition e
 pub record Differs (e : ℕ) (r : Record) : Type 0 where

@@ -22,7 +22,7 @@ use Rattle.trace.specs.value.Defaults.{defaultOf}
 use Rattle.trace.specs.value.Recorded.{recordedOf}
 use Rattle.trace.specs.kept.Appended.{traceIn}
 use Rattle.trace_replay.specs.rerun.Rerun.{rerunOf}
-use Rattle.trace_replay.specs.slices.Replay.{sameRecord, differing}
+use Rattle.trace_replay.specs.call.Replay.{sameRecord, differing}
 
 -- what a record holds comes of a search that was made: `step_length` was called with these arguments, with the edition's default settings
 -- at flag 1, and answered these steps

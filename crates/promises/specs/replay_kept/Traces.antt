@@ -7,7 +7,7 @@ use lib.ListN.{length, take}
 use Rattle.octets.specs.words.Words.{AllBelow}
 use Rattle.trace_layout.specs.Traces.{mostBytes, trailerSize, newestEdition}
 use Rattle.trace.specs.kept.Made.{Call, AllPassed, Held, begun, appendAll}
-use Rattle.trace_replay.specs.slices.Replay.{replayOf}
+use Rattle.trace_replay.specs.call.Replay.{replayOf}
 use Rattle.trace_replay.specs.text.Text.{replayText}
 use Rattle.trace_replay.specs.file.Printed.{printedOf}
 use Rattle.promises.specs.replay_kept.Replays.{Searched}

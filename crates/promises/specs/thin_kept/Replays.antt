@@ -6,10 +6,10 @@ use Prim.Native.Nat.{ℕ}
 use lib.ListN.{length}
 use Rattle.octets.specs.words.Words.{AllBelow}
 use Rattle.trace_layout.specs.Traces.{editionAt}
-use Rattle.trace_replay.specs.declared.slices.Replayed.{Replayed}
-use Rattle.trace_replay.specs.slices.Replay.{sameCount, differing, replayOf}
-use Rattle.trace_thin.specs.slices.Thin.{Left, thinOf, thinInPlaceOf}
-use Rattle.trace_thin.specs.slices.Thins.{traceIn, firstOfKind}
+use Rattle.trace_replay.specs.declared.call.Replayed.{Replayed}
+use Rattle.trace_replay.specs.call.Replay.{sameCount, differing, replayOf}
+use Rattle.trace_thin.specs.call.Thin.{Left, thinOf, thinInPlaceOf}
+use Rattle.trace_thin.specs.call.Thins.{traceIn, firstOfKind}
 
 -- what a replay that has room tells of the trace that a thinning of bs left
 pub record Counted (bs : List ℕ) (left : Left) (told : Replayed) : Type 0 where

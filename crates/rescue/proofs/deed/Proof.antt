@@ -7,8 +7,8 @@ use lib.ListN.{length}
 use borrow.Author.Needs.{needs}
 use Rattle.trace_layout.specs.Traces.{mostBytes}
 use Rattle.trace_layout.proofs.Limits.{is-large, is-small}
-use Rattle.trace_rescue.specs.declared.slices.Rescued.{Rescued}
-use Rattle.trace_rescue.specs.slices.Rescue.{Saved, rescueOf}
+use Rattle.trace_rescue.specs.declared.call.Rescued.{Rescued}
+use Rattle.trace_rescue.specs.call.Rescue.{Saved, rescueOf}
 use Rattle.rescue.specs.Deeds.{write, deedBy, deedOf}
 use Rattle.rescue.proofs.deed.Statement.{statement}
 use Rattle.rescue.proofs.deed.Tie as tie

@@ -3,7 +3,7 @@ use mathlib.Core.Path.{_≡_}
 use mathlib.Core.Bool.{Bool, true, false}
 use Prim.Native.Nat.{_≤_, _<_}
 use borrow.Author.Tests.{eq-eqb, ne-eqb, lt-ltb, le-ltb}
-use Rattle.trace_rescue.specs.declared.slices.Rescued.{Rescued}
+use Rattle.trace_rescue.specs.declared.call.Rescued.{Rescued}
 use Rattle.rescue.specs.Deeds.{write, ask, leave, deedBy}
 use Rattle.rescue.proofs.deed_by.Statement.{statement}
 use Rattle.rescue.proofs.deed_by.Tie as tie

@@ -6,7 +6,7 @@ use lib.ListN.{length}
 use borrow.Author.Needs.{needs}
 use Rattle.trace.specs.declared.whole.Walked.{Walked}
 use Rattle.trace.specs.whole.Whole.{walkedOf}
-use Rattle.trace_rescue.specs.slices.Rescue.{keptOf}
+use Rattle.trace_rescue.specs.call.Rescue.{keptOf}
 use Rattle.rescue.proofs.kept_by.Statement.{statement}
 use Rattle.rescue.proofs.kept_by.Tie as tie
 

@@ -12,9 +12,9 @@ use Rattle.trace_layout.specs.Traces.{mostBytes, mostRecords, editionAt, goodTr
 use Rattle.trace_layout.proofs.Limits.{is-large, is-small}
 use Rattle.octets.specs.lines.Lines.{refusedText}
 use Rattle.trace_replay.specs.text.Text.{replayText}
-use Rattle.trace_replay.specs.declared.slices.Replayed.{Replayed}
-use Rattle.trace_replay.specs.slices.Replay.{sameCount, differing, Noted, replayOf}
-use Rattle.trace_replay.proofs.slices.Counting.{few-differ}
+use Rattle.trace_replay.specs.declared.call.Replayed.{Replayed}
+use Rattle.trace_replay.specs.call.Replay.{sameCount, differing, Noted, replayOf}
+use Rattle.trace_replay.proofs.call.Counting.{few-differ}
 use Rattle.trace_replay.specs.file.Printed.{traceText, printedOf}
 
 -- a file above the limit

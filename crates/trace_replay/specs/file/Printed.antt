@@ -6,7 +6,7 @@ use lib.ListN.{length}
 use Rattle.trace_layout.specs.Traces.{tooLarge, editionAt, goodTrace, recordsOf}
 use Rattle.octets.specs.lines.Lines.{refusedText}
 use Rattle.trace_replay.specs.text.Text.{replayText}
-use Rattle.trace_replay.specs.slices.Replay.{sameCount, differing}
+use Rattle.trace_replay.specs.call.Replay.{sameCount, differing}
 
 -- "print three lines: `records N`, `same N`, `differ N`, followed by one line `at OFFSET` per differing record in file order". Of a good
 -- trace

@@ -13,10 +13,10 @@ use Rattle.trace_layout.specs.declared.rooms.Lengths.{Lengths}
 use Rattle.trace_layout.proofs.Limits.{is-large, is-small}
 use Rattle.trace_layout.proofs.Traces.{records-least}
 use Rattle.octets.specs.lines.Lines.{refusedText}
-use Rattle.trace_rescue.specs.declared.slices.Rescued.{Rescued}
-use Rattle.trace_rescue.specs.slices.Rescue.{editionFor, keptOf, savedOf, Saved, refuse, leave, rescueOf}
-use Rattle.trace_rescue.proofs.slices.Saving.{makes, end-inside, saved-length}
-use Rattle.trace_rescue.proofs.slices.Rescues.{room-rescued, other-rescued}
+use Rattle.trace_rescue.specs.declared.call.Rescued.{Rescued}
+use Rattle.trace_rescue.specs.call.Rescue.{editionFor, keptOf, savedOf, Saved, refuse, leave, rescueOf}
+use Rattle.trace_rescue.proofs.call.Saving.{makes, end-inside, saved-length}
+use Rattle.trace_rescue.proofs.call.Rescues.{room-rescued, other-rescued}
 use Rattle.trace_rescue.specs.file.Text.{rescueText}
 use Rattle.trace_rescue.specs.file.Printed.{printedOf, writtenOf, lengthsOf}
 

@@ -7,7 +7,7 @@ use lib.ListN.{length, getD}
 use Rattle.trace_layout.specs.Traces.{tooLarge, known, goodTrace}
 use Rattle.trace_layout.specs.declared.rooms.Lengths.{Lengths}
 use Rattle.octets.specs.lines.Lines.{refusedText}
-use Rattle.trace_rescue.specs.slices.Rescue.{editionFor, keptOf, savedOf, droppedOf}
+use Rattle.trace_rescue.specs.call.Rescue.{editionFor, keptOf, savedOf, droppedOf}
 use Rattle.trace_rescue.specs.file.Text.{rescueText}
 
 -- the three lines, or only `refused 8`, or only `refused 9`

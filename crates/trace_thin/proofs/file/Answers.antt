@@ -12,10 +12,10 @@ use Rattle.trace_layout.specs.Traces.{mostBytes, goodTrace}
 use Rattle.trace_layout.specs.declared.rooms.Lengths.{Lengths}
 use Rattle.trace_layout.proofs.Limits.{is-large, is-small}
 use Rattle.octets.specs.lines.Lines.{refusedText}
-use Rattle.trace_thin.specs.declared.slices.Thinned.{Thinned}
-use Rattle.trace_thin.specs.slices.Thin.{thinTrace, Left, refuse, apart, thinOf}
-use Rattle.trace_thin.proofs.slices.Keeping.{has-room}
-use Rattle.trace_thin.proofs.slices.Thins.{room-thinned, broken-thinned}
+use Rattle.trace_thin.specs.declared.call.Thinned.{Thinned}
+use Rattle.trace_thin.specs.call.Thin.{thinTrace, Left, refuse, apart, thinOf}
+use Rattle.trace_thin.proofs.call.Keeping.{has-room}
+use Rattle.trace_thin.proofs.call.Thins.{room-thinned, broken-thinned}
 use Rattle.trace_thin.specs.file.Text.{thinText}
 use Rattle.trace_thin.specs.file.Printed.{printedOf, writtenOf, lengthsOf}
 

@@ -6,7 +6,7 @@ use lib.ListN.{length}
 use Rattle.trace_layout.specs.Traces.{tooLarge, goodTrace, recordsOf}
 use Rattle.trace_layout.specs.declared.rooms.Lengths.{Lengths}
 use Rattle.octets.specs.lines.Lines.{refusedText}
-use Rattle.trace_thin.specs.slices.Thin.{keptOf, thinTrace}
+use Rattle.trace_thin.specs.call.Thin.{keptOf, thinTrace}
 use Rattle.trace_thin.specs.file.Text.{thinText}
 
 -- the three lines, or only `refused 8`, or only `refused 9`

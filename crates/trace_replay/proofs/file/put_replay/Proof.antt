@@ -7,7 +7,7 @@ use lib.ListN.{length, take}
 use lib.Seq.{sets, length-take-le}
 use borrow.Author.Needs.{needs}
 use Rattle.trace_layout.specs.Traces.{mostBytes, mostRecords}
-use Rattle.trace_replay.specs.declared.slices.Replayed.{Replayed}
+use Rattle.trace_replay.specs.declared.call.Replayed.{Replayed}
 use Rattle.trace_replay.proofs.file.Answers.{too-large, refused-text, differ-few, done-text}
 use Rattle.trace_replay.proofs.file.put_replay.Statement.{statement}
 use Rattle.trace_replay.proofs.file.put_replay.Tie as tie

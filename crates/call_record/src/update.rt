@@ -33,6 +33,7 @@ fn update_rows(scaling: Scaling, s: &[f64], z: &[f64], mu: f64, strategy: u32) -
 pub fn update_scaling(scaling: Scaling, s: &[f64], z: &[f64], mu: f64, strategy: u32) -> Updated
     ensures { λ r. ⌜ r ≡ updateScalingOf scaling (now (s .entry)) (now (z .entry)) mu strategy ⌝ }
 {
+    let serial = scaling.serial;
     let first = update_rows(scaling, s, z, mu, strategy);
     if first != 0 {
         return Updated {
@@ -49,7 +50,7 @@ pub fn update_scaling(scaling: Scaling, s: &[f64], z: &[f64], mu: f64, strategy:
         };
     }
     let mut new = attempt.scaling;
-    new.serial = scaling.serial + 1;
+    new.serial = serial + 1;
     Updated {
         code: 0,
         scaling: new,

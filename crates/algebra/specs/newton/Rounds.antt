@@ -28,8 +28,9 @@ module _ (f0 f1 : Float → Float) where
   unfoldable pub rounds : ℕ → ℕ → Float → Solved
   rounds zero n x = record { x = x; rounds = n }
   rounds (suc left) n x =
+      let next = x ⊕ dxOf x in
       let stopped : Solved = record { x = x; rounds = n + 1 } in
-      let more = rounds left (n + 1) (x ⊕ dxOf x) in
+      let more = rounds left (n + 1) next in
       cond (stopsAt x) stopped more
 
   -- 01: "Newton: at most 100 rounds; a round that meets a stop condition leaves x as it stood"

@@ -25,23 +25,22 @@ returns-2 c =
     refused _ _ _ _ (c .before .last-rows .ensures ∙ ap lastRows (made .new-record .ensures)) (c .if2 .taken)
     ∙ done _ _ _ _ (past .before .update-rows .ensures) (past .if1 .left)
 
--- the rows after the formulas let the call through
-abbrev passed : tie.After-struct-known → tie.Else2
-passed c = c .before .before
-
 add-new : tie.Need-add-new
 add-new c =
-    let past = passed c .before .before .before in
-    omega (arith, not-last _ _ _ _ _ (sym (past .before .update-rows .ensures) ∙ past .if1 .left))
+    let passed = c .before in
+    let past = passed .before .before .before in
+    let start = past .before .before .before .before in
+    omega (arith, start .good, not-last _ _ _ _ _ (sym (past .before .update-rows .ensures) ∙ past .if1 .left))
 
 returns-3 : tie.Need-returns-3
 unfolding updateScalingOf
 returns-3 c =
-    let judged = passed c .before in
+    let passed = c .before in
+    let judged = passed .before in
     let made = judged .before in
     let past = made .before in
     ap (completed _) (made .new-record .ensures)
-    ∙ done _ _ _ _ (judged .last-rows .ensures ∙ ap lastRows (made .new-record .ensures)) (passed c .if2 .left)
+    ∙ done _ _ _ _ (judged .last-rows .ensures ∙ ap lastRows (made .new-record .ensures)) (passed .if2 .left)
     ∙ done _ _ _ _ (past .before .update-rows .ensures) (past .if1 .left)
 
 pub update-scaling-spec : {M : Type 1} → statement M

@@ -1,5 +1,6 @@
 pub mod Trials
 pub mod Search
+pub mod TwoTests
 pub mod FirstPassing
 pub mod Costed
 pub mod LargestPassing

@@ -39,7 +39,7 @@ abbrev pub NotAbove : Float → Float → Type 0
 NotAbove α β = (α ≡ β) ⊎ T (α ≺ β)
 
 -- A step of both that is not zero is above neither; and where the two are one number, it is that number. It need not be the smaller of
--- them: search/proofs/trials/TwoTests.
+-- them: search/specs/trials/TwoTests.
 pub record Beside (both dual primal : Float) : Type 0 where
   pub above-neither : (both ≡ #0 → ⊥) → NotAbove both dual × NotAbove both primal
   pub same-if-equal : dual ≡ primal → both ≡ dual

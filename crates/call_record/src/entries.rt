@@ -7,7 +7,7 @@ ghost use Rattle.call_record.specs.entries.Entries.{higherCorrectionOf, 
 use cone::Number;
 use cone::Rounds;
 use cone::Scaling;
-use cone::is_wide;
+use judges::is_wide;
 
 // ---- the primal side
 

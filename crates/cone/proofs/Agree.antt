@@ -1,7 +1,6 @@
 -- 01: "For each, show that any two outcomes allowed by it agree". Every contract here is one equation. Assumes nothing.
 use mathlib.Core.Path.{_∙_, sym}
 use Rattle.arith.specs.Outcomes.{OneAnswer}
-use Rattle.cone.proofs.is_wide.Reads as is-wide
 use Rattle.cone.proofs.empty_cone.Reads as empty-cone
 use Rattle.cone.proofs.no_three.Reads as no-three
 use Rattle.cone.proofs.no_wide.Reads as no-wide
@@ -11,9 +10,6 @@ use Rattle.cone.proofs.house_settings.Reads as house-settings
 use Rattle.cone.proofs.house_strategy.Reads as house-strategy
 use Rattle.cone.proofs.three_of.Reads as three-of
 use Rattle.cone.proofs.wide_of.Reads as wide-of
-
-pub is-wide-agrees : OneAnswer is-wide.Post
-is-wide-agrees κs a x y s t p q = p ∙ sym q
 
 pub empty-cone-agrees : OneAnswer empty-cone.Post
 empty-cone-agrees κs a x y s t p q = p ∙ sym q

@@ -3,7 +3,6 @@
 ghost use mathlib.Core.Path.{_≡_};
 ghost use Prim.Native.Nat.{_≤_};
 ghost use lib.ListN.{length};
-ghost use Rattle.cone.specs.Codes.{isWide};
 ghost use Rattle.cone.specs.Fresh.{freshOf, emptyCone, noThree, noWide, attemptOf, houseSettings, houseStrategy};
 ghost use Rattle.cone.specs.Points.{threeOf, padded};
 ghost use Rattle.double.specs.Operators.{at};
@@ -127,13 +126,6 @@ pub const PRIMAL_DUAL: u32 = 2;
 
 // The last serial: a record that has it is updated no more.
 pub const LAST_SERIAL: u32 = 4294967295;
-
-// Whether a kind is the generalized one, whose points and records are of the cone's dims; those of the others are of three numbers.
-pub fn is_wide(kind: u32) -> bool
-    ensures { λ r. ⌜ r ≡ isWide kind ⌝ }
-{
-    kind == 3
-}
 
 // The cone of a refused `fresh`.
 pub fn empty_cone() -> Cone

@@ -2,10 +2,8 @@
 // loops over it are proved like any others.
 ghost use mathlib.Core.Path.{_≡_};
 ghost use Prim.Native.Nat.{_≤_};
-ghost use Rattle.cone.specs.Codes.{numelOf};
 ghost use Rattle.cone.specs.words.Words.{lowHalf, highHalf, placesOf, coneOfWords};
 use crate::Cone;
-use crate::is_wide;
 use double::of_bits;
 
 // Two numbers of 32 bits share a word, the first in its lower half.
@@ -49,15 +47,4 @@ pub fn cone_of(w: [u64; 34]) -> Cone
         rule,
         exps,
     }
-}
-
-// How many numbers a point of that cone has.
-pub fn numel_of(w: [u64; 34]) -> usize
-    ensures { λ r. ⌜ r ≡ numelOf (coneOfWords w) ⌝ }
-{
-    let kind = low_half(w[0]);
-    if is_wide(kind) {
-        return (high_half(w[0]) as usize) + (low_half(w[1]) as usize);
-    }
-    3
 }

@@ -8,7 +8,9 @@ use Rattle.arith.specs.Outcomes.{OneAnswer, OneOutcome}
 use Rattle.judges.proofs.Outcomes.{one, two}
 use Rattle.judges.proofs.all_finite.Reads as all-finite
 use Rattle.judges.proofs.sides_finite.Reads as sides-finite
+use Rattle.judges.proofs.is_wide.Reads as is-wide
 use Rattle.judges.proofs.numel.Reads as numel
+use Rattle.judges.proofs.numel_of.Reads as numel-of
 use Rattle.judges.proofs.settings_finite.Reads as settings-finite
 use Rattle.judges.proofs.settings_ok.Reads as settings-ok
 use Rattle.judges.proofs.strategy_ok.Reads as strategy-ok
@@ -28,8 +30,14 @@ all-finite-agrees κs a x y s t p q = p ∙ sym q
 pub sides-finite-agrees : OneAnswer sides-finite.Post
 sides-finite-agrees κs a x y s t p q = p ∙ sym q
 
+pub is-wide-agrees : OneAnswer is-wide.Post
+is-wide-agrees κs a x y s t p q = p ∙ sym q
+
 pub numel-agrees : OneAnswer numel.Post
 numel-agrees κs a x y s t p q = p ∙ sym q
+
+pub numel-of-agrees : OneAnswer numel-of.Post
+numel-of-agrees κs a x y s t p q = p ∙ sym q
 
 pub settings-finite-agrees : OneAnswer settings-finite.Post
 settings-finite-agrees κs a x y s t p q = p ∙ sym q

@@ -2,6 +2,7 @@
 ghost use mathlib.Core.Path.{_≡_};
 ghost use Rattle.judges.specs.cone_judge.Cones.{allOf, powerOk, exponentOk, ruleOk, toleranceOf, sumOk, wideOk, threeOk};
 ghost use Rattle.judges.specs.cone_judge.Cones.{coneOkWithin, coneOk};
+use crate::is_wide;
 use algebra::vector::head;
 use algebra::vector::sum;
 use cone::Cone;
@@ -80,7 +81,7 @@ fn cone_ok_within(cone: Cone, tolerance: f64) -> bool
     ensures { λ r. ⌜ r ≡ coneOkWithin tolerance cone ⌝ }
 {
     let kind = cone.kind;
-    if kind == 3 {
+    if is_wide(kind) {
         return wide_ok(cone.dim1, cone.dim2, &cone.exps, tolerance);
     }
     three_ok(kind, cone.exps[0])

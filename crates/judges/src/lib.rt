@@ -3,7 +3,8 @@
 ghost use mathlib.Core.Path.{_≡_};
 ghost use lib.ListN.{take};
 ghost use lib.Ieee.Scale.{finite};
-ghost use Rattle.cone.specs.Codes.{numelOf};
+ghost use Rattle.cone.specs.Codes.{isWide, numelOf};
+ghost use Rattle.cone.specs.words.Words.{coneOfWords};
 ghost use Rattle.judges.specs.Judges.{allOf, settingsOk, settingsFinite, strategyOk};
 ghost use Rattle.judges.specs.Judges.{sidesFinite, threeFinite, wideFinite, recordFinite};
 pub use crate::cone_judge::cone_ok;
@@ -18,6 +19,8 @@ use cone::PRIMAL_DUAL;
 use cone::Scaling;
 use cone::Settings;
 use cone::Three;
+use cone::words::high_half;
+use cone::words::low_half;
 use double::is_finite;
 
 pub mod cone_judge;
@@ -48,15 +51,33 @@ fn head_finite(xs: &[f64], n: usize) -> bool
     all_finite(head(xs, n))
 }
 
-// ---- lengths
+// ---- the kind, and lengths by it
+
+// Whether a kind is the generalized one, whose points and records are of the cone's dims; those of the others are of three numbers.
+pub fn is_wide(kind: u32) -> bool
+    ensures { λ r. ⌜ r ≡ isWide kind ⌝ }
+{
+    kind == 3
+}
 
 // How many numbers a point of the cone has.
 pub fn numel(cone: Cone) -> usize
     ensures { λ r. ⌜ r ≡ numelOf cone ⌝ }
 {
     let kind = cone.kind;
-    if kind == 3 {
+    if is_wide(kind) {
         return (cone.dim1 as usize) + (cone.dim2 as usize);
+    }
+    3
+}
+
+// The same of the cone that lies in these words: of its exponents none is read.
+pub fn numel_of(w: [u64; 34]) -> usize
+    ensures { λ r. ⌜ r ≡ numelOf (coneOfWords w) ⌝ }
+{
+    let kind = low_half(w[0]);
+    if is_wide(kind) {
+        return (high_half(w[0]) as usize) + (low_half(w[1]) as usize);
     }
     3
 }
@@ -127,7 +148,7 @@ pub fn record_finite(scaling: Scaling) -> bool
     ensures { λ r. ⌜ r ≡ recordFinite scaling ⌝ }
 {
     let kind = scaling.cone.kind;
-    if kind == 3 {
+    if is_wide(kind) {
         return wide_finite(
             &scaling.wide.z,
             scaling.wide.mu,

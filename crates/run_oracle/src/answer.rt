@@ -102,7 +102,7 @@ fn same_wide(wide: Wide, dim1: usize, dim2: usize, n: usize, used: bool) -> bool
 // The numbers handed back in a record, or as gradient and block, for a cone.
 pub fn numbers_of(cone: Cone, three: Three, wide: Wide) -> bool {
     let used = word() != 0;
-    if used & (cone.kind == 3) {
+    if used & judges::is_wide(cone.kind) {
         let dim1 = places(cone.dim1);
         let dim2 = places(cone.dim2);
         let empty = same_three(three, false);

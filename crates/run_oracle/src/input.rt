@@ -146,7 +146,7 @@ pub fn record(cone: Cone) -> Scaling {
     let mut three = cone::no_three();
     let mut wide = cone::no_wide();
     if n != 0 {
-        if kind == 3 {
+        if judges::is_wide(kind) {
             wide = wide_of(
                 places(cone.dim1),
                 places(cone.dim2),

@@ -12,11 +12,11 @@ use cone::Cone;
 use cone::Three;
 use cone::Wide;
 use cone::attempted;
-use cone::is_wide;
 use cone::no_three;
 use cone::no_wide;
 use cone::three_of;
 use cone::wide_of;
+use judges::is_wide;
 use kinds::three::update_dual_grad_h;
 
 fn new_three(cone: Cone, s: [f64; 3], z: [f64; 3], mu: f64, strategy: u32) -> Attempt

@@ -3,28 +3,29 @@
 // records already"
 ghost use mathlib.Core.Path.{_≡_};
 ghost use mathlib.Core.Bool.{cond};
-ghost use Rattle.cone.specs.Codes.{isWide};
+ghost use Rattle.trace_layout.specs.Records.{ownDims};
 ghost use Rattle.trace.specs.places.Given.{entryOf};
 ghost use Rattle.trace.specs.places.Places.{openFront, entryOk, placeFor, hasRoom};
 use crate::judge::MOST_COUNT;
 use cone::Cone;
 use cone::Settings;
 use cone::Steps;
-use cone::is_wide;
 use cone::table::trace_row;
 use double::to_bits;
 use octets::words::front;
 use trace_layout::pieces::Entry;
 use trace_layout::pieces::Place;
+use trace_layout::pieces::layout::has_rule;
+use trace_layout::pieces::layout::own_dims;
 use trace_layout::pieces::layout::shape_ok;
 use trace_layout::pieces::layout::size_for;
 use trace_layout::pieces::layout::step_ok;
 
 // A dim that is written: the cone's own for kind 3.
 fn dim(kind: u32, own: u32, other: u32) -> u32
-    ensures { λ r. ⌜ r ≡ cond (isWide kind) own other ⌝ }
+    ensures { λ r. ⌜ r ≡ cond (ownDims kind) own other ⌝ }
 {
-    if is_wide(kind) { own } else { other }
+    if own_dims(kind) { own } else { other }
 }
 
 // The numbers of a record beside its vectors; of a double, its bits.
@@ -61,7 +62,7 @@ pub(crate) fn entry_ok(edition: u32, x: Entry, ndz: usize, nds: usize, nz: usize
 {
     let n = x.dim1 as usize + x.dim2 as usize;
     shape_ok(x.kind, x.dim1, x.dim2, x.flag)
-        & ((edition == 3) | (x.rule == 1))
+        & (has_rule(edition) | (x.rule == 1))
         & (ndz == n)
         & (nds == n)
         & (nz == n)

@@ -13,6 +13,7 @@ use octets::words::put_words;
 use trace_layout::pieces::Entry;
 use trace_layout::pieces::HEAD_SIZE;
 use trace_layout::pieces::STEP_MARK;
+use trace_layout::pieces::layout::has_rule;
 use trace_layout::pieces::layout::rules_in;
 use trace_layout::pieces::layout::settings_in;
 use trace_layout::pieces::layout::size_for;
@@ -45,7 +46,7 @@ fn put_rule(bytes: &mut [u8], place: usize, edition: u32, rule: u32)
     requires { ⌜ place + 4 * rulesIn edition ≤ length (now bytes) ⌝ }
     ensures { λ _. ⌜ now (bytes .exit) ≡ sets (now (bytes .entry)) place (rowBytes 4 (ruleRow edition rule)) ⌝ }
 {
-    if edition == 3 {
+    if has_rule(edition) {
         put(bytes, place, 4, rule as u64);
     }
 }

@@ -57,13 +57,21 @@ primalCountBack = 4
 abbrev pub fixedSize : ℕ
 fixedSize = 56
 
--- 02, Order 9: "New traces are edition 3, with the rule (u32) after dim2": how many rules a record of the edition has
+-- 02, Order 9: "New traces are edition 3, with the rule (u32) after dim2": whether a record of the edition has a rule
+abbrev pub hasRule : ℕ → Bool
+hasRule edition = eqb edition 3
+
+-- and how many
 unfoldable pub rulesIn : ℕ → ℕ
-rulesIn edition = cond (eqb edition 3) 1 0
+rulesIn edition = cond (hasRule edition) 1 0
+
+-- 02: "kind, dim1, dim2 (u32 each; 3 and 0 for kinds 1 and 2)": whether a record of the kind has its cone's own dims
+abbrev pub ownDims : ℕ → Bool
+ownDims kind = eqb kind 3
 
 -- 02: "exponents (none, one or dim1)"
 unfoldable pub exponents : ℕ → ℕ → ℕ
-exponents kind dim1 = cond (eqb kind 3) dim1 (cond (eqb kind 2) 1 0)
+exponents kind dim1 = cond (ownDims kind) dim1 (cond (eqb kind 2) 1 0)
 
 -- 02: "a u32 flag (1 means default settings; at 0 step and smallest step follow)"
 unfoldable pub settingsIn : ℕ → ℕ
@@ -108,7 +116,7 @@ bytesOf edition r = runsBytes (runsIn edition r) (rowsIn edition r)
 -- 02: "kind, dim1, dim2 (u32 each; 3 and 0 for kinds 1 and 2)"; 01: "dim1 or dim2 not 1..32"
 unfoldable pub dimsOk : ℕ → ℕ → ℕ → Bool
 dimsOk kind dim1 dim2 =
-    cond (eqb kind 3) (leb 1 dim1 && leb dim1 32 && leb 1 dim2 && leb dim2 32) (leb 1 kind && leb kind 2 && eqb dim1 3 && eqb dim2 0)
+    cond (ownDims kind) (leb 1 dim1 && leb dim1 32 && leb 1 dim2 && leb dim2 32) (leb 1 kind && leb kind 2 && eqb dim1 3 && eqb dim2 0)
 
 -- 02: "a step is +0 or positive and finite": below the bits of the infinity, which leaves out -0 and every NaN
 unfoldable pub stepOk : ℕ → Bool

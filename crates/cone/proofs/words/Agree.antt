@@ -5,7 +5,6 @@ use Rattle.cone.proofs.words.low_half.Reads as low-half
 use Rattle.cone.proofs.words.high_half.Reads as high-half
 use Rattle.cone.proofs.words.places.Reads as places
 use Rattle.cone.proofs.words.cone_of.Reads as cone-of
-use Rattle.cone.proofs.words.numel_of.Reads as numel-of
 
 pub low-half-agrees : OneAnswer low-half.Post
 low-half-agrees κs a x y s t p q = p ∙ sym q
@@ -18,6 +17,3 @@ places-agrees κs a x y s t p q = p ∙ sym q
 
 pub cone-of-agrees : OneAnswer cone-of.Post
 cone-of-agrees κs a x y s t p q = p ∙ sym q
-
-pub numel-of-agrees : OneAnswer numel-of.Post
-numel-of-agrees κs a x y s t p q = p ∙ sym q

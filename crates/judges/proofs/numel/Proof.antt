@@ -1,5 +1,5 @@
 -- `numel` branches as its definition does. Assumes nothing.
-use borrow.Author.Tests.{eq-eqb, ne-eqb}
+use mathlib.Core.Path.{_∙_, sym}
 use Rattle.cone.specs.Codes.{numelOf}
 use borrow.Author.Needs.{needs}
 use Rattle.judges.proofs.numel.Statement.{statement}
@@ -7,11 +7,15 @@ use Rattle.judges.proofs.numel.Tie as tie
 
 returns : tie.Need-returns
 unfolding numelOf
-returns c = simp (eq-eqb _ _ (c .before .before .if1 .taken))
+returns c =
+    let wide = c .before .before in
+    simp (sym (wide .before .is-wide .ensures) ∙ wide .if1 .taken)
 
 returns-2 : tie.Need-returns-2
 unfolding numelOf
-returns-2 c = simp (ne-eqb _ _ (c .if1 .left))
+returns-2 c = simp (sym (c .before .is-wide .ensures) ∙ c .if1 .left)
 
 pub numel-spec : {M : Type 1} → statement M
-numel-spec = tie.close (tie.spec (λ c. search needs) (λ c. search needs) (λ c. search needs) returns returns-2)
+numel-spec =
+    tie.close
+    (tie.spec (λ c κs. search needs) (λ c. search needs) (λ c. search needs) (λ c. search needs) returns returns-2)

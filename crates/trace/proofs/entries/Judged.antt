@@ -11,7 +11,7 @@ use native.Mathlib.Omega.{arith}
 use Rattle.arith.proofs.Branches.{and-left, and-right}
 use Rattle.octets.specs.words.Words.{AllBelow}
 use Rattle.octets.specs.words.Runs.{runsSize}
-use Rattle.trace_layout.specs.Records.{Record, bytesOf, sizeIn, runsFor, exponents, shapeOk, stepOk}
+use Rattle.trace_layout.specs.Records.{Record, bytesOf, sizeIn, runsFor, hasRule, exponents, shapeOk, stepOk}
 use Rattle.trace_layout.specs.Traces.{mostRecords, listAt, countAt, editionAt, goodTrace, recordsOf}
 use Rattle.trace.specs.judge.Opening.{openOf}
 use Rattle.trace_layout.proofs.Growing.{old-count, old-length, grown-length, grown-stored}
@@ -62,7 +62,7 @@ module _ (e : ℕ) (x : Entry) (exps dz ds z s : List Float) where
 
   pub record CanLay : Type 0 where
     pub shape : shapeOk (x .kind) (x .dim1) (x .dim2) (x .flag) ≡ true
-    pub ruled : (eqb e 3 || eqb (x .rule) 1) ≡ true
+    pub ruled : (hasRule e || eqb (x .rule) 1) ≡ true
     pub dz-length : length dz ≡ x .dim1 + x .dim2
     pub ds-length : length ds ≡ x .dim1 + x .dim2
     pub z-length : length z ≡ x .dim1 + x .dim2
@@ -75,7 +75,7 @@ module _ (e : ℕ) (x : Entry) (exps dz ds z s : List Float) where
   can-lay h =
       let n = x .dim1 + x .dim2 in
       let a = shapeOk (x .kind) (x .dim1) (x .dim2) (x .flag) in
-      let b = eqb e 3 || eqb (x .rule) 1 in
+      let b = hasRule e || eqb (x .rule) 1 in
       let c = eqb (length dz) n in
       let d = eqb (length ds) n in
       let f = eqb (length z) n in

@@ -12,7 +12,7 @@ use borrow.Author.Tests.{eqb-true}
 use Rattle.double.proofs.RoundTrips.{pattern-lt}
 use Rattle.octets.specs.words.Words.{AllBelow}
 use Rattle.octets.proofs.words.Words.{below-append, below-take, below-drop}
-use Rattle.trace_layout.specs.Records.{Record, Laid, Sized, exponents, settingsIn, rulesIn, shapeOk}
+use Rattle.trace_layout.specs.Records.{Record, Laid, Sized, exponents, settingsIn, hasRule, rulesIn, shapeOk}
 use Rattle.trace_layout.specs.Traces.{traceOf, listAt, countAt, editionAt, offsetAt, goodTrace, recordsOf}
 use Rattle.trace_layout.specs.Inverses.{Makes}
 use Rattle.trace_layout.proofs.Records.{bounds, exponents-most, settings-most}
@@ -34,7 +34,7 @@ use Rattle.trace.specs.kept.Appended.{traceIn, Appended}
 use Rattle.trace.proofs.entries.Judged.{can-lay, Free, free, inside, good-old, longer-length}
 use Rattle.trace.proofs.kept.Doubles.{doubles-take, bits-below}
 
-no-rule-but-one : (e rule : ℕ) (three : Bool) → eqb e 3 ≡ three → (three || eqb rule 1) ≡ true → rulesIn e ≡ 0 → rule ≡ 1
+no-rule-but-one : (e rule : ℕ) (ruled : Bool) → hasRule e ≡ ruled → (ruled || eqb rule 1) ≡ true → rulesIn e ≡ 0 → rule ≡ 1
 unfolding rulesIn
 no-rule-but-one e rule true h g none = absurd (omega (arith, simp h at none))
 no-rule-but-one e rule false h g none = eqb-true rule 1 g
@@ -70,7 +70,7 @@ module _ (c : Cone) (flag : ℕ) (settings : Settings) (dz ds z s : List Float) 
       let p = can-lay e x (usedExps c) dz ds z s h in
       record {
         shape = p .shape;
-        ruled = no-rule-but-one e (c .rule) (eqb e 3) refl (p .ruled);
+        ruled = no-rule-but-one e (c .rule) (hasRule e) refl (p .ruled);
         exps = length-bitsOf (usedExps c) ∙ exponent-places (p .shape);
         settings =
             length-take-le (settingsIn flag) (toBits binary64 (settings .step) ∷ toBits binary64 (settings .smallest) ∷ [])

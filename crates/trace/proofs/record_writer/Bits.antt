@@ -1,6 +1,7 @@
 -- The bits of a vector, by place. Assumes nothing.
 use mathlib.Core.Path.{_≡_, refl, ap}
 use Prim.Native.Nat.{ℕ, zero, suc, _+_, _*_, _<_}
+use mathlib.Core.Bool.{true, false}
 use mathlib.Core.List.{List, [], _∷_}
 use native.Mathlib.Omega.{arith}
 use lib.Ieee.{Float, binary64, toBits, nan}
@@ -8,7 +9,7 @@ use lib.ListN.{length, getD, length-append}
 use Rattle.octets.specs.words.Words.{rowBytes}
 use Rattle.octets.proofs.words.Words.{length-rowBytes}
 use borrow.Author.Tests.{eq-eqb, ne-eqb}
-use Rattle.trace_layout.specs.Records.{rulesIn, settingsIn}
+use Rattle.trace_layout.specs.Records.{hasRule, rulesIn, settingsIn}
 use Rattle.trace_layout.specs.pieces.Entries.{bitsOf}
 use Rattle.trace.specs.record_writer.Parts.{vectorBytes}
 
@@ -23,13 +24,13 @@ bits-at (x ∷ row) (suc i) h = bits-at row i (omega arith)
 
 -- ---- the rule of an edition
 
-pub one-rule : (e : ℕ) → e ≡ 3 → rulesIn e ≡ 1
+pub one-rule : (e : ℕ) → hasRule e ≡ true → rulesIn e ≡ 1
 unfolding rulesIn
-one-rule e h = rw (eq-eqb e 3 h)
+one-rule e h = rw h
 
-pub no-rule : (e : ℕ) → (e ≡ 3 → ⊥) → rulesIn e ≡ 0
+pub no-rule : (e : ℕ) → hasRule e ≡ false → rulesIn e ≡ 0
 unfolding rulesIn
-no-rule e h = rw (ne-eqb e 3 h)
+no-rule e h = rw h
 
 -- ---- the settings behind a flag
 

@@ -5,20 +5,19 @@ use mathlib.Core.List.{List}
 use lib.Dec.{eqb}
 use lib.Ieee.{Float, binary64, toBits}
 use lib.ListN.{length, take}
-use Rattle.cone.specs.Codes.{isWide}
 use Rattle.cone.specs.declared.Cone.{Cone}
 use Rattle.cone.specs.declared.Settings.{Settings}
 use Rattle.cone.specs.declared.Steps.{Steps}
-use Rattle.trace_layout.specs.Records.{Record, exponents, shapeOk, stepOk}
+use Rattle.trace_layout.specs.Records.{Record, hasRule, ownDims, exponents, shapeOk, stepOk}
 use Rattle.trace_layout.specs.declared.pieces.Entry.{Entry}
 use Rattle.trace_layout.specs.pieces.Entries.{recordOf}
 
 -- 02: "kind, dim1, dim2 (u32 each; 3 and 0 for kinds 1 and 2)", whatever the cone holds there
 abbrev pub dim1Of : Cone → ℕ
-dim1Of c = cond (isWide (c .kind)) (c .dim1) 3
+dim1Of c = cond (ownDims (c .kind)) (c .dim1) 3
 
 abbrev pub dim2Of : Cone → ℕ
-dim2Of c = cond (isWide (c .kind)) (c .dim2) 0
+dim2Of c = cond (ownDims (c .kind)) (c .dim2) 0
 
 -- The numbers beside the vectors
 unfoldable pub entryOf : Cone → ℕ → Settings → Steps → Entry
@@ -48,7 +47,7 @@ givenOf c flag settings dz ds z s steps = recordOf (entryOf c flag settings step
 unfoldable pub canLay : ℕ → Record → Bool
 canLay e r =
     let n = r .dim1 + r .dim2 in
-    shapeOk (r .kind) (r .dim1) (r .dim2) (r .flag) && (eqb e 3 || eqb (r .rule) 1) && eqb (length (r .dz)) n && eqb (length (r .ds)) n
+    shapeOk (r .kind) (r .dim1) (r .dim2) (r .flag) && (hasRule e || eqb (r .rule) 1) && eqb (length (r .dz)) n && eqb (length (r .ds)) n
     && eqb (length (r .z)) n && eqb (length (r .s)) n
     && stepOk (r .dualstep)
     && stepOk (r .primalstep)

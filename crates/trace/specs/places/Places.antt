@@ -7,7 +7,7 @@ use lib.ListN.{length, take}
 use Rattle.cone.specs.table.Table.{traceRow}
 use Rattle.octets.specs.words.Runs.{runsSize}
 use Rattle.trace.specs.declared.judge.Judged.{Judged}
-use Rattle.trace_layout.specs.Records.{shapeOk, stepOk, runsFor}
+use Rattle.trace_layout.specs.Records.{hasRule, shapeOk, stepOk, runsFor}
 use Rattle.trace_layout.specs.Traces.{mostRecords}
 use Rattle.trace.specs.judge.Opening.{openOf}
 use Rattle.trace_layout.specs.declared.pieces.Entry.{Entry}
@@ -20,7 +20,7 @@ openFront bs used = cond (leb used (length bs)) (openOf (take used bs)) (record 
 unfoldable pub entryOk : ℕ → Entry → ℕ → ℕ → ℕ → ℕ → Bool
 entryOk e x ndz nds nz ns =
     let n = x .dim1 + x .dim2 in
-    shapeOk (x .kind) (x .dim1) (x .dim2) (x .flag) && (eqb e 3 || eqb (x .rule) 1) && eqb ndz n && eqb nds n && eqb nz n && eqb ns n
+    shapeOk (x .kind) (x .dim1) (x .dim2) (x .flag) && (hasRule e || eqb (x .rule) 1) && eqb ndz n && eqb nds n && eqb nz n && eqb ns n
     && stepOk (x .dualstep)
     && stepOk (x .primalstep)
 

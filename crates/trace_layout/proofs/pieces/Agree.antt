@@ -1,7 +1,9 @@
 -- 01: "For each, show that any two outcomes allowed by it agree". Assumes nothing.
 use mathlib.Core.Path.{sym, _∙_}
 use Rattle.arith.specs.Outcomes.{OneAnswer}
+use Rattle.trace_layout.proofs.pieces.layout.has_rule.Reads as has-rule
 use Rattle.trace_layout.proofs.pieces.layout.rules_in.Reads as rules-in
+use Rattle.trace_layout.proofs.pieces.layout.own_dims.Reads as own-dims
 use Rattle.trace_layout.proofs.pieces.layout.exponents.Reads as exponents
 use Rattle.trace_layout.proofs.pieces.layout.settings_in.Reads as settings-in
 use Rattle.trace_layout.proofs.pieces.layout.flag_place.Reads as flag-place
@@ -10,8 +12,14 @@ use Rattle.trace_layout.proofs.pieces.layout.shape_ok.Reads as shape-ok
 use Rattle.trace_layout.proofs.pieces.layout.step_ok.Reads as step-ok
 use Rattle.trace_layout.proofs.pieces.layout.found_at.Reads as found-at
 
+pub has-rule-agrees : OneAnswer has-rule.Post
+has-rule-agrees κs a x y s t p q = p ∙ sym q
+
 pub rules-in-agrees : OneAnswer rules-in.Post
 rules-in-agrees κs a x y s t p q = p ∙ sym q
+
+pub own-dims-agrees : OneAnswer own-dims.Post
+own-dims-agrees κs a x y s t p q = p ∙ sym q
 
 pub exponents-agrees : OneAnswer exponents.Post
 exponents-agrees κs a x y s t p q = p ∙ sym q

@@ -1,7 +1,8 @@
 // A record at the front of a slice of bytes. Its parts depend on the edition and on four of its numbers, its shape.
 ghost use mathlib.Core.Path.{_≡_};
 ghost use Rattle.octets.specs.words.Runs.{runsSize};
-ghost use Rattle.trace_layout.specs.Records.{rulesIn, exponents, settingsIn, runsFor, flagPlace, dimsOk, stepOk, shapeOk};
+ghost use Rattle.trace_layout.specs.Records.{hasRule, rulesIn, ownDims, exponents, settingsIn, runsFor, flagPlace, dimsOk};
+ghost use Rattle.trace_layout.specs.Records.{stepOk, shapeOk};
 ghost use Rattle.trace_layout.specs.pieces.Shapes.{shapeAt, laidWith, foundAt};
 use super::DUAL_STEP_BACK;
 use super::FIXED_SIZE;
@@ -19,16 +20,30 @@ const INFINITY_BITS: u64 = 0x7ff0_0000_0000_0000;
 // Start has 8 bytes.
 const HEAD_AND_START: usize = HEAD_SIZE + 8;
 
+// Whether the records of the edition have a rule.
+pub fn has_rule(edition: u32) -> bool
+    ensures { λ r. ⌜ r ≡ hasRule edition ⌝ }
+{
+    edition == 3
+}
+
 pub fn rules_in(edition: u32) -> usize
     ensures { λ r. ⌜ r ≡ rulesIn edition ⌝ }
 {
-    if edition == 3 { 1 } else { 0 }
+    if has_rule(edition) { 1 } else { 0 }
+}
+
+// Whether a record of the kind has its cone's own dims: the generalized kind alone.
+pub fn own_dims(kind: u32) -> bool
+    ensures { λ r. ⌜ r ≡ ownDims kind ⌝ }
+{
+    kind == 3
 }
 
 pub fn exponents(kind: u32, dim1: u32) -> usize
     ensures { λ r. ⌜ r ≡ exponents kind dim1 ⌝ }
 {
-    if kind == 3 {
+    if own_dims(kind) {
         return dim1 as usize;
     }
     if kind == 2 { 1 } else { 0 }
@@ -61,7 +76,7 @@ pub fn size_for(edition: u32, kind: u32, dim1: u32, dim2: u32, flag: u32) -> usi
 fn dims_ok(kind: u32, dim1: u32, dim2: u32) -> bool
     ensures { λ r. ⌜ r ≡ dimsOk kind dim1 dim2 ⌝ }
 {
-    if kind == 3 {
+    if own_dims(kind) {
         (1 <= dim1) & (dim1 <= 32) & (1 <= dim2) & (dim2 <= 32)
     } else {
         (1 <= kind) & (kind <= 2) & (dim1 == 3) & (dim2 == 0)

@@ -3,10 +3,10 @@ use mathlib.Core.Path.{_≡_, refl, sym, _∙_, ap}
 use Prim.Native.Nat.{ℕ, _+_}
 use borrow.Author.Needs.{needs}
 use Rattle.arith.proofs.Branches.{taken, left}
 use Rattle.cone.specs.Codes.{isWide, numelOf}
 use Rattle.cone.specs.words.Words.{coneOfWords}
-use Rattle.cone.proofs.words.numel_of.Statement.{statement}
-use Rattle.cone.proofs.words.numel_of.Tie as tie
+use Rattle.judges.proofs.numel_of.Statement.{statement}
+use Rattle.judges.proofs.numel_of.Tie as tie
 
 sums : {a b x y : ℕ} → a ≡ x → b ≡ y → a + b ≡ x + y
 sums p q = cc

@@ -1,1 +1,1 @@
-// Laws only: a thinned trace replayed. The theorems stand in specs/thin_kept/Replays.
+// Laws only: what a thinning leaves, of the calls themselves, and a thinned trace replayed. The statements stand in specs/thin_kept.

@@ -450,7 +450,8 @@ pub extern "C" fn spindle_replay(trace: &[u8], at: &mut [u64]) -> Replayed
 
 #[no_mangle]
 pub extern "C" fn spindle_rescue(input: &[u8], output: &mut [u8], edition: u32) -> Rescued
-    ensures { λ r. ⌜ record { answer = r; output = now (output .exit) } ≡ rescueOf (now (input .entry)) (now (output .entry)) edition ⌝ }
+    ensures { λ r. ⌜ (record { answer = r; output = now (output .exit) } ≡ rescueOf (now (input .entry)) (now (output .entry)) edition)
+        × AllBelow 256 (now (input .entry)) ⌝ }
 {
     trace_rescue::call::rescue(input, output, edition)
 }
@@ -459,14 +460,16 @@ pub extern "C" fn spindle_rescue(input: &[u8], output: &mut [u8], edition: u32) 
 
 #[no_mangle]
 pub extern "C" fn spindle_thin(trace: &[u8], output: &mut [u8]) -> Thinned
-    ensures { λ r. ⌜ record { answer = r; output = now (output .exit) } ≡ thinOf (now (trace .entry)) (now (output .entry)) ⌝ }
+    ensures { λ r. ⌜ (record { answer = r; output = now (output .exit) } ≡ thinOf (now (trace .entry)) (now (output .entry)))
+        × AllBelow 256 (now (trace .entry)) ⌝ }
 {
     trace_thin::call::thin(trace, output)
 }
 
 #[no_mangle]
 pub extern "C" fn spindle_thin_in_place(trace: &mut [u8]) -> Thinned
-    ensures { λ r. ⌜ record { answer = r; output = now (trace .exit) } ≡ thinInPlaceOf (now (trace .entry)) ⌝ }
+    ensures { λ r. ⌜ (record { answer = r; output = now (trace .exit) } ≡ thinInPlaceOf (now (trace .entry)))
+        × AllBelow 256 (now (trace .entry)) ⌝ }
 {
     trace_thin::call::thin_in_place(trace)
 }

@@ -172,13 +172,13 @@ pub replay-agrees : OneOutcome replay.Post {A = List ℕ} (λ κs s. now (s .1 .
 replay-agrees κs a x y s t p q = noted-alike (p ∙ sym q)
 
 pub rescue-agrees : OneOutcome rescue.Post {A = List ℕ} (λ κs s. now (s .1 .0))
-rescue-agrees κs a x y s t p q = saved-alike (p ∙ sym q)
+rescue-agrees κs a x y s t p q = saved-alike (p .0 ∙ sym (q .0))
 
 pub thin-agrees : OneOutcome thin.Post {A = List ℕ} (λ κs s. now (s .1 .0))
-thin-agrees κs a x y s t p q = left-alike (p ∙ sym q)
+thin-agrees κs a x y s t p q = left-alike (p .0 ∙ sym (q .0))
 
 pub thin-in-place-agrees : OneOutcome thin-in-place.Post {A = List ℕ} (λ κs s. now (s .0))
-thin-in-place-agrees κs a x y s t p q = left-alike (p ∙ sym q)
+thin-in-place-agrees κs a x y s t p q = left-alike (p .0 ∙ sym (q .0))
 
 pub sheet-add-agrees : OneOutcome sheet-add.Post {A = List ℕ × List ℕ × List ℕ}
     (λ κs s. (now (s .1 .0), now (s .1 .1 .0), now (s .1 .1 .1 .0)))

@@ -21,11 +21,11 @@ use Rattle.trace_layout.proofs.Records.{found, size-back, laid-back, length-byt
 use Rattle.trace_layout.proofs.Traces.{good-ends, good-laid, good-count, good-is-written, edition-written, read-written}
 use Rattle.trace.specs.whole.Whole.{wholeIn, wholeRecords}
 use Rattle.trace.proofs.whole.Whole.{no-more, whole-written}
-use Rattle.trace_rescue.specs.call.Rescue.{Saved, keptOf, savedOf, editionFor, leave, refuse, rescueOf}
-use Rattle.trace_rescue.specs.call.Rescues.{traceIn}
-use Rattle.trace_rescue.proofs.call.Saving.{makes}
-use Rattle.trace_rescue.proofs.call.Rescues.{room-rescued, rescues}
-use Rattle.promises.specs.cut_traces.Cuts.{endingBy, CutAnywhere}
+use Rattle.trace_rescue.specs.slices.Rescue.{Saved, keptOf, savedOf, editionFor, leave, refuse, rescueOf}
+use Rattle.trace_rescue.specs.slices.Rescues.{traceIn}
+use Rattle.trace_rescue.proofs.slices.Saving.{makes}
+use Rattle.trace_rescue.proofs.slices.Rescues.{room-rescued, rescues}
+use Rattle.promises.specs.cut_traces.Cuts.{endingBy, KeptOfCut, CutAnywhere}
 
 -- ---- a record that is cut
 
@@ -189,22 +189,29 @@ module _ (bs old : List ℕ) (given : ℕ) (bytes : AllBelow 256 bs) (on : rescu
       ap traceIn (room-rescued bs old given own refl (not-false _ (rows-off .0)) (ltb-false _ _ (rows-off .1)))
       ∙ take-at (savedOf own bs) (drop (length (savedOf own bs)) old) (length (savedOf own bs)) refl
 
-  left-walked : (editionAt (traceIn (rescueOf bs old given)) ≡ own) × (recordsOf (traceIn (rescueOf bs old given)) ≡ wholeRecords own bs)
+  pub left-walked : (editionAt (traceIn (rescueOf bs old given)) ≡ own) × (recordsOf (traceIn (rescueOf bs old given)) ≡ wholeRecords own bs)
   left-walked =
       let m = makes own bs bytes (not-false _ (rows-off .0)) in (
         ap editionAt trace-is ∙ edition-written own (keptOf own bs) (m .edition) (m .few) (m .laid),
         ap recordsOf trace-is ∙ read-written own (keptOf own bs) (m .edition) (m .few) (m .laid),
       )
 
+-- a rescue of the cut bytes by the trace's own edition, if it is done
+module _ (bs old : List ℕ) (k given : ℕ) (bytes : AllBelow 256 bs) (good : goodTrace bs ≡ true)
+    (edition : editionFor (take k bs) given ≡ editionAt bs) where
+  pub kept-of-cut : rescueOf (take k bs) old given .answer .code ≡ 0 → KeptOfCut bs k (rescueOf (take k bs) old given)
+  kept-of-cut on =
+      let below = below-take 256 k bs bytes in
+      let d = rescues .done (take k bs) old given below on in
+      let left = left-walked (take k bs) old given below on in
+      let records = left .1 ∙ ap (λ (e : ℕ). wholeRecords e (take k bs)) edition ∙ cut-kept bs bytes good k in
+      record { done = on; good = d .good; edition = left .0 ∙ edition; records = records; told = d .kept ∙ ap length records }
+
 pub cut-anywhere : CutAnywhere
 cut-anywhere bs old k given bytes good edition room =
-    let below = below-take 256 k bs bytes in
     let e = editionFor (take k bs) given in
     let saved : savedOf e (take k bs) ≡ traceOf (editionAt bs) (endingBy (editionAt bs) k 0 (recordsOf bs)) =
     ap (λ (i : ℕ). savedOf i (take k bs)) edition ∙ ap (traceOf (editionAt bs)) (cut-kept bs bytes good k) in
     let is-known : known e ≡ true = ap known edition ∙ good-ends bs bytes good .edition in
     let on = rescues .long (take k bs) old given is-known (omega (arith, ap length saved, room)) in
-    let d = rescues .done (take k bs) old given below on in
-    let left = left-walked (take k bs) old given below on in
-    let records = left .1 ∙ ap (λ (e : ℕ). wholeRecords e (take k bs)) edition ∙ cut-kept bs bytes good k in
-    record { done = on; good = d .good; edition = left .0 ∙ edition; records = records; told = d .kept ∙ ap length records }
+    kept-of-cut bs old k given bytes good edition on

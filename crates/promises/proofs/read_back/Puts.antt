@@ -29,14 +29,14 @@ use Rattle.promises.specs.read_back.Puts.{PutsReadBack, SealsAlike}
 -- ---- one put
 
 module _ (e : ℕ) (p : DonePut e) where
-  abbrev search : Call
+  abbrev pub search : Call
   search = putTurn e p .search
 
   abbrev left : Left
   left = record { answer = p .x; bytes = now (p .s .0) }
 
   -- what its contract says
-  put-is : putCall e (now (p .a .0)) (p .a .1 .0) search ≡ left
+  pub put-is : putCall e (now (p .a .0)) (p .a .1 .0) search ≡ left
   put-is = rw (sym (p .edition)) (sym (p .made .0))
 
   put-was-done : putCall e (now (p .a .0)) (p .a .1 .0) search .answer .code ≡ 0
@@ -71,12 +71,12 @@ module _ (one : Held → Call → Held) (all : Held → List Call → Held) (non
       rw (more h (t .search) (searches (map turn ps))) (chain turn does ps (one h (t .search)) cs end rest)
 
 -- puts
-put-does : (e : ℕ) (p : DonePut e) (h : Held) → now (p .a .0) ≡ h .bytes → p .a .1 .0 ≡ h .used
+pub put-does : (e : ℕ) (p : DonePut e) (h : Held) → now (p .a .0) ≡ h .bytes → p .a .1 .0 ≡ h .used
     → (putOne e h (search e p) .bytes ≡ now (p .s .0)) × (putOne e h (search e p) .used ≡ p .x .length)
 unfolding putOne
 put-does e p h on at = rw (sym on, sym at, put-is e p, p .done) (refl, refl)
 
-puts-are : (e : ℕ) (ps : List (DonePut e)) (h : Held) (cs : List ℕ) (end : ℕ) → Chained (h .bytes) (h .used) (map (putTurn e) ps) cs end
+pub puts-are : (e : ℕ) (ps : List (DonePut e)) (h : Held) (cs : List ℕ) (end : ℕ) → Chained (h .bytes) (h .used) (map (putTurn e) ps) cs end
     → let g = putAll e h (searches (map (putTurn e) ps)) in (g .bytes ≡ cs) × (g .used ≡ end)
 unfolding putAll
 puts-are e = chain (putOne e) (putAll e) (λ h. refl) (λ h a calls. refl) (putTurn e) (put-does e)

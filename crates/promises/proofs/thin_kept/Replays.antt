@@ -28,7 +28,7 @@ replayed : (bs at : List ℕ) → replayOf bs at .answer .code ≡ 0 → replayO
 unfolding replayOf
 replayed bs at on = done-answer _ (countsOf (editionAt bs) (recordsOf bs)) at _ refl on
 
-counted : (bs at : List ℕ) (left : Left) → Done bs left → replayOf (traceIn left) at .answer .code ≡ 0
+pub counted : (bs at : List ℕ) (left : Left) → Done bs left → replayOf (traceIn left) at .answer .code ≡ 0
     → Counted bs left (replayOf (traceIn left) at .answer)
 counted bs at left d on =
     let told = replayed (traceIn left) at on in

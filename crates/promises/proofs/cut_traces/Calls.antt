@@ -14,10 +14,10 @@ use Rattle.trace.specs.kept.Sealed.{unused, putOne, putAll}
 use Rattle.trace.specs.whole.Whole.{wholeRecords}
 use Rattle.trace.proofs.whole.Whole.{no-more, whole-written}
 use Rattle.trace.proofs.kept.Sealed.{Put, put-all, put-begun}
-use Rattle.trace_rescue.specs.slices.Rescue.{endsKnown, editionFor, Saved, rescueOf}
-use Rattle.trace_rescue.specs.slices.Rescues.{traceIn, Done}
-use Rattle.trace_rescue.proofs.slices.Saving.{callers-edition, own-edition}
-use Rattle.trace_rescue.proofs.slices.Rescues.{rescues, editions}
+use Rattle.trace_rescue.specs.call.Rescue.{endsKnown, editionFor, Saved, rescueOf}
+use Rattle.trace_rescue.specs.call.Rescues.{traceIn, Done}
+use Rattle.trace_rescue.proofs.call.Saving.{callers-edition, own-edition}
+use Rattle.trace_rescue.proofs.call.Rescues.{rescues, editions}
 use Rattle.promises.specs.read_back.Puts.{DonePut, putTurn, Chained, searches}
 use Rattle.promises.specs.cut_traces.Cuts.{KeptOfCut}
 use Rattle.promises.specs.cut_traces.Calls.{RescueCall, input, room, given, edition, left, new, CallsRescue, CallsCut, CallsUnsealed}

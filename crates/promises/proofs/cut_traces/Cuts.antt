@@ -21,10 +21,10 @@ use Rattle.trace_layout.proofs.Records.{found, size-back, laid-back, length-byt
 use Rattle.trace_layout.proofs.Traces.{good-ends, good-laid, good-count, good-is-written, edition-written, read-written}
 use Rattle.trace.specs.whole.Whole.{wholeIn, wholeRecords}
 use Rattle.trace.proofs.whole.Whole.{no-more, whole-written}
-use Rattle.trace_rescue.specs.slices.Rescue.{Saved, keptOf, savedOf, editionFor, leave, refuse, rescueOf}
-use Rattle.trace_rescue.specs.slices.Rescues.{traceIn}
-use Rattle.trace_rescue.proofs.slices.Saving.{makes}
-use Rattle.trace_rescue.proofs.slices.Rescues.{room-rescued, rescues}
+use Rattle.trace_rescue.specs.call.Rescue.{Saved, keptOf, savedOf, editionFor, leave, refuse, rescueOf}
+use Rattle.trace_rescue.specs.call.Rescues.{traceIn}
+use Rattle.trace_rescue.proofs.call.Saving.{makes}
+use Rattle.trace_rescue.proofs.call.Rescues.{room-rescued, rescues}
 use Rattle.promises.specs.cut_traces.Cuts.{endingBy, KeptOfCut, CutAnywhere}
 
 -- ---- a record that is cut

@@ -4,12 +4,12 @@ use mathlib.Core.List.{List}
 use Prim.Native.Nat.{ℕ, _+_, _<_, _≤_}
 use lib.ListN.{length, drop, replicate}
 use denote.Ref.{now}
-use Rattle.trace_replay.specs.declared.slices.Replayed.{Replayed}
-use Rattle.trace_replay.specs.slices.Replay.{Noted, replayOf}
-use Rattle.trace_thin.specs.declared.slices.Thinned.{Thinned}
-use Rattle.trace_thin.specs.slices.Thin.{Left, thinOf, thinInPlaceOf}
-use Rattle.trace_thin.specs.slices.Thins.{traceIn, Done}
-use Rattle.trace_thin.proofs.slices.Thins.{thins}
+use Rattle.trace_replay.specs.declared.call.Replayed.{Replayed}
+use Rattle.trace_replay.specs.call.Replay.{Noted, replayOf}
+use Rattle.trace_thin.specs.declared.call.Thinned.{Thinned}
+use Rattle.trace_thin.specs.call.Thin.{Left, thinOf, thinInPlaceOf}
+use Rattle.trace_thin.specs.call.Thins.{traceIn, Done}
+use Rattle.trace_thin.proofs.call.Thins.{thins}
 use Rattle.promises.specs.thin_kept.Replays.{Counted}
 use Rattle.promises.specs.thin_kept.Calls.{ThinCall, trace, room, left, WithinCall, old, leftIn, ReplayCall, replayedTrace}
 use Rattle.promises.specs.thin_kept.Calls.{CallsThin, CallsThinReplay}

@@ -12,9 +12,9 @@ use borrow.Fn.Kinds.{Dens, endedOf}
 use Rattle.octets.specs.words.Words.{AllBelow}
 use Rattle.trace_layout.specs.Records.{laidAt}
 use Rattle.trace_layout.specs.Traces.{mostRecords, trailerSize, known, recordsBytes, traceOf, editionAt, goodTrace, recordsOf}
-use Rattle.trace_rescue.specs.declared.slices.Rescued.{Rescued}
-use Rattle.trace_rescue.specs.slices.Rescue.{endsKnown, editionFor, keptOf, savedOf, Saved, refuse}
-use Rattle.trace_rescue.specs.slices.Rescues.{traceIn, rightAgain, Done}
+use Rattle.trace_rescue.specs.declared.call.Rescued.{Rescued}
+use Rattle.trace_rescue.specs.call.Rescue.{endsKnown, editionFor, keptOf, savedOf, Saved, refuse}
+use Rattle.trace_rescue.specs.call.Rescues.{traceIn, rightAgain, Done}
 use Rattle.spindle.proofs.spindle_rescue.Kinds as rescue-kinds
 use Rattle.spindle.proofs.spindle_rescue.Reads as rescue
 use Rattle.promises.specs.cut_traces.Cuts.{KeptOfCut}

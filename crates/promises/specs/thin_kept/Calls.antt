@@ -10,10 +10,10 @@ use denote.Triple.Clauses.{AtExit}
 use contract.Lifetimes.{Lfts}
 use borrow.Fn.Kinds.{Dens, endedOf}
 use Rattle.trace_layout.specs.Traces.{goodTrace}
-use Rattle.trace_replay.specs.declared.slices.Replayed.{Replayed}
-use Rattle.trace_thin.specs.declared.slices.Thinned.{Thinned}
-use Rattle.trace_thin.specs.slices.Thin.{Left, refuse}
-use Rattle.trace_thin.specs.slices.Thins.{traceIn, noneDropped, Done}
+use Rattle.trace_replay.specs.declared.call.Replayed.{Replayed}
+use Rattle.trace_thin.specs.declared.call.Thinned.{Thinned}
+use Rattle.trace_thin.specs.call.Thin.{Left, refuse}
+use Rattle.trace_thin.specs.call.Thins.{traceIn, noneDropped, Done}
 use Rattle.spindle.proofs.spindle_thin.Kinds as thin-kinds
 use Rattle.spindle.proofs.spindle_thin.Reads as thin
 use Rattle.spindle.proofs.spindle_thin_in_place.Kinds as within-kinds

@@ -84,7 +84,7 @@ build_archive() {
         echo "build: proving the library and building it: some minutes the first time, a line for each crate; the whole output goes to $log"
         rm -f target/staticlib/made-of target/log/build.status
         of=$(proved_of)
-        { tools/native keep $module staticlib spindle 2>&1 && echo 0 >target/log/build.status || echo 1 >target/log/build.status; } | tee "$log" | {
+        { RT_JOBS=$(tools/jobs) tools/native keep $module staticlib spindle 2>&1 && echo 0 >target/log/build.status || echo 1 >target/log/build.status; } | tee "$log" | {
             # the shell's own read shows a line at once, where an awk may wait for a block of them
             same=0
             while IFS= read -r line; do

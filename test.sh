@@ -236,12 +236,9 @@ edits=$!
 started="$started $edits"
 
 say "proofs, must-fail edits and programs, from nothing (rt ci)"
-# rt waits for a batch of RT_JOBS to end before it starts the next: eight on two processors leave less idle. Most checks take up to 1.5 GB, that of
-# spindle and of run_oracle 2.4 GB; what runs beside takes up to 3 GB. So there are fewer where memory is short. The last line is held back until
-# the runs beside have ended, too.
-jobs=$(awk '/^MemAvailable:/ { n = int(($2 - 4000000) / 1500000); print (n < 2 ? 2 : (n > 8 ? 8 : n)) }' /proc/meminfo 2>/dev/null) || true
+# The last line is held back until the runs beside have ended, too.
 # shellcheck disable=SC2016
-RT_JOBS=${RT_JOBS:-${jobs:-4}} setsid sh -c '
+RT_JOBS=$(tools/jobs) setsid sh -c '
     { rt ci 2>&1; echo $? >"$1/status"; } | tee "$1/ci.txt" | {
         IFS= read -r held && while IFS= read -r line; do
             printf "%s\n" "$held"

@@ -32,7 +32,7 @@ use Rattle.promises.specs.rules.Traces.{OldUnderRule1, callUnder, Passed
 module _ (e : ℕ) (not-3 : e ≡ 3 → ⊥) where
   under-1 : (t : List ℕ) → recordAt e t .rule ≡ 1
   unfolding ruleAt
-  under-1 t = rule-of e t ∙ rw (no-rule e not-3)
+  under-1 t = rule-of e t ∙ rw (no-rule e (ne-eqb e 3 not-3))
 
   each-under-1 : (n : ℕ) (t : List ℕ) (i : ℕ) → getD (recordsIn e n t) i (recordAt e []) .rule ≡ 1
   unfolding recordsIn

@@ -84,7 +84,8 @@ build_archive() {
         echo "build: proving the library and building it: some minutes the first time, a line for each crate; the whole output goes to $log"
         rm -f target/staticlib/made-of target/log/build.status
         of=$(proved_of)
-        { RT_JOBS=$(tools/jobs) tools/native keep $module staticlib spindle 2>&1 && echo 0 >target/log/build.status || echo 1 >target/log/build.status; } | tee "$log" | {
+        # rt check proves crates beside each other, which rt staticlib does not: it then takes what is proved
+        { RT_JOBS=$(tools/jobs) rt check spindle 2>&1 && echo 0 >target/log/build.status || echo 1 >target/log/build.status; } | tee "$log" | {
             # the shell's own read shows a line at once, where an awk may wait for a block of them
             same=0
             while IFS= read -r line; do
@@ -95,7 +96,8 @@ build_archive() {
             done
             [ $same = 0 ] || echo "build: $same crates unchanged since they were proved"
         }
-        [ "$(cat target/log/build.status 2>/dev/null)" = 0 ] || { tail -n 20 "$log" >&2; die "the library was not built"; }
+        [ "$(cat target/log/build.status 2>/dev/null)" = 0 ] || { tail -n 20 "$log" >&2; die "the library was not proved"; }
+        tools/native keep $module staticlib spindle >>"$log" 2>&1 || { tail -n 20 "$log" >&2; die "the library was not built"; }
         { echo "$of"; sums $archive $module; } >target/staticlib/made-of
     fi
     rm -f $record

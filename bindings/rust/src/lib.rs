@@ -1,5 +1,6 @@
 //! Step searches and scalings for the exponential, power and generalized power cone, from a library whose calls are proved to meet their
-//! contracts. docs/PROMISES.md says what stands in front of them unproved: on the way to the methods of [`Scaling`] a line of C each.
+//! contracts. docs/PROMISES.md says what stands in front of them unproved: on the way to the methods of [`Scaling`] a line of C each, which
+//! takes the record apart.
 //!
 //! ```
 //! use spindle::{Answer, Cone, Settings};

@@ -1,3 +1,4 @@
+pub mod Parts
 pub mod Rows
 pub mod blocks
 pub mod three

@@ -7,7 +7,6 @@ ghost use Rattle.call_record.specs.entries.Entries.{higherCorrectionOf, 
 use cone::Number;
 use cone::Rounds;
 use cone::Scaling;
-use judges::is_wide;
 
 // ---- the primal side
 
@@ -15,25 +14,56 @@ use judges::is_wide;
 pub fn gradient_primal(scaling: Scaling, g: &mut [f64], s: &[f64]) -> Rounds
     ensures { λ r. ⌜ record { answer = r; slice = now (g .exit) } ≡ gradientPrimalOf scaling (now (g .entry)) (now (s .entry)) ⌝ }
 {
-    let kind = scaling.cone.kind;
-    if is_wide(kind) {
-        return crate::wide_primal::gradient_primal(scaling, g, s);
-    }
-    let exps = scaling.cone.exps;
-    let three = scaling.three;
-    crate::three::gradient_primal(kind, scaling.cone.rule, exps[0], three, g, s)
+    crate::in_place::gradient_primal(
+        scaling.cone.kind,
+        scaling.cone.dim1,
+        scaling.cone.dim2,
+        scaling.cone.rule,
+        &scaling.cone.exps,
+        scaling.scaled,
+        scaling.serial,
+        &scaling.three.z,
+        &scaling.three.grad,
+        &scaling.three.hdual,
+        &scaling.three.hs,
+        &scaling.wide.z,
+        scaling.wide.mu,
+        &scaling.wide.grad,
+        &scaling.wide.p,
+        &scaling.wide.q,
+        &scaling.wide.r,
+        &scaling.wide.d1,
+        scaling.wide.d2,
+        g,
+        s,
+    )
 }
 
 pub fn barrier_primal(scaling: Scaling, s: &[f64]) -> Number
     ensures { λ r. ⌜ r ≡ barrierPrimalOf scaling (now (s .entry)) ⌝ }
 {
-    let kind = scaling.cone.kind;
-    if is_wide(kind) {
-        return crate::wide_primal::barrier_primal(scaling, s);
-    }
-    let exps = scaling.cone.exps;
-    let three = scaling.three;
-    crate::three::barrier_primal(kind, scaling.cone.rule, exps[0], three, s)
+    crate::in_place::barrier_primal(
+        scaling.cone.kind,
+        scaling.cone.dim1,
+        scaling.cone.dim2,
+        scaling.cone.rule,
+        &scaling.cone.exps,
+        scaling.scaled,
+        scaling.serial,
+        &scaling.three.z,
+        &scaling.three.grad,
+        &scaling.three.hdual,
+        &scaling.three.hs,
+        &scaling.wide.z,
+        scaling.wide.mu,
+        &scaling.wide.grad,
+        &scaling.wide.p,
+        &scaling.wide.q,
+        &scaling.wide.r,
+        &scaling.wide.d1,
+        scaling.wide.d2,
+        s,
+    )
 }
 
 pub fn compute_barrier(
@@ -46,13 +76,32 @@ pub fn compute_barrier(
 ) -> Number
     ensures { λ r. ⌜ r ≡ computeBarrierOf scaling (now (z .entry)) (now (s .entry)) (now (dz .entry)) (now (ds .entry)) alpha ⌝ }
 {
-    let kind = scaling.cone.kind;
-    if is_wide(kind) {
-        return crate::wide::compute_barrier(scaling, z, s, dz, ds, alpha);
-    }
-    let exps = scaling.cone.exps;
-    let three = scaling.three;
-    crate::three::compute_barrier(kind, scaling.cone.rule, exps[0], three, z, s, dz, ds, alpha)
+    crate::in_place::compute_barrier(
+        scaling.cone.kind,
+        scaling.cone.dim1,
+        scaling.cone.dim2,
+        scaling.cone.rule,
+        &scaling.cone.exps,
+        scaling.scaled,
+        scaling.serial,
+        &scaling.three.z,
+        &scaling.three.grad,
+        &scaling.three.hdual,
+        &scaling.three.hs,
+        &scaling.wide.z,
+        scaling.wide.mu,
+        &scaling.wide.grad,
+        &scaling.wide.p,
+        &scaling.wide.q,
+        &scaling.wide.r,
+        &scaling.wide.d1,
+        scaling.wide.d2,
+        z,
+        s,
+        dz,
+        ds,
+        alpha,
+    )
 }
 
 // ---- the scaling matrix. This call and the three below name the serial that they expect of the record
@@ -60,19 +109,27 @@ pub fn compute_barrier(
 pub fn get_hs(scaling: Scaling, serial: u32, block: &mut [f64]) -> u32
     ensures { λ r. ⌜ record { answer = r; slice = now (block .exit) } ≡ getHsOf scaling serial (now (block .entry)) ⌝ }
 {
-    let kind = scaling.cone.kind;
-    if is_wide(kind) {
-        return crate::wide::get_hs(scaling, serial, block);
-    }
-    let exps = scaling.cone.exps;
-    let three = scaling.three;
-    crate::blocks::get_hs(
-        kind,
+    crate::in_place::get_hs(
+        scaling.cone.kind,
+        scaling.cone.dim1,
+        scaling.cone.dim2,
         scaling.cone.rule,
-        exps[0],
-        scaling.scaled == 0,
-        scaling.serial != serial,
-        three,
+        &scaling.cone.exps,
+        scaling.scaled,
+        scaling.serial,
+        &scaling.three.z,
+        &scaling.three.grad,
+        &scaling.three.hdual,
+        &scaling.three.hs,
+        &scaling.wide.z,
+        scaling.wide.mu,
+        &scaling.wide.grad,
+        &scaling.wide.p,
+        &scaling.wide.q,
+        &scaling.wide.r,
+        &scaling.wide.d1,
+        scaling.wide.d2,
+        serial,
         block,
     )
 }
@@ -80,19 +137,27 @@ pub fn get_hs(scaling: Scaling, serial: u32, block: &mut [f64]) -> u32
 pub fn mul_hs(scaling: Scaling, serial: u32, y: &mut [f64], x: &[f64]) -> u32
     ensures { λ r. ⌜ record { answer = r; slice = now (y .exit) } ≡ mulHsOf scaling serial (now (y .entry)) (now (x .entry)) ⌝ }
 {
-    let kind = scaling.cone.kind;
-    if is_wide(kind) {
-        return crate::wide::mul_hs(scaling, serial, y, x);
-    }
-    let exps = scaling.cone.exps;
-    let three = scaling.three;
-    crate::blocks::mul_hs(
-        kind,
+    crate::in_place::mul_hs(
+        scaling.cone.kind,
+        scaling.cone.dim1,
+        scaling.cone.dim2,
         scaling.cone.rule,
-        exps[0],
-        scaling.scaled == 0,
-        scaling.serial != serial,
-        three,
+        &scaling.cone.exps,
+        scaling.scaled,
+        scaling.serial,
+        &scaling.three.z,
+        &scaling.three.grad,
+        &scaling.three.hdual,
+        &scaling.three.hs,
+        &scaling.wide.z,
+        scaling.wide.mu,
+        &scaling.wide.grad,
+        &scaling.wide.p,
+        &scaling.wide.q,
+        &scaling.wide.r,
+        &scaling.wide.d1,
+        scaling.wide.d2,
+        serial,
         y,
         x,
     )
@@ -110,16 +175,27 @@ pub fn higher_correction(
     ensures { λ r. ⌜ record { answer = r; slice = now (eta .exit) }
         ≡ higherCorrectionOf scaling serial (now (eta .entry)) (now (ds .entry)) (now (v .entry)) ⌝ }
 {
-    let kind = scaling.cone.kind;
-    let exps = scaling.cone.exps;
-    let three = scaling.three;
-    crate::three::higher_correction(
-        kind,
+    crate::in_place::higher_correction(
+        scaling.cone.kind,
+        scaling.cone.dim1,
+        scaling.cone.dim2,
         scaling.cone.rule,
-        exps[0],
-        scaling.scaled == 0,
-        scaling.serial != serial,
-        three,
+        &scaling.cone.exps,
+        scaling.scaled,
+        scaling.serial,
+        &scaling.three.z,
+        &scaling.three.grad,
+        &scaling.three.hdual,
+        &scaling.three.hs,
+        &scaling.wide.z,
+        scaling.wide.mu,
+        &scaling.wide.grad,
+        &scaling.wide.p,
+        &scaling.wide.q,
+        &scaling.wide.r,
+        &scaling.wide.d1,
+        scaling.wide.d2,
+        serial,
         eta,
         ds,
         v,
@@ -137,16 +213,27 @@ pub fn combined_ds_shift(
     ensures { λ r. ⌜ record { answer = r; slice = now (shifted .exit) }
         ≡ combinedDsShiftOf scaling serial (now (shifted .entry)) (now (stepz .entry)) (now (steps .entry)) sigmamu ⌝ }
 {
-    let kind = scaling.cone.kind;
-    let exps = scaling.cone.exps;
-    let three = scaling.three;
-    crate::three::combined_ds_shift(
-        kind,
+    crate::in_place::combined_ds_shift(
+        scaling.cone.kind,
+        scaling.cone.dim1,
+        scaling.cone.dim2,
         scaling.cone.rule,
-        exps[0],
-        scaling.scaled == 0,
-        scaling.serial != serial,
-        three,
+        &scaling.cone.exps,
+        scaling.scaled,
+        scaling.serial,
+        &scaling.three.z,
+        &scaling.three.grad,
+        &scaling.three.hdual,
+        &scaling.three.hs,
+        &scaling.wide.z,
+        scaling.wide.mu,
+        &scaling.wide.grad,
+        &scaling.wide.p,
+        &scaling.wide.q,
+        &scaling.wide.r,
+        &scaling.wide.d1,
+        scaling.wide.d2,
+        serial,
         shifted,
         stepz,
         steps,

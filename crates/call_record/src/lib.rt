@@ -3,6 +3,7 @@
 // wide).
 pub mod blocks;
 pub mod entries;
+pub mod in_place;
 pub mod three;
 pub mod update;
 pub mod wide;

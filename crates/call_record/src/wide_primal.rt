@@ -1,38 +1,53 @@
-// The primal gradient and the primal barrier over a record for kind 3: of the record, the cone alone. Each lends the record's arrays to its
-// judges and hands the record itself to none, so that it is copied once; judges by the table of document 01, computes into locals, and only
-// then writes.
+// The primal gradient and the primal barrier over a record for kind 3: of the record, the cone alone; its other numbers are lent to be
+// judged. Each judges by the table of document 01, computes into locals, and only then writes.
 ghost use mathlib.Core.Path.{_≡_};
+ghost use Rattle.call_record.specs.Parts.{wideOf};
 ghost use Rattle.call_record.specs.wide_primal.Entries.{gradientPrimalOf, barrierPrimalOf};
 use crate::wide_rows::publish_wide;
 use crate::wide_rows::rows;
 use cone::Number;
 use cone::Rounds;
-use cone::Scaling;
 use judges::all_finite;
 use judges::refusal::counted;
 use judges::refusal::finished;
 use kinds::wide;
 
-pub fn gradient_primal(scaling: Scaling, g: &mut [f64], s: &[f64]) -> Rounds
-    ensures { λ r. ⌜ record { answer = r; slice = now (g .exit) } ≡ gradientPrimalOf scaling (now (g .entry)) (now (s .entry)) ⌝ }
+pub(crate) fn gradient_primal<'a>(
+    dim1: u32,
+    dim2: u32,
+    rule: u32,
+    exps: &'a [f64; 32],
+    keptz: &'a [f64; 64],
+    keptmu: f64,
+    grad: &'a [f64; 64],
+    p: &'a [f64; 64],
+    q: &'a [f64; 32],
+    r: &'a [f64; 32],
+    d1: &'a [f64; 32],
+    d2: f64,
+    g: &mut [f64],
+    s: &[f64],
+) -> Rounds
+    ensures { λ rounds. ⌜ record { answer = rounds; slice = now (g .exit) } ≡ gradientPrimalOf dim1 dim2 rule (now (exps .entry))
+        (wideOf (now (keptz .entry)) keptmu (now (grad .entry)) (now (p .entry)) (now (q .entry)) (now (r .entry))
+        (now (d1 .entry)) d2) (now (g .entry)) (now (s .entry)) ⌝ }
 {
-    let dim1 = scaling.cone.dim1 as usize;
-    let dim2 = scaling.cone.dim2 as usize;
-    let lengths = (g.len() != dim1 + dim2) | (s.len() != dim1 + dim2);
+    let n = dim1 as usize + dim2 as usize;
+    let lengths = (g.len() != n) | (s.len() != n);
     let finite = all_finite(s);
     let code = rows(
-        scaling.cone.dim1,
-        scaling.cone.dim2,
-        scaling.cone.rule,
-        &scaling.cone.exps,
-        &scaling.wide.z,
-        scaling.wide.mu,
-        &scaling.wide.grad,
-        &scaling.wide.p,
-        &scaling.wide.q,
-        &scaling.wide.r,
-        &scaling.wide.d1,
-        scaling.wide.d2,
+        dim1,
+        dim2,
+        rule,
+        exps,
+        keptz,
+        keptmu,
+        grad,
+        p,
+        q,
+        r,
+        d1,
+        d2,
         lengths,
         false,
         false,
@@ -41,31 +56,45 @@ pub fn gradient_primal(scaling: Scaling, g: &mut [f64], s: &[f64]) -> Rounds
     if code != 0 {
         return Rounds { code, rounds: 0 };
     }
-    let a = wide::gradient_primal(&scaling.cone.exps, dim1, s);
+    let a = wide::gradient_primal(exps, dim1 as usize, s);
     let published = publish_wide(g, &a.g);
     counted(published, a.rounds)
 }
 
-pub fn barrier_primal(scaling: Scaling, s: &[f64]) -> Number
-    ensures { λ r. ⌜ r ≡ barrierPrimalOf scaling (now (s .entry)) ⌝ }
+pub(crate) fn barrier_primal<'a>(
+    dim1: u32,
+    dim2: u32,
+    rule: u32,
+    exps: &'a [f64; 32],
+    keptz: &'a [f64; 64],
+    keptmu: f64,
+    grad: &'a [f64; 64],
+    p: &'a [f64; 64],
+    q: &'a [f64; 32],
+    r: &'a [f64; 32],
+    d1: &'a [f64; 32],
+    d2: f64,
+    s: &[f64],
+) -> Number
+    ensures { λ number. ⌜ number ≡ barrierPrimalOf dim1 dim2 rule (now (exps .entry))
+        (wideOf (now (keptz .entry)) keptmu (now (grad .entry)) (now (p .entry)) (now (q .entry)) (now (r .entry))
+        (now (d1 .entry)) d2) (now (s .entry)) ⌝ }
 {
-    let dim1 = scaling.cone.dim1 as usize;
-    let dim2 = scaling.cone.dim2 as usize;
-    let lengths = s.len() != dim1 + dim2;
+    let lengths = s.len() != dim1 as usize + dim2 as usize;
     let finite = all_finite(s);
     let code = rows(
-        scaling.cone.dim1,
-        scaling.cone.dim2,
-        scaling.cone.rule,
-        &scaling.cone.exps,
-        &scaling.wide.z,
-        scaling.wide.mu,
-        &scaling.wide.grad,
-        &scaling.wide.p,
-        &scaling.wide.q,
-        &scaling.wide.r,
-        &scaling.wide.d1,
-        scaling.wide.d2,
+        dim1,
+        dim2,
+        rule,
+        exps,
+        keptz,
+        keptmu,
+        grad,
+        p,
+        q,
+        r,
+        d1,
+        d2,
         lengths,
         false,
         false,
@@ -74,5 +103,5 @@ pub fn barrier_primal(scaling: Scaling, s: &[f64]) -> Number
     if code != 0 {
         return Number { code, value: 0.0 };
     }
-    finished(wide::barrier_primal(&scaling.cone.exps, dim1, s))
+    finished(wide::barrier_primal(exps, dim1 as usize, s))
 }

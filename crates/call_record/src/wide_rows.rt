@@ -6,6 +6,7 @@ ghost use Prim.Native.Nat.{_≤_};
 ghost use lib.ListN.{length, take};
 ghost use Rattle.judges.specs.Judges.{wideFinite};
 ghost use Rattle.judges.specs.Refusals.{publishOf};
+ghost use Rattle.call_record.specs.Parts.{wideOf};
 ghost use Rattle.call_record.specs.Rows.{recordRows};
 ghost use Rattle.call_record.specs.wide_rows.Rows.{badParts};
 use algebra::vector::head;
@@ -36,16 +37,9 @@ pub(crate) fn rows<'a>(
     serial: bool,
     finite: bool,
 ) -> u32
-    ensures { λ code. ⌜ code ≡ recordRows (badParts dim1 dim2 rule (now (exps .entry))) lengths (not (finite && wideFinite (record {
-      z = now (z .entry);
-      mu = mu;
-      grad = now (grad .entry);
-      p = now (p .entry);
-      q = now (q .entry);
-      r = now (r .entry);
-      d1 = now (d1 .entry);
-      d2 = d2;
-    }) dim1 dim2)) unscaled serial ⌝ }
+    ensures { λ code. ⌜ code ≡ recordRows (badParts dim1 dim2 rule (now (exps .entry))) lengths (not (finite && wideFinite
+        (wideOf (now (z .entry)) mu (now (grad .entry)) (now (p .entry)) (now (q .entry)) (now (r .entry)) (now (d1 .entry)) d2)
+        dim1 dim2)) unscaled serial ⌝ }
 {
     let mut faults = no_faults();
     faults.cone = !(rule_ok(rule) & wide_ok(dim1, dim2, exps, tolerance_of(rule)));

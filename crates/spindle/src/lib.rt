@@ -8,6 +8,7 @@ ghost use Rattle.call_cone.specs.formulas.Entries.{unitInitializationOf, rectif
 ghost use Rattle.call_search.specs.single.Entries.{backtrackSearchOf, stepLengthOf};
 ghost use Rattle.cone.specs.words.Words.{conesOf};
 ghost use Rattle.call_search.specs.plans.Entries.{commonStepOf, planStepOf};
+ghost use Rattle.call_record.specs.Parts.{tripleOf, wideOf, recordOf};
 ghost use Rattle.call_record.specs.update.Entries.{updateScalingOf};
 ghost use Rattle.call_record.specs.entries.Entries.{gradientPrimalOf, barrierPrimalOf, computeBarrierOf, getHsOf, mulHsOf};
 ghost use Rattle.call_record.specs.entries.Entries.{higherCorrectionOf, combinedDsShiftOf};
@@ -337,6 +338,469 @@ pub extern "C" fn spindle_combined_ds_shift(
         ≡ combinedDsShiftOf scaling serial (now (shifted .entry)) (now (stepz .entry)) (now (steps .entry)) sigmamu ⌝ }
 {
     call_record::entries::combined_ds_shift(scaling, serial, shifted, stepz, steps, sigmamu)
+}
+
+// ---- the same entries with a record where it lies: a number by its value, an array by its address, in the header's order. The header has
+// them as `.._in_place`, which take a record's address and hand on its parts (tools/shim)
+
+#[no_mangle]
+pub extern "C" fn spindle_lent_update_scaling<'a>(
+    kind: u32,
+    dim1: u32,
+    dim2: u32,
+    rule: u32,
+    exps: &'a [f64; 32],
+    scaled: u32,
+    own: u32,
+    z3: &'a [f64; 3],
+    grad3: &'a [f64; 3],
+    hdual: &'a [f64; 6],
+    hs: &'a [f64; 6],
+    keptz: &'a [f64; 64],
+    keptmu: f64,
+    grad: &'a [f64; 64],
+    p: &'a [f64; 64],
+    q: &'a [f64; 32],
+    r: &'a [f64; 32],
+    d1: &'a [f64; 32],
+    d2: f64,
+    s: &[f64],
+    z: &[f64],
+    mu: f64,
+    strategy: u32,
+) -> Updated
+    ensures { λ answer. ⌜ answer ≡ updateScalingOf
+        (recordOf kind dim1 dim2 rule (now (exps .entry)) scaled own
+        (tripleOf (now (z3 .entry)) (now (grad3 .entry)) (now (hdual .entry)) (now (hs .entry)))
+        (wideOf (now (keptz .entry)) keptmu (now (grad .entry)) (now (p .entry)) (now (q .entry)) (now (r .entry)) (now (d1 .entry)) d2))
+        (now (s .entry)) (now (z .entry)) mu strategy ⌝ }
+{
+    call_record::update::update_in_place(
+        kind,
+        dim1,
+        dim2,
+        rule,
+        exps,
+        scaled,
+        own,
+        z3,
+        grad3,
+        hdual,
+        hs,
+        keptz,
+        keptmu,
+        grad,
+        p,
+        q,
+        r,
+        d1,
+        d2,
+        s,
+        z,
+        mu,
+        strategy,
+    )
+}
+
+#[no_mangle]
+pub extern "C" fn spindle_lent_gradient_primal<'a>(
+    kind: u32,
+    dim1: u32,
+    dim2: u32,
+    rule: u32,
+    exps: &'a [f64; 32],
+    scaled: u32,
+    own: u32,
+    z3: &'a [f64; 3],
+    grad3: &'a [f64; 3],
+    hdual: &'a [f64; 6],
+    hs: &'a [f64; 6],
+    keptz: &'a [f64; 64],
+    keptmu: f64,
+    grad: &'a [f64; 64],
+    p: &'a [f64; 64],
+    q: &'a [f64; 32],
+    r: &'a [f64; 32],
+    d1: &'a [f64; 32],
+    d2: f64,
+    g: &mut [f64],
+    s: &[f64],
+) -> Rounds
+    ensures { λ answer. ⌜ record { answer = answer; slice = now (g .exit) } ≡ gradientPrimalOf
+        (recordOf kind dim1 dim2 rule (now (exps .entry)) scaled own
+        (tripleOf (now (z3 .entry)) (now (grad3 .entry)) (now (hdual .entry)) (now (hs .entry)))
+        (wideOf (now (keptz .entry)) keptmu (now (grad .entry)) (now (p .entry)) (now (q .entry)) (now (r .entry)) (now (d1 .entry)) d2))
+        (now (g .entry)) (now (s .entry)) ⌝ }
+{
+    call_record::in_place::gradient_primal(
+        kind,
+        dim1,
+        dim2,
+        rule,
+        exps,
+        scaled,
+        own,
+        z3,
+        grad3,
+        hdual,
+        hs,
+        keptz,
+        keptmu,
+        grad,
+        p,
+        q,
+        r,
+        d1,
+        d2,
+        g,
+        s,
+    )
+}
+
+#[no_mangle]
+pub extern "C" fn spindle_lent_barrier_primal<'a>(
+    kind: u32,
+    dim1: u32,
+    dim2: u32,
+    rule: u32,
+    exps: &'a [f64; 32],
+    scaled: u32,
+    own: u32,
+    z3: &'a [f64; 3],
+    grad3: &'a [f64; 3],
+    hdual: &'a [f64; 6],
+    hs: &'a [f64; 6],
+    keptz: &'a [f64; 64],
+    keptmu: f64,
+    grad: &'a [f64; 64],
+    p: &'a [f64; 64],
+    q: &'a [f64; 32],
+    r: &'a [f64; 32],
+    d1: &'a [f64; 32],
+    d2: f64,
+    s: &[f64],
+) -> Number
+    ensures { λ answer. ⌜ answer ≡ barrierPrimalOf
+        (recordOf kind dim1 dim2 rule (now (exps .entry)) scaled own
+        (tripleOf (now (z3 .entry)) (now (grad3 .entry)) (now (hdual .entry)) (now (hs .entry)))
+        (wideOf (now (keptz .entry)) keptmu (now (grad .entry)) (now (p .entry)) (now (q .entry)) (now (r .entry)) (now (d1 .entry)) d2))
+        (now (s .entry)) ⌝ }
+{
+    call_record::in_place::barrier_primal(
+        kind,
+        dim1,
+        dim2,
+        rule,
+        exps,
+        scaled,
+        own,
+        z3,
+        grad3,
+        hdual,
+        hs,
+        keptz,
+        keptmu,
+        grad,
+        p,
+        q,
+        r,
+        d1,
+        d2,
+        s,
+    )
+}
+
+#[no_mangle]
+pub extern "C" fn spindle_lent_compute_barrier<'a>(
+    kind: u32,
+    dim1: u32,
+    dim2: u32,
+    rule: u32,
+    exps: &'a [f64; 32],
+    scaled: u32,
+    own: u32,
+    z3: &'a [f64; 3],
+    grad3: &'a [f64; 3],
+    hdual: &'a [f64; 6],
+    hs: &'a [f64; 6],
+    keptz: &'a [f64; 64],
+    keptmu: f64,
+    grad: &'a [f64; 64],
+    p: &'a [f64; 64],
+    q: &'a [f64; 32],
+    r: &'a [f64; 32],
+    d1: &'a [f64; 32],
+    d2: f64,
+    z: &[f64],
+    s: &[f64],
+    dz: &[f64],
+    ds: &[f64],
+    alpha: f64,
+) -> Number
+    ensures { λ answer. ⌜ answer ≡ computeBarrierOf
+        (recordOf kind dim1 dim2 rule (now (exps .entry)) scaled own
+        (tripleOf (now (z3 .entry)) (now (grad3 .entry)) (now (hdual .entry)) (now (hs .entry)))
+        (wideOf (now (keptz .entry)) keptmu (now (grad .entry)) (now (p .entry)) (now (q .entry)) (now (r .entry)) (now (d1 .entry)) d2))
+        (now (z .entry)) (now (s .entry)) (now (dz .entry)) (now (ds .entry)) alpha ⌝ }
+{
+    call_record::in_place::compute_barrier(
+        kind,
+        dim1,
+        dim2,
+        rule,
+        exps,
+        scaled,
+        own,
+        z3,
+        grad3,
+        hdual,
+        hs,
+        keptz,
+        keptmu,
+        grad,
+        p,
+        q,
+        r,
+        d1,
+        d2,
+        z,
+        s,
+        dz,
+        ds,
+        alpha,
+    )
+}
+
+#[no_mangle]
+pub extern "C" fn spindle_lent_get_hs<'a>(
+    kind: u32,
+    dim1: u32,
+    dim2: u32,
+    rule: u32,
+    exps: &'a [f64; 32],
+    scaled: u32,
+    own: u32,
+    z3: &'a [f64; 3],
+    grad3: &'a [f64; 3],
+    hdual: &'a [f64; 6],
+    hs: &'a [f64; 6],
+    keptz: &'a [f64; 64],
+    keptmu: f64,
+    grad: &'a [f64; 64],
+    p: &'a [f64; 64],
+    q: &'a [f64; 32],
+    r: &'a [f64; 32],
+    d1: &'a [f64; 32],
+    d2: f64,
+    serial: u32,
+    block: &mut [f64],
+) -> u32
+    ensures { λ answer. ⌜ record { answer = answer; slice = now (block .exit) } ≡ getHsOf
+        (recordOf kind dim1 dim2 rule (now (exps .entry)) scaled own
+        (tripleOf (now (z3 .entry)) (now (grad3 .entry)) (now (hdual .entry)) (now (hs .entry)))
+        (wideOf (now (keptz .entry)) keptmu (now (grad .entry)) (now (p .entry)) (now (q .entry)) (now (r .entry)) (now (d1 .entry)) d2))
+        serial (now (block .entry)) ⌝ }
+{
+    call_record::in_place::get_hs(
+        kind,
+        dim1,
+        dim2,
+        rule,
+        exps,
+        scaled,
+        own,
+        z3,
+        grad3,
+        hdual,
+        hs,
+        keptz,
+        keptmu,
+        grad,
+        p,
+        q,
+        r,
+        d1,
+        d2,
+        serial,
+        block,
+    )
+}
+
+#[no_mangle]
+pub extern "C" fn spindle_lent_mul_hs<'a>(
+    kind: u32,
+    dim1: u32,
+    dim2: u32,
+    rule: u32,
+    exps: &'a [f64; 32],
+    scaled: u32,
+    own: u32,
+    z3: &'a [f64; 3],
+    grad3: &'a [f64; 3],
+    hdual: &'a [f64; 6],
+    hs: &'a [f64; 6],
+    keptz: &'a [f64; 64],
+    keptmu: f64,
+    grad: &'a [f64; 64],
+    p: &'a [f64; 64],
+    q: &'a [f64; 32],
+    r: &'a [f64; 32],
+    d1: &'a [f64; 32],
+    d2: f64,
+    serial: u32,
+    y: &mut [f64],
+    x: &[f64],
+) -> u32
+    ensures { λ answer. ⌜ record { answer = answer; slice = now (y .exit) } ≡ mulHsOf
+        (recordOf kind dim1 dim2 rule (now (exps .entry)) scaled own
+        (tripleOf (now (z3 .entry)) (now (grad3 .entry)) (now (hdual .entry)) (now (hs .entry)))
+        (wideOf (now (keptz .entry)) keptmu (now (grad .entry)) (now (p .entry)) (now (q .entry)) (now (r .entry)) (now (d1 .entry)) d2))
+        serial (now (y .entry)) (now (x .entry)) ⌝ }
+{
+    call_record::in_place::mul_hs(
+        kind,
+        dim1,
+        dim2,
+        rule,
+        exps,
+        scaled,
+        own,
+        z3,
+        grad3,
+        hdual,
+        hs,
+        keptz,
+        keptmu,
+        grad,
+        p,
+        q,
+        r,
+        d1,
+        d2,
+        serial,
+        y,
+        x,
+    )
+}
+
+#[no_mangle]
+pub extern "C" fn spindle_lent_higher_correction<'a>(
+    kind: u32,
+    dim1: u32,
+    dim2: u32,
+    rule: u32,
+    exps: &'a [f64; 32],
+    scaled: u32,
+    own: u32,
+    z3: &'a [f64; 3],
+    grad3: &'a [f64; 3],
+    hdual: &'a [f64; 6],
+    hs: &'a [f64; 6],
+    keptz: &'a [f64; 64],
+    keptmu: f64,
+    grad: &'a [f64; 64],
+    p: &'a [f64; 64],
+    q: &'a [f64; 32],
+    r: &'a [f64; 32],
+    d1: &'a [f64; 32],
+    d2: f64,
+    serial: u32,
+    eta: &mut [f64],
+    ds: &[f64],
+    v: &[f64],
+) -> u32
+    ensures { λ answer. ⌜ record { answer = answer; slice = now (eta .exit) } ≡ higherCorrectionOf
+        (recordOf kind dim1 dim2 rule (now (exps .entry)) scaled own
+        (tripleOf (now (z3 .entry)) (now (grad3 .entry)) (now (hdual .entry)) (now (hs .entry)))
+        (wideOf (now (keptz .entry)) keptmu (now (grad .entry)) (now (p .entry)) (now (q .entry)) (now (r .entry)) (now (d1 .entry)) d2))
+        serial (now (eta .entry)) (now (ds .entry)) (now (v .entry)) ⌝ }
+{
+    call_record::in_place::higher_correction(
+        kind,
+        dim1,
+        dim2,
+        rule,
+        exps,
+        scaled,
+        own,
+        z3,
+        grad3,
+        hdual,
+        hs,
+        keptz,
+        keptmu,
+        grad,
+        p,
+        q,
+        r,
+        d1,
+        d2,
+        serial,
+        eta,
+        ds,
+        v,
+    )
+}
+
+#[no_mangle]
+pub extern "C" fn spindle_lent_combined_ds_shift<'a>(
+    kind: u32,
+    dim1: u32,
+    dim2: u32,
+    rule: u32,
+    exps: &'a [f64; 32],
+    scaled: u32,
+    own: u32,
+    z3: &'a [f64; 3],
+    grad3: &'a [f64; 3],
+    hdual: &'a [f64; 6],
+    hs: &'a [f64; 6],
+    keptz: &'a [f64; 64],
+    keptmu: f64,
+    grad: &'a [f64; 64],
+    p: &'a [f64; 64],
+    q: &'a [f64; 32],
+    r: &'a [f64; 32],
+    d1: &'a [f64; 32],
+    d2: f64,
+    serial: u32,
+    shifted: &mut [f64],
+    stepz: &[f64],
+    steps: &[f64],
+    sigmamu: f64,
+) -> u32
+    ensures { λ answer. ⌜ record { answer = answer; slice = now (shifted .exit) } ≡ combinedDsShiftOf
+        (recordOf kind dim1 dim2 rule (now (exps .entry)) scaled own
+        (tripleOf (now (z3 .entry)) (now (grad3 .entry)) (now (hdual .entry)) (now (hs .entry)))
+        (wideOf (now (keptz .entry)) keptmu (now (grad .entry)) (now (p .entry)) (now (q .entry)) (now (r .entry)) (now (d1 .entry)) d2))
+        serial (now (shifted .entry)) (now (stepz .entry)) (now (steps .entry)) sigmamu ⌝ }
+{
+    call_record::in_place::combined_ds_shift(
+        kind,
+        dim1,
+        dim2,
+        rule,
+        exps,
+        scaled,
+        own,
+        z3,
+        grad3,
+        hdual,
+        hs,
+        keptz,
+        keptmu,
+        grad,
+        p,
+        q,
+        r,
+        d1,
+        d2,
+        serial,
+        shifted,
+        stepz,
+        steps,
+        sigmamu,
+    )
 }
 
 // ---- 02, Order 1: traces of step searches

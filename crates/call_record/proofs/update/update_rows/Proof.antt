@@ -1,23 +1,25 @@
 -- `update_rows` asks the table of its definition. Assumes nothing.
+use Rattle.judges.specs.Judges.{recordFinite}
 use Rattle.call_record.specs.update.Entries.{updateRows}
 use borrow.Author.Needs.{needs}
 use Rattle.call_record.proofs.update.update_rows.Statement.{statement}
 use Rattle.call_record.proofs.update.update_rows.Tie as tie
 
 returns : tie.Need-returns
-unfolding updateRows
+unfolding updateRows recordFinite
 returns c =
-    let settings = c .before .before in
+    let settings = c .before in
     let numbers = settings .before in
-    let points = numbers .before .before in
-    let cone = points .before .before in
+    let points = numbers .before in
+    let kept = points .before .before in
+    let cone = kept .before in
     simp (
       c .first-row .ensures,
       settings .strategy-ok .ensures,
-      numbers .record-finite .ensures,
-      numbers .before .is-finite .ensures,
+      numbers .is-finite .ensures,
       points .all-finite2 .ensures,
       points .before .all-finite .ensures,
+      kept .parts-finite .ensures,
       cone .cone-ok .ensures,
       cone .before .no-faults .ensures,
       cone .before .before .numel .ensures,

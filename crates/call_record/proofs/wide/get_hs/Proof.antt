@@ -1,9 +1,9 @@
 -- A call that its rows refuse leaves with their number, one that they let through publishes the diagonal. Assumes nothing.
+use Prim.Native.Nat.{_+_}
 use native.Mathlib.Omega.{arith}
 use lib.ListN.{length}
 use Rattle.cone.proofs.table.Settled.{refused, through}
 use Rattle.judges.proofs.Lengths.{same-1}
-use Rattle.call_record.specs.wide_rows.Rows.{dims}
 use Rattle.call_record.specs.wide.Entries.{getHsOf}
 use Rattle.call_record.proofs.wide_rows.Judging.{small-dims}
 use Rattle.call_record.proofs.Judging.{let-through}
@@ -11,12 +11,8 @@ use borrow.Author.Needs.{needs}
 use Rattle.call_record.proofs.wide.get_hs.Statement.{statement}
 use Rattle.call_record.proofs.wide.get_hs.Tie as tie
 
--- of the record, its exponents, z and gradient are lent to the rows so far
-abbrev lending : tie.After-rows → tie.After-rows-arg3
-lending c = c .before .before .before .before .before
-
 abbrev start : tie.After-rows → tie.Start
-start c = lending c .before .before .before .before .before
+start c = c .before .before
 
 returns : tie.Need-returns
 unfolding getHsOf
@@ -24,24 +20,23 @@ returns c = refused _ _ _ _ (c .before .rows .ensures) (c .if1 .taken)
 
 get-hs-requires : tie.Need-get-hs-requires
 get-hs-requires c κs =
-    let past = c .before .before in
-    small-dims (start (past .before) .args .t1 .cone) (let-through _ (past .before .rows .ensures) (past .if1 .left) .cone)
+    let a = start (c .before) .args in
+    small-dims (a .dim1) (a .dim2) (a .rule) (a .exps .now) (let-through _ (c .before .rows .ensures) (c .if1 .left) .cone)
 
 publish-wide-requires : tie.Need-publish-wide-requires
 publish-wide-requires c κs =
-    let past = c .before .before .before .before .before in
-    let judged = past .before in
-    let a = start judged .args in
-    let right = let-through _ (judged .rows .ensures) (past .if1 .left) in
-    let small = small-dims (a .t1 .cone) (right .cone) in
-    omega (arith, same-1 (dims (a .t1)) (length (a .block .now)) (right .length), small .0, small .1)
+    let past = c .before .before .before in
+    let a = start (past .before) .args in
+    let right = let-through _ (past .before .rows .ensures) (past .if1 .left) in
+    let small = small-dims (a .dim1) (a .dim2) (a .rule) (a .exps .now) (right .cone) in
+    omega (arith, same-1 (a .dim1 + a .dim2) (length (a .block .now)) (right .length), small .0, small .1)
 
 returns-2 : tie.Need-returns-2
 unfolding getHsOf
 returns-2 c =
     let published = c .before .before in
     let computed = published .before .before .before in
-    let past = computed .before .before .before in
+    let past = computed .before in
     through _ _ _ _ (past .before .rows .ensures) (past .if1 .left)
     (simp (← computed .get-hs .ensures) (published .publish-wide .ensures))
 
@@ -49,7 +44,7 @@ pub get-hs-spec : {M : Type 1} → statement M
 get-hs-spec =
     tie.close
     (tie.spec
-    (λ c. search needs) (λ c. search needs) (λ c. search needs) (λ c κs. search needs)
+    (λ c. search needs) (λ c κs. search needs)
     returns
     get-hs-requires
     publish-wide-requires

@@ -1,9 +1,9 @@
 -- The entry is `three`'s of its name, which refuses kind 3 as the definition does. Assumes nothing.
 use mathlib.Core.Path.{_∙_}
-use Rattle.call_record.proofs.entries.ByKind.{combined-ds-shift-3D}
+use Rattle.call_record.proofs.in_place.ByKind.{combined-ds-shift-3D}
 use borrow.Author.Needs.{needs}
-use Rattle.call_record.proofs.entries.combined_ds_shift.Statement.{statement}
-use Rattle.call_record.proofs.entries.combined_ds_shift.Tie as tie
+use Rattle.call_record.proofs.in_place.combined_ds_shift.Statement.{statement}
+use Rattle.call_record.proofs.in_place.combined_ds_shift.Tie as tie
 
 returns : tie.Need-returns
 returns c = c .before .before .combined-ds-shift .ensures ∙ combined-ds-shift-3D _ _ _ _ _ _

@@ -1,10 +1,10 @@
 -- By kind, the entry is `wide_primal`'s or `three`'s of its name. Assumes nothing.
 use mathlib.Core.Path.{_∙_}
 use Rattle.cone.proofs.AskedKind.{wide-kind, other-kind}
-use Rattle.call_record.proofs.entries.ByKind.{gradient-primal-3D, gradient-primal-wide}
+use Rattle.call_record.proofs.in_place.ByKind.{gradient-primal-3D, gradient-primal-wide}
 use borrow.Author.Needs.{needs}
-use Rattle.call_record.proofs.entries.gradient_primal.Statement.{statement}
-use Rattle.call_record.proofs.entries.gradient_primal.Tie as tie
+use Rattle.call_record.proofs.in_place.gradient_primal.Statement.{statement}
+use Rattle.call_record.proofs.in_place.gradient_primal.Tie as tie
 
 returns : tie.Need-returns
 returns c =
@@ -14,7 +14,9 @@ returns c =
 returns-2 : tie.Need-returns-2
 returns-2 c =
     let called = c .before .before in
-    let by-kind = called .before .before .before .before in
+    -- the four arrays of kinds 1 and 2 are copied one by one
+    let copied = called .before .before .before in
+    let by-kind = copied .before .before .before .before in
     called .gradient-primal2 .ensures ∙ gradient-primal-3D _ (other-kind (by-kind .before .is-wide .ensures) (by-kind .if1 .left)) _ _
 
 pub gradient-primal-spec : {M : Type 1} → statement M

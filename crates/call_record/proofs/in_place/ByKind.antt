@@ -63,25 +63,38 @@ module _ (r : Scaling) (k : r .cone .kind ≡ 3 → ⊥) where
 -- ---- kind 3
 
 module _ (r : Scaling) (k : r .cone .kind ≡ 3) where
-  pub gradient-primal-wide : (g s : List Float) → primal.gradientPrimalOf r g s ≡ gradientPrimalOf r g s
+  pub gradient-primal-wide
+      : (g s : List Float)
+      → primal.gradientPrimalOf (r .cone .dim1) (r .cone .dim2) (r .cone .rule) (r .cone .exps) (r .wide) g s ≡ gradientPrimalOf r g s
   unfolding primal.gradientPrimalOf gradientPrimalOf gradientRows
   gradient-primal-wide g s = simp (eq-eqb _ _ k, cone-wide (r .cone) k, numel-wide (r .cone) k, record-wide r k)
 
-  pub barrier-primal-wide : (s : List Float) → primal.barrierPrimalOf r s ≡ barrierPrimalOf r s
+  pub barrier-primal-wide
+      : (s : List Float)
+      → primal.barrierPrimalOf (r .cone .dim1) (r .cone .dim2) (r .cone .rule) (r .cone .exps) (r .wide) s ≡ barrierPrimalOf r s
   unfolding primal.barrierPrimalOf barrierPrimalOf primalBarrierOf barrierRows judgedOf
   barrier-primal-wide s = simp (eq-eqb _ _ k, cone-wide (r .cone) k, numel-wide (r .cone) k, record-wide r k)
 
   pub compute-barrier-wide
       : (z s dz ds : List Float) (step : Float)
-      → wide.computeBarrierOf r z s dz ds step ≡ computeBarrierOf r z s dz ds step
+      → wide.computeBarrierOf (r .cone .dim1) (r .cone .dim2) (r .cone .rule) (r .cone .exps) (r .wide) z s dz ds step
+      ≡ computeBarrierOf r z s dz ds step
   unfolding wide.computeBarrierOf computeBarrierOf combinedBarrierOf computeRows judgedOf
   compute-barrier-wide z s dz ds step = simp (eq-eqb _ _ k, cone-wide (r .cone) k, numel-wide (r .cone) k, record-wide r k)
 
-  pub get-hs-wide : (serial : ℕ) (block : List Float) → wide.getHsOf r serial block ≡ getHsOf r serial block
+  pub get-hs-wide
+      : (serial : ℕ) (block : List Float)
+      → wide.getHsOf (r .cone .dim1) (r .cone .dim2) (r .cone .rule) (r .cone .exps) (r .wide)
+      (neverScaled r) (otherSerial serial r) block
+      ≡ getHsOf r serial block
   unfolding wide.getHsOf getHsOf blockRows
   get-hs-wide serial block = simp (eq-eqb _ _ k, cone-wide (r .cone) k, block-wide (r .cone) k, record-wide r k)
 
-  pub mul-hs-wide : (serial : ℕ) (y x : List Float) → wide.mulHsOf r serial y x ≡ mulHsOf r serial y x
+  pub mul-hs-wide
+      : (serial : ℕ) (y x : List Float)
+      → wide.mulHsOf (r .cone .dim1) (r .cone .dim2) (r .cone .rule) (r .cone .exps) (r .wide)
+      (neverScaled r) (otherSerial serial r) y x
+      ≡ mulHsOf r serial y x
   unfolding wide.mulHsOf mulHsOf productRows
   mul-hs-wide serial y x = simp (eq-eqb _ _ k, cone-wide (r .cone) k, numel-wide (r .cone) k, record-wide r k)
 

@@ -1,0 +1,47 @@
+-- 01: "For each, show that any two outcomes allowed by it agree": of the exports over a record where it lies. The record's nineteen parts
+-- stand before a call's own arguments. Assumes nothing.
+use mathlib.Core.Path.{_∙_, sym}
+use mathlib.Core.List.{List}
+use Prim.Native.Nat.{ℕ}
+use lib.Ieee.{Float}
+use denote.Ref.{now}
+use Rattle.arith.specs.Outcomes.{OneAnswer, OneOutcome}
+use Rattle.cone.specs.declared.Rounds.{Rounds}
+use Rattle.judges.proofs.Outcomes.{one}
+use Rattle.spindle.proofs.spindle_lent_update_scaling.Reads as update-scaling
+use Rattle.spindle.proofs.spindle_lent_gradient_primal.Reads as gradient-primal
+use Rattle.spindle.proofs.spindle_lent_barrier_primal.Reads as barrier-primal
+use Rattle.spindle.proofs.spindle_lent_compute_barrier.Reads as compute-barrier
+use Rattle.spindle.proofs.spindle_lent_get_hs.Reads as get-hs
+use Rattle.spindle.proofs.spindle_lent_mul_hs.Reads as mul-hs
+use Rattle.spindle.proofs.spindle_lent_higher_correction.Reads as higher-correction
+use Rattle.spindle.proofs.spindle_lent_combined_ds_shift.Reads as combined-ds-shift
+
+pub update-scaling-agrees : OneAnswer update-scaling.Post
+update-scaling-agrees κs a x y s t p q = p ∙ sym q
+
+pub gradient-primal-agrees : OneOutcome gradient-primal.Post {A = List Float}
+    (λ κs s. now (s .1 .1 .1 .1 .1 .1 .1 .1 .1 .1 .1 .1 .1 .1 .1 .1 .1 .1 .1 .0))
+gradient-primal-agrees κs a x y s t p q = one {A = Rounds} (p ∙ sym q)
+
+pub barrier-primal-agrees : OneAnswer barrier-primal.Post
+barrier-primal-agrees κs a x y s t p q = p ∙ sym q
+
+pub compute-barrier-agrees : OneAnswer compute-barrier.Post
+compute-barrier-agrees κs a x y s t p q = p ∙ sym q
+
+pub get-hs-agrees : OneOutcome get-hs.Post {A = List Float}
+    (λ κs s. now (s .1 .1 .1 .1 .1 .1 .1 .1 .1 .1 .1 .1 .1 .1 .1 .1 .1 .1 .1 .1 .0))
+get-hs-agrees κs a x y s t p q = one {A = ℕ} (p ∙ sym q)
+
+pub mul-hs-agrees : OneOutcome mul-hs.Post {A = List Float}
+    (λ κs s. now (s .1 .1 .1 .1 .1 .1 .1 .1 .1 .1 .1 .1 .1 .1 .1 .1 .1 .1 .1 .1 .0))
+mul-hs-agrees κs a x y s t p q = one {A = ℕ} (p ∙ sym q)
+
+pub higher-correction-agrees : OneOutcome higher-correction.Post {A = List Float}
+    (λ κs s. now (s .1 .1 .1 .1 .1 .1 .1 .1 .1 .1 .1 .1 .1 .1 .1 .1 .1 .1 .1 .1 .0))
+higher-correction-agrees κs a x y s t p q = one {A = ℕ} (p ∙ sym q)
+
+pub combined-ds-shift-agrees : OneOutcome combined-ds-shift.Post {A = List Float}
+    (λ κs s. now (s .1 .1 .1 .1 .1 .1 .1 .1 .1 .1 .1 .1 .1 .1 .1 .1 .1 .1 .1 .1 .0))
+combined-ds-shift-agrees κs a x y s t p q = one {A = ℕ} (p ∙ sym q)

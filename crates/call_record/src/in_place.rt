@@ -2,6 +2,9 @@
 // order, a number by its value and an array by its address, so that no record is copied. The calls of `entries`, which take a record by
 // value, lend it to these. What each does is chosen by the cone's kind before anything else: `blocks` and `three` judge, compute and
 // write for kinds 1 and 2, `wide_primal` and `wide` for kind 3.
+//
+// `own` is the record's serial, where a call names the one that it expects. `keptz` and `keptmu` are the record's z and μ for kind 3, where a
+// call may have a z and a μ of its own; `z3` and `grad3` are its z and gradient for kinds 1 and 2.
 ghost use mathlib.Core.Path.{_≡_};
 ghost use Rattle.call_record.specs.Parts.{tripleOf, wideOf, recordOf};
 ghost use Rattle.call_record.specs.entries.Entries.{gradientPrimalOf, barrierPrimalOf, computeBarrierOf, getHsOf, mulHsOf};

@@ -1,2 +1,3 @@
--- Serials count completed updates, and tell rounds apart.
+-- Serials count completed updates, and tell rounds apart; the same of the calls.
 pub mod Serials
+pub mod Calls

@@ -1,3 +1,4 @@
 pub mod Entries
 pub mod Rules
 pub mod Traces
+pub mod Calls

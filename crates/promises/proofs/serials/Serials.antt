@@ -16,6 +16,7 @@ use Rattle.cone.specs.table.Table.{settle}
 use Rattle.judges.specs.Refusals.{Lent, refuse}
 use Rattle.cone.proofs.table.Settled.{no-fault}
 use Rattle.call_cone.specs.formulas.Entries.{freshOf}
+use Rattle.call_search.proofs.single.Demand3.{let-through}
 use Rattle.call_record.proofs.update.Updates.{refused-keeps, completed-makes}
 use Rattle.call_record.specs.entries.Rows.{blockRows, productRows, correctionRows}
 use Rattle.call_record.specs.entries.Entries.{getHsOf, mulHsOf, higherCorrectionOf, combinedDsShiftOf}
@@ -69,10 +70,8 @@ counts = record {
 
 -- ---- rounds told apart
 
-let-through : (k : ℕ) (d : Lent ℕ) (old : List Float) → settle k d (refuse old) .answer ≡ 0 → k ≡ 0
-unfolding settle
-let-through zero d old e = refl
-let-through (suc k) d old e = absurd (omega (arith, e))
+rows-off : (k : ℕ) (d : Lent ℕ) (old : List Float) → settle k d (refuse old) .answer ≡ 0 → k ≡ 0
+rows-off k d old e = let-through (λ (l : Lent ℕ). l .answer) d (refuse old) (λ j. refl) k e
 
 same : (a b : ℕ) → not (eqb a b) ≡ false → a ≡ b
 same a b e = eqb-true _ _ (not-false _ e)
@@ -80,10 +79,10 @@ same a b e = eqb-true _ _ (not-false _ e)
 pub named : (r : Scaling) (serial : ℕ) → Named r serial
 unfolding getHsOf mulHsOf higherCorrectionOf combinedDsShiftOf blockRows productRows correctionRows
 named r serial = record {
-  block = λ b e. same _ _ (no-fault _ (let-through _ _ _ e) .serial);
-  product = λ y x e. same _ _ (no-fault _ (let-through _ _ _ e) .serial);
-  correction = λ η ds v e. same _ _ (no-fault _ (let-through _ _ _ e) .serial);
-  shift = λ out stepz steps σμ e. same _ _ (no-fault _ (let-through _ _ _ e) .serial);
+  block = λ b e. same _ _ (no-fault _ (rows-off _ _ _ e) .serial);
+  product = λ y x e. same _ _ (no-fault _ (rows-off _ _ _ e) .serial);
+  correction = λ η ds v e. same _ _ (no-fault _ (rows-off _ _ _ e) .serial);
+  shift = λ out stepz steps σμ e. same _ _ (no-fault _ (rows-off _ _ _ e) .serial);
 }
 
 module _ (r : Scaling) (gs : List Given) (h : 0 < completedIn r gs) where

@@ -23,7 +23,7 @@ use Rattle.kinds.specs.Answers.{expAnswer, powAnswer, genpowAnswer, answerIn, a
 use Rattle.kinds.specs.Passes.{passesIn}
 use Rattle.kinds.proofs.EachKind.{cone, each-kind}
 use Rattle.promises.specs.undecided.Parts.{signsOf, residueOf, marginOf}
-use Rattle.promises.specs.undecided.Laws.{Laws}
+use Rattle.promises.specs.undecided.Laws.{ThreeAnswers}
 use Rattle.promises.proofs.undecided.Unsigned.{unsigned, not-below-zero}
 use Rattle.promises.proofs.undecided.Boundless.{boundless}
 use Rattle.promises.proofs.undecided.Told.{boundless-undecided, nan-undecided, yes-before, no-before}
@@ -121,7 +121,7 @@ fails : (signs : Bool) (res margin : Float) → (signs ≡ true → T (boundless
 fails true res margin b = ap isYes (boundless-undecided true res margin refl (b refl))
 fails false res margin b = refl
 
-pub laws : (c : Cone) → coneOk c ≡ true → (primal : Bool) (p : List Float) → Laws c primal p
+pub laws : ThreeAnswers
 unfolding passesIn
 laws c ok primal p = record {
   told-by = f .made;

@@ -1,5 +1,5 @@
--- What Order 5 says of the answers that searches and entries ask for, `answerOf`, of a cone that row 1 lets through. Definitions only;
--- proofs/undecided/Laws proves it.
+-- What Order 5 says of the answers that searches and entries ask for, `answerOf`, of a cone that row 1 lets through. Statements only;
+-- proofs/undecided/Laws proves them.
 use mathlib.Core.Path.{_≡_}
 use mathlib.Core.Bool.{Bool, true, false}
 use mathlib.Core.List.{List}
@@ -11,7 +11,7 @@ use Rattle.cone.specs.declared.verdict.Answer.the-variants.{No, Yes, Undecided}
 use Rattle.cone.specs.verdict.Answers.{judged}
 use Rattle.cone.specs.declared.Cone.{Cone}
 use Rattle.cone.specs.Codes.{numelOf}
-use Rattle.judges.specs.Judges.{allFinite}
+use Rattle.judges.specs.Judges.{coneOk, allFinite}
 use Rattle.kinds.specs.Answers.{answerOf}
 use Rattle.kinds.specs.Passes.{passesIn}
 use Rattle.promises.specs.undecided.Parts.{signsOf, residueOf, marginOf, passedBefore}
@@ -34,3 +34,7 @@ pub record Laws (c : Cone) (primal : Bool) (p : List Float) : Type 0 where
   -- so that what is decided is decided as before: the order takes answers back and turns none round
   pub yes-before : answerOf c primal p ≡ Yes → passedBefore c primal p ≡ true
   pub no-before : answerOf c primal p ≡ No → passedBefore c primal p ≡ false
+
+-- the laws of every cone that row 1 lets through, on each side and at any point
+abbrev pub ThreeAnswers : Type 0
+ThreeAnswers = (c : Cone) → coneOk c ≡ true → (primal : Bool) (p : List Float) → Laws c primal p

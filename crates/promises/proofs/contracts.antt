@@ -1,0 +1,2 @@
+-- What a contract allows is what its definition makes.
+pub mod Defined

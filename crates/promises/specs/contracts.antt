@@ -1,0 +1,3 @@
+pub mod InPlace
+pub mod Allowed
+pub mod Defined

@@ -1,6 +1,5 @@
-// The public entries that take a scaling record, but for update_scaling. A call takes its cone from the record, so no second cone can
-// disagree. What each does is chosen by the cone's kind before anything else: `blocks` and `three` judge, compute and write for
-// kinds 1 and 2, `wide_primal` and `wide` for kind 3.
+// The public entries that take a scaling record by value, but for update_scaling. A call takes its cone from the record, so no second cone
+// can disagree. Each lends its record's parts to `in_place`.
 ghost use mathlib.Core.Path.{_≡_};
 ghost use Rattle.call_record.specs.entries.Entries.{gradientPrimalOf, barrierPrimalOf, computeBarrierOf, getHsOf, mulHsOf};
 ghost use Rattle.call_record.specs.entries.Entries.{higherCorrectionOf, combinedDsShiftOf};

@@ -1,5 +1,5 @@
-// replay FILE: the searches of a trace, run again. 02, Order 2. It reads, calls and writes; what it prints is `printedOf` of
-// `trace_replay::file`. The file, its text and the offsets lie on the stack.
+// replay FILE: the searches of a trace, run again. 02, Order 2. It reads, calls and writes; what it is to print is `printedOf`
+// of `trace_replay::file`. The file, its text and the offsets lie on the stack.
 ghost use mathlib.Core.Path.{_≡_};
 ghost use lib.ListN.{length};
 use libc::STDERR_FILENO;

@@ -1,5 +1,5 @@
-// rescue IN OUT [EDITION]: a cut trace rescued. 02, Orders 7 and 8. It reads, calls and writes; what it prints is `printedOf` and what it
-// writes `writtenOf` of trace_rescue::file. EDITION is the one that the new trace has where IN does not end in one: where it is needed and
+// rescue IN OUT [EDITION]: a cut trace rescued. 02, Orders 7 and 8. It reads, calls and writes; what it is to print is `printedOf` and what
+// it is to write `writtenOf` of trace_rescue::file. EDITION is the one that the new trace has where IN does not end in one: where it is needed and
 // not given, the program asks for it, and says what each would keep. OUT may be IN. It is left alone where IN is refused, where an edition is
 // asked for, and where no record would be kept of bytes that are there. The file, its text and the output lie on the stack.
 ghost use mathlib.Core.Path.{_≡_};

@@ -1,7 +1,7 @@
-// sheet FILE ..: the monthly sheet of traces, files numbered from 1 as given. 02, Order 14. It reads, calls and writes. By the
-// contract of `put_files` what it prints is the text of the sheet of as many files as it was given; that they are the files named, and in
-// their order, tests/traces checks. A file that cannot be read is
-// said in one line, and then no sheet is printed. One file at a time, the rows and the text lie on the stack.
+// sheet FILE ..: the monthly sheet of traces, files numbered from 1 as given. 02, Order 14. It reads, calls and writes. By its contract
+// `put_files` leaves the text of the sheet of as many files as it is told; that these are the files named, in their order, and that the text
+// is printed, tests/traces checks. A file that cannot be read is said in one line, and then no sheet is printed. One file at a time, the rows
+// and the text lie on the stack.
 ghost use mathlib.Core.Path.{_≡_};
 ghost use mathlib.Core.List.{[]};
 ghost use Prim.Native.Nat.{_≤_};

@@ -1,4 +1,5 @@
-// The face of the library, include/spindle.h: each export hands its arguments on.
+// The face of the library, include/spindle.h: each export hands its arguments on. Those over a lent record stand behind the header's calls
+// over a record in place.
 ghost use mathlib.Core.Path.{_≡_};
 ghost use Rattle.kernels.specs.Door.{sqrtOf, logOf, expOf, powfOf};
 ghost use Rattle.root.specs.table_root.Steps.{tableSqrtOf};

@@ -1,5 +1,5 @@
-// thin IN OUT: a trace without the records that are equal to an earlier one. 02, Order 13. It reads, calls and writes; what it prints is
-// `printedOf` and what it writes `writtenOf` of `trace_thin::file`. OUT is opened when all is known, and may be IN: a file that is refused
+// thin IN OUT: a trace without the records that are equal to an earlier one. 02, Order 13. It reads, calls and writes; what it is
+// to print is `printedOf` and what it is to write `writtenOf` of `trace_thin::file`. OUT is opened when all is known, and may be IN: a file that is refused
 // leaves it alone. The file, its text and the output lie on the stack.
 ghost use mathlib.Core.Path.{_≡_};
 ghost use lib.ListN.{length};

@@ -133,7 +133,8 @@ pub(crate) fn gather(output: &mut [u8], bytes: &[u8], places: &mut [u64], kept: 
 {
     let mut to = 0;
     for j in 0..kept {
-        let piece = piece_at(bytes, places[j] as usize);
+        let from = places[j] as usize;
+        let piece = piece_at(bytes, from);
         copy(output, to, piece);
         places[j] = to as u64;
         to += piece.len();

@@ -10,9 +10,14 @@ SONAME = "libspindle.so.1"
 # the first number of the versions that this module knows the structs of
 FIRST_NUMBER = 1
 
+# spindle_meaning of include/spindle.h, of the numbers that a search and a replay give
 MEANINGS = {
-    1: "bad cone", 2: "an array has another length than needed", 3: "an input number is NaN or infinite", 4: "bad settings",
-    8: "no room", 9: "no trace",
+    1: "bad cone: its kind, its rule, an exponent, a dim or the exponent sum is not allowed; or a plan of no cones or above 1,024",
+    2: "an array has another length than needed",
+    3: "an input number is NaN or infinite",
+    4: "the search start, step, smallest step or the strategy is not allowed",
+    8: "no room for what the trace, the sheet or its text would become or for the offsets; or 4,096 records or 1,000 files already",
+    9: "no trace, a record that breaks a trace's layout, an edition that is not known, or a sheet that no files can have",
 }
 
 

@@ -114,6 +114,14 @@ class Csv(unittest.TestCase):
                 self.assertEqual(back, [layout.value(bits(x)) for x in vector])
 
 
+class Sentences(unittest.TestCase):
+    def test_a_refusal_says_what_the_header_says(self):
+        header = (ROOT / "include" / "spindle.h").read_text(encoding="utf-8")
+        for number, sentence in spindle.library.MEANINGS.items():
+            self.assertIn('return "%s";' % sentence, header)
+            self.assertEqual(str(spindle.Refused(number)), "refused with %d: %s" % (number, sentence))
+
+
 class OverTheLibrary(unittest.TestCase):
     @classmethod
     def setUpClass(cls):

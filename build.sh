@@ -3,9 +3,9 @@
 #
 #   sh build.sh                     all of that
 #   sh build.sh --archive           the library alone, libspindle.a and libspindle.so.1; where it is fresh, nothing
-#   sh build.sh --programs          the programs over traces alone: replay, rescue, thin, sheet, each proved, and show
+#   sh build.sh --programs          the programs over traces alone: replay, rescue, thin, sheet and show
 #   sh build.sh --fresh             builds nothing: status 0 if the library is there and fresh, 1 if it is not
-#   sh build.sh --install PREFIX    header, libraries, files for pkg-config and CMake, programs, man pages and papers, below the folder PREFIX
+#   sh build.sh --install PREFIX    header, libraries, files for pkg-config and CMake, programs, man pages, papers and examples, below the folder PREFIX
 #   sh build.sh --uninstall PREFIX  removes what was installed there
 #   sh build.sh --package           the same files as target/package/spindle-VERSION-MACHINE.tar.gz, with its sha256 beside it
 #   sh build.sh --help              this text

@@ -11,7 +11,9 @@
    capacities, and a dense L D L'. docs/loop.md explains it. No point is used that was not tested. A plan ends only where the smooth
    problem's own conditions hold, too, in which no cone occurs.
 
-       cc -Iinclude examples/fairshare.c target/native/libspindle.a && ./a.out [TOLERANCE]     1e-6, if none is named */
+       cc -ffp-contract=off -Iinclude examples/fairshare.c target/native/libspindle.a && ./a.out [TOLERANCE]     1e-6, if none is named
+
+   Without -ffp-contract=off a compiler for Arm fuses products and sums, and the rounds are others than those of fairshare.stdout. */
 #include <spindle.h>
 #include <stdio.h>
 #include <stdlib.h>

@@ -25,13 +25,13 @@
 //! A call that is refused changes nothing that it was given: slices keep their contents, a record stays as it was. The numbers of a
 //! [`Refusal`] are those of the library's scope document. No call allocates, and none panics.
 //!
-//! The library runs on Linux, x86-64 or Arm (aarch64). Structs pass by value: a call with a [`Scaling`] copies its 2,744 bytes. A call
-//! takes at most 25 KB of stack on x86-64 and 34 KB on Arm, as bench/run measures it, with these exceptions: [`thin`] and
-//! [`thin_in_place`] take 66 KB, [`Trace::replay`] 42, [`rescue`] and [`Sheet::add`] 34, sealing a trace 33.
+//! The library runs on Linux, x86-64 or Arm (aarch64). A cone passes by value, 272 bytes; the methods of [`Scaling`] pass the record's
+//! address. A C call takes at most 23 KB of stack on either machine, as bench/run measures it, with these exceptions: [`thin`] and
+//! [`thin_in_place`] take 66 KB, [`Trace::replay`] 42, [`rescue`], [`Sheet::add`] and sealing a trace 33.
 //!
 //! Why the calls are safe to make: the library takes every number, length and code and answers all of them; a slice is passed as the pointer and
-//! length of a Rust slice, read or written within that length alone; and the borrows keep the slices of one call from overlapping, which is
-//! the one thing that the C face asks of its caller.
+//! length of a Rust slice, read or written within that length alone. The C face asks its caller that no buffer overlaps another array of its
+//! call, or the record, and that no other thread uses a record while it is updated. The borrows see to both.
 #![no_std]
 #![deny(missing_docs)]
 

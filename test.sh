@@ -2,8 +2,8 @@
 # Passes all tests of the repository. The last line is rt ci's own: 'N passed, 0 failed'.
 #
 #   sh test.sh            everything, from nothing
-#   sh test.sh --quick    only the checks of files: layout, lint, listed crates, floors, silent answers, lemmas of agreement, edits' form, shim, names, versions,
-#                         paths
+#   sh test.sh --quick    only the checks of files: layout, lint, listed crates, the longest chain of crates, proof answers that say nothing, lemmas of
+#                         agreement, edits' form, shim, numbers, names, versions, paths
 #   sh test.sh --outside  only what runs over the library as it is built for this machine: the C examples, the fixed list, the kernels, a gradient, exact points,
 #                         the traces, the programs over them with faults and in a wrong version, the comparison with the Rust, the Rust crate, the Python module, projects outside of the repository
 #   sh test.sh --help     this text

@@ -1,6 +1,6 @@
 -- A contract equates what a call answers and leaves with the definition that it cites: each case is that equation, as one of outcomes.
 -- Assumes nothing.
-use mathlib.Core.Path.{ap}
+use mathlib.Core.Path.{ap, sym, _∙_}
 use Prim.Native.Nat.{ℕ}
 use Rattle.cone.specs.declared.verdict.Verdict.{Verdict}
 use Rattle.cone.specs.declared.YesNo.{YesNo}
@@ -25,7 +25,7 @@ use Rattle.promises.specs.demand_one.Calls.{made}
 use Rattle.promises.specs.demand_one.Calls.{answered, common, both, wrote, opened, recorded, replayed, rescued, thinned, summed}
 use Rattle.promises.specs.demand_one.Calls.{printed}
 use Rattle.promises.specs.contracts.Allowed as allowed
-use Rattle.promises.specs.contracts.Defined.{AsDefined}
+use Rattle.promises.specs.contracts.Defined.{AsDefined, AllAgree}
 
 pub as-defined : AsDefined
 unfolding made call
@@ -72,3 +72,6 @@ as-defined _ _ (allowed.spindle-lent-get-hs _ _ _ _ p) = ap (λ (l : Lent ℕ). 
 as-defined _ _ (allowed.spindle-lent-mul-hs _ _ _ _ p) = ap (λ (l : Lent ℕ). answered (written l)) p
 as-defined _ _ (allowed.spindle-lent-higher-correction _ _ _ _ p) = ap (λ (l : Lent ℕ). answered (written l)) p
 as-defined _ _ (allowed.spindle-lent-combined-ds-shift _ _ _ _ p) = ap (λ (l : Lent ℕ). answered (written l)) p
+
+pub all-agree : AllAgree
+all-agree a o p h k = as-defined a o h ∙ sym (as-defined a p k)

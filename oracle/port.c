@@ -18,13 +18,11 @@ static double root_by_each_name(double x)
     return counted && !memcmp(&root, &plain, sizeof root) && !memcmp(&root, &table.root, sizeof root) ? root : -1;
 }
 
-/* A call over a record has two forms, by value and where the record lies. They take turns, so that each is compared. */
-static bool in_place;
+/* A call that reads the record, by value or where it lies. */
 #define OVER(name, ...) (in_place ? name##_in_place(&call->record, __VA_ARGS__) : name(call->record, __VA_ARGS__))
 
-void oracle_port(Call *call, Reply *reply)
+void oracle_port(Call *call, Reply *reply, uint32_t in_place)
 {
-    in_place = !in_place;
     SpindleCone cone = call->record.cone;
     SpindleSettings settings = {call->numbers[0], call->numbers[1], call->numbers[2]};
     switch (call->entry) {

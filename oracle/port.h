@@ -29,7 +29,9 @@ typedef struct {
 
 _Static_assert(sizeof(Call) == 4 + 4 + sizeof(SpindleScaling) + SLICES * (8 + 8 * ROOM) + 24, "Call is laid out as in types.rs");
 
-/* Makes the call: writes what it answers to the reply, and into the call's slices. */
-void oracle_port(Call *call, Reply *reply);
+/* Makes the call: writes what it answers to the reply, and into the call's slices. A call over a record has two forms, by value and in place, every other
+   call has one. An update in place is made on a copy of the record, and what it leaves there is the reply's record: so the call's own has its bits after
+   every call. */
+void oracle_port(Call *call, Reply *reply, uint32_t in_place);
 
 #endif

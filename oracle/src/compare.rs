@@ -1,5 +1,5 @@
-// The command: calls the port case by case, compares everything that comes back as bits with the expected answer, and stops at the first difference
-// with a call that it has made as small as it can.
+// The command: calls the port case by case, over a record in both forms, compares everything that comes back as bits with the expected answer, and
+// stops at the first difference with a call that it has made as small as it can.
 
 use crate::cases::{case, used, Case, FLAWS};
 use crate::cones::nonsymmetric_common::SEEN;
@@ -17,18 +17,19 @@ use crate::vectors;
 use alloc::vec::Vec;
 
 extern "C" {
-    fn oracle_port(call: *mut Call, reply: *mut Reply);
+    fn oracle_port(call: *mut Call, reply: *mut Reply, in_place: u32);
     fn seconds() -> u64;
 }
 
-fn ported(call: &Call) -> Answer {
+fn ported(call: &Call, in_place: bool) -> Answer {
     let mut lent = *call;
     let mut reply = Reply::ZERO;
-    unsafe { oracle_port(&mut lent, &mut reply) };
-    Answer { reply, slices: lent.slices }
+    unsafe { oracle_port(&mut lent, &mut reply, in_place as u32) };
+    Answer { reply, record: lent.record, slices: lent.slices }
 }
 
-// Every word of an answer under its name: the number, the values, the record with its unused places, each lent slice with its canaries.
+// Every word of an answer under its name: the number, the values, the record with its unused places, the caller's own record, which stays (port.h),
+// each lent slice with its canaries.
 pub fn words(call: &Call, answer: &Answer, f: &mut dyn FnMut(&str, &str, usize, u64)) {
     let reply = &answer.reply;
     f("number", "", 0, reply.code as u64);
@@ -43,15 +44,10 @@ pub fn words(call: &Call, answer: &Answer, f: &mut dyn FnMut(&str, &str, usize, 
         numbers_of("", &reply.three, &reply.wide, f);
     }
     if call.entry == FRESH || call.entry == UPDATE_SCALING {
-        let record = &reply.record;
-        f("record.", "kind", 0, record.cone.kind as u64);
-        f("record.", "dim1", 0, record.cone.dim1 as u64);
-        f("record.", "dim2", 0, record.cone.dim2 as u64);
-        f("record.", "rule", 0, record.cone.rule as u64);
-        each("record.", "exps", &record.cone.exps, f);
-        f("record.", "scaled", 0, record.scaled as u64);
-        f("record.", "serial", 0, record.serial as u64);
-        numbers_of("record.", &record.three, &record.wide, f);
+        record_of("record.", &reply.record, f);
+    }
+    if entry_of(call).takes_record {
+        record_of("the caller's record.", &answer.record, f);
     }
     for (i, (slice, &(name, _))) in answer.slices.iter().zip(entry_of(call).slices).enumerate() {
         let _ = i;
@@ -63,6 +59,17 @@ fn each(of: &str, name: &str, numbers: &[f64], f: &mut dyn FnMut(&str, &str, usi
     for (i, x) in numbers.iter().enumerate() {
         f(of, name, i, x.to_bits());
     }
+}
+
+fn record_of(of: &str, record: &Scaling, f: &mut dyn FnMut(&str, &str, usize, u64)) {
+    f(of, "kind", 0, record.cone.kind as u64);
+    f(of, "dim1", 0, record.cone.dim1 as u64);
+    f(of, "dim2", 0, record.cone.dim2 as u64);
+    f(of, "rule", 0, record.cone.rule as u64);
+    each(of, "exps", &record.cone.exps, f);
+    f(of, "scaled", 0, record.scaled as u64);
+    f(of, "serial", 0, record.serial as u64);
+    numbers_of(of, &record.three, &record.wide, f);
 }
 
 fn numbers_of(of: &str, three: &Three, wide: &Wide, f: &mut dyn FnMut(&str, &str, usize, u64)) {
@@ -94,13 +101,19 @@ fn alike(call: &Call, wanted: &Answer, given: &Answer) -> bool {
     a == b
 }
 
-fn differs(call: &Call) -> bool {
-    !same(call, &expected(call), &ported(call))
+fn differs(call: &Call, in_place: bool) -> bool {
+    !same(call, &expected(call), &ported(call, in_place))
 }
 
-// ---- a smaller call that still differs
+// The first form of the call that differs, by value or in place. A call over a record has both.
+fn different_form(call: &Call, wanted: &Answer) -> Option<bool> {
+    let forms: &[bool] = if entry_of(call).takes_record { &[false, true] } else { &[false] };
+    forms.iter().copied().find(|&in_place| !same(call, wanted, &ported(call, in_place)))
+}
 
-fn shrunk(mut call: Call) -> Call {
+// ---- a smaller call that still differs in this form
+
+fn shrunk(mut call: Call, in_place: bool) -> Call {
     for _ in 0..4 {
         let mut changed = false;
         // a record as fresh, or its unused places +0
@@ -112,7 +125,7 @@ fn shrunk(mut call: Call) -> Call {
         for candidate in [Scaling { cone, scaled, serial, ..Scaling::ZERO }, plain.record] {
             let mut smaller = call;
             smaller.record = candidate;
-            if bits_of(&smaller.record) != bits_of(&call.record) && differs(&smaller) {
+            if bits_of(&smaller.record) != bits_of(&call.record) && differs(&smaller, in_place) {
                 call = smaller;
                 changed = true;
             }
@@ -140,7 +153,7 @@ fn shrunk(mut call: Call) -> Call {
                     }
                     i += 1;
                 });
-                if differs(&smaller) {
+                if differs(&smaller, in_place) {
                     call = smaller;
                     changed = true;
                     break;
@@ -203,10 +216,11 @@ fn simpler(x: f64) -> [f64; 10] {
 
 // ---- what is written
 
-fn say_call(call: &Call) {
+fn say_call(call: &Call, in_place: bool) {
     let entry = entry_of(call);
     say::text("call spindle_");
-    say::line(entry.name);
+    say::text(entry.name);
+    say::line(if in_place { ", in place" } else { "" });
     if call.entry < SQRT && call.entry != HOUSE_SETTINGS {
         let cone = &call.record.cone;
         say::text("  cone kind ");
@@ -274,9 +288,9 @@ fn say_number(name: &str, i: usize, x: f64) {
     say::line("");
 }
 
-fn say_difference(call: &Call) {
-    let (wanted, given) = (expected(call), ported(call));
-    say_call(call);
+fn say_difference(call: &Call, in_place: bool) {
+    let (wanted, given) = (expected(call), ported(call, in_place));
+    say_call(call, in_place);
     if call.entry >= SQRT {
         say::text("  breaks the kernel's rules: given ");
         say::double(given.reply.values[0]);
@@ -488,22 +502,24 @@ pub extern "C" fn oracle_main(count: i32, words: *const *const u8) -> i32 {
     let mut undecided = 0;
     let mut limits: Limits = [[[[0; 2]; 24]; 2]; sums::SUMS];
     let started = unsafe { seconds() };
-    let rows = sums::rows();
-    for (i, call) in rows.iter().enumerate().filter(|(_, call)| options.entry.map_or(true, |entry| entry == call.entry)) {
-        let wanted = expected(call);
-        if !same(call, &wanted, &ported(call)) {
-            return different("row", i as u64, *call);
+    let (mut rows, mut over_records) = (0, 0);
+    for (i, call) in sums::rows().into_iter().enumerate().filter(|(_, call)| options.entry.map_or(true, |entry| entry == call.entry)) {
+        let wanted = expected(&call);
+        if let Some(in_place) = different_form(&call, &wanted) {
+            return different("row", i as u64, call, in_place);
         }
-        limits_of(&mut limits, call, &wanted);
+        limits_of(&mut limits, &call, &wanted);
+        rows += 1;
+        over_records += entry_of(&call).takes_record as u64;
     }
     for i in 0..options.calls {
         let Case { call, flaws, .. } = case(&mut source(&options, i), options.entry);
         let wanted = expected(&call);
-        let given = ported(&call);
-        if !same(&call, &wanted, &given) {
-            return different("call", i, call);
+        if let Some(in_place) = different_form(&call, &wanted) {
+            return different("call", i, call, in_place);
         }
         limits_of(&mut limits, &call, &wanted);
+        over_records += entry_of(&call).takes_record as u64;
         let kind = if call.record.cone.kind < 4 { call.record.cone.kind as usize } else { 0 };
         tally[call.entry as usize][kind][wanted.reply.code as usize] += 1;
         for a in 1..NUMBERS {
@@ -544,8 +560,10 @@ pub extern "C" fn oracle_main(count: i32, words: *const *const u8) -> i32 {
     say::text("same: ");
     say::whole(options.calls);
     say::text(" calls and ");
-    say::whole(rows.len() as u64);
-    say::text(" rows of both rules, seed ");
+    say::whole(rows);
+    say::text(" rows, ");
+    say::whole(over_records);
+    say::text(" of them over a record and in both forms, seed ");
     say::whole(options.seed);
     say::text(", ");
     say::whole(unsafe { seconds() } - started);
@@ -554,15 +572,15 @@ pub extern "C" fn oracle_main(count: i32, words: *const *const u8) -> i32 {
 }
 
 // What a difference is told by: the call as it was, and made smaller.
-fn different(what: &str, at: u64, call: Call) -> i32 {
+fn different(what: &str, at: u64, call: Call, in_place: bool) -> i32 {
     say::text("DIFFERENT at ");
     say::text(what);
     say::text(" ");
     say::whole(at);
     say::line("");
-    say_difference(&call);
+    say_difference(&call, in_place);
     say::line("made smaller:");
-    say_difference(&shrunk(call));
+    say_difference(&shrunk(call, in_place), in_place);
     say::flush();
     1
 }

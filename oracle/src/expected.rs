@@ -148,7 +148,7 @@ fn refusal(call: &Call, code: u32) -> Answer {
     if call.entry == UPDATE_SCALING {
         reply.record = call.record;
     }
-    Answer { reply, slices: call.slices }
+    Answer { reply, record: call.record, slices: call.slices }
 }
 
 pub fn expected(call: &Call) -> Answer {
@@ -159,7 +159,7 @@ pub fn expected(call: &Call) -> Answer {
     if code != 0 {
         return refusal(call, code);
     }
-    let mut answer = Answer { reply: Reply::ZERO, slices: call.slices };
+    let mut answer = Answer { reply: Reply::ZERO, record: call.record, slices: call.slices };
     let mut oracle = Oracle::of(&call.record.cone, &call.record);
     if panics(&mut || run(call, &mut oracle, &mut answer)) {
         return refusal(call, 6);
@@ -291,7 +291,7 @@ fn run(call: &Call, oracle: &mut Oracle, answer: &mut Answer) {
 
 // House settings and the kernels refuse nothing. A kernel is held to document 01's rules by rules.rs, its bits are its own.
 fn plain(call: &Call) -> Answer {
-    let mut answer = Answer { reply: Reply::ZERO, slices: call.slices };
+    let mut answer = Answer { reply: Reply::ZERO, record: call.record, slices: call.slices };
     if call.entry == HOUSE_SETTINGS {
         answer.reply.values = [call.numbers[0], 0.5, 0.0001];
     }

@@ -129,10 +129,11 @@ impl Reply {
         Reply { code: 0, answer: 0, counts: [0; 2], values: [0.0; 3], three: Three::ZERO, wide: Wide::ZERO, record: Scaling::ZERO };
 }
 
-// What a call leaves: its answer and every lent slice with the canaries beside it.
+// What a call leaves: its answer, the caller's record, and every lent slice with the canaries beside it.
 #[derive(Clone, Copy)]
 pub struct Answer {
     pub reply: Reply,
+    pub record: Scaling,
     pub slices: [Slice; SLICES],
 }
 

@@ -22,7 +22,7 @@ use crate::types::*;
 use alloc::vec::Vec;
 
 extern "C" {
-    fn oracle_port(call: *mut Call, reply: *mut Reply);
+    fn oracle_port(call: *mut Call, reply: *mut Reply, in_place: u32);
     fn file_open(name: *const u8) -> u32;
     fn file_words(words: *const u64, count: usize);
     fn file_close() -> u32;
@@ -166,7 +166,7 @@ pub fn chosen(seed: u64, all: Option<u64>) -> Vec<(Call, Answer)> {
         if call.entry >= SQRT {
             // a kernel's answer is its own
             let mut lent = call;
-            unsafe { oracle_port(&mut lent, &mut answer.reply) };
+            unsafe { oracle_port(&mut lent, &mut answer.reply, 0) };
         }
         let kind = (call.record.cone.kind as usize).min(3) * (call.record.cone.kind < 4) as usize;
         let (entry, code) = (call.entry as usize, answer.reply.code as usize);

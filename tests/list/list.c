@@ -1,5 +1,6 @@
 /* Makes every call of the fixed list (crates/run_oracle/stdin) through include/spindle.h and compares each word that comes back with the oracle's answer in
-   the list: number, answer, counts, values, the record with its unused places, each array. oracle/src/vectors.rs says how the list is laid out.
+   the list: number, answer, counts, values, the record with its unused places, each array. oracle/src/vectors.rs says how the list is laid out. A call over
+   a record is made by value and in place.
 
    list FILE    prints `same N of M`, and the place of each call that differs; status 0 if all are the same. */
 #include "port.h"
@@ -7,7 +8,7 @@
 #include <stdlib.h>
 #include <string.h>
 
-enum { FRESH = 0, DUAL_GRAD_H = 4, UPDATE_SCALING = 12 };
+enum { FRESH = 0, DUAL_GRAD_H = 4, UPDATE_SCALING = 12, COMBINED_DS_SHIFT = 19 };
 
 /* Which arrays a call writes, by its entry: r is read, w is written. */
 static const char *const ARRAYS[] = {"",   "r",  "r", "r",    "r", "",   "rrw", "rrrrww", "ww", "wr", "wr", "wrr",
@@ -66,12 +67,22 @@ static void record_numbers(SpindleScaling *record)
     numbers(&record->wide.d2, 1);
 }
 
-static bool same_call(void)
+static bool same_form(const Call *call, const Call *after, const Reply *expected, bool in_place)
+{
+    Call made = *call;
+    Reply got;
+    memset(&got, 0, sizeof got);
+    oracle_port(&made, &got, in_place);
+    /* Call and Reply have no padding */
+    return memcmp(&made, after, sizeof made) == 0 && memcmp(&got, expected, sizeof got) == 0;
+}
+
+/* Makes the next call of the list. Hands back in which form it differs, or 0 where it does in none. */
+static const char *difference(void)
 {
     static Call call;
-    static Reply got, expected;
+    static Reply expected;
     memset(&call, 0, sizeof call);
-    memset(&got, 0, sizeof got);
     memset(&expected, 0, sizeof expected);
 
     word();
@@ -118,9 +129,10 @@ static bool same_call(void)
     for (uint64_t i = 0; i < n; i++)
         if (arrays[i] == 'w') numbers(after.slices[i].room + BEFORE, after.slices[i].len);
 
-    oracle_port(&call, &got);
-    /* Call and Reply have no padding but where both are zero */
-    return memcmp(&call, &after, sizeof call) == 0 && memcmp(&got, &expected, sizeof got) == 0;
+    if (!same_form(&call, &after, &expected, false)) return "";
+    if (call.entry < UPDATE_SCALING || call.entry > COMBINED_DS_SHIFT) return 0;
+    if (!same_form(&call, &after, &expected, true)) return ", in place";
+    return 0;
 }
 
 int oracle_main(int words, char **each)
@@ -131,10 +143,11 @@ int oracle_main(int words, char **each)
     }
     uint64_t all = word(), same = 0;
     for (uint64_t i = 0; i < all; i++) {
-        if (same_call())
-            same++;
+        const char *form = difference();
+        if (form)
+            printf("differs: %llu%s\n", (unsigned long long)i, form);
         else
-            printf("differs: %llu\n", (unsigned long long)i);
+            same++;
     }
     if (fgetc(list) != EOF) {
         fprintf(stderr, "list: there is more behind the last call\n");

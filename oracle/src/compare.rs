@@ -7,6 +7,7 @@ use crate::expected::expected;
 use crate::margins;
 use crate::mutants;
 use crate::paper;
+use crate::parts;
 use crate::plans;
 use crate::random::Random;
 use crate::rules;
@@ -503,7 +504,8 @@ pub extern "C" fn oracle_main(count: i32, words: *const *const u8) -> i32 {
     let mut limits: Limits = [[[[0; 2]; 24]; 2]; sums::SUMS];
     let started = unsafe { seconds() };
     let (mut rows, mut over_records) = (0, 0);
-    for (i, call) in sums::rows().into_iter().enumerate().filter(|(_, call)| options.entry.map_or(true, |entry| entry == call.entry)) {
+    let all_rows = sums::rows().into_iter().chain(parts::rows());
+    for (i, call) in all_rows.enumerate().filter(|(_, call)| options.entry.map_or(true, |entry| entry == call.entry)) {
         let wanted = expected(&call);
         if let Some(in_place) = different_form(&call, &wanted) {
             return different("row", i as u64, call, in_place);

@@ -17,6 +17,7 @@ mod expected;
 mod margins;
 mod mutants;
 mod paper;
+mod parts;
 mod plans;
 mod random;
 mod rules;

@@ -2,6 +2,7 @@
 // oracle itself is held to it before it judges the port.
 
 use crate::expected::expected;
+use crate::parts;
 use crate::say;
 use crate::sums;
 use crate::types::*;
@@ -101,6 +102,10 @@ pub fn holds() -> bool {
     }
     if !sums::holds() {
         say::line("the oracle does not judge rules and exponent sums as document 02's Order 9 says");
+        all = false;
+    }
+    if !parts::holds() {
+        say::line("the oracle does not refuse a NaN in a record's part with 3");
         all = false;
     }
     // omega of 1, in the text itself

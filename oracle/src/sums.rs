@@ -41,7 +41,7 @@ pub fn crumbled(exps: &mut [f64], sum: f64, before: bool) {
     exps[from + 1] = sum - 0.5;
 }
 
-fn generalized(exps: &[f64], rule: u32) -> Cone {
+pub fn generalized(exps: &[f64], rule: u32) -> Cone {
     let mut cone = Cone { kind: 3, dim1: exps.len() as u32, dim2: 1, rule, ..Cone::ZERO };
     cone.exps[..exps.len()].copy_from_slice(exps);
     cone
@@ -65,7 +65,8 @@ fn inside(cone: &Cone) -> [f64; MOST] {
     if cone.kind == 1 {
         x[..3].copy_from_slice(&[-1.0, 0.5, 1.0]);
     } else {
-        x[length_of(cone) - 1] = 0.25;
+        let tail = if cone.kind == 3 { cone.dim1 as usize } else { 2 };
+        x[tail..length_of(cone)].fill(0.25);
     }
     x
 }

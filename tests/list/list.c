@@ -1,9 +1,10 @@
 /* Makes every call of the fixed list (crates/run_oracle/stdin) through include/spindle.h and compares each word that comes back with the oracle's answer in
    the list: number, answer, counts, values, the record with its unused places, each array. oracle/src/vectors.rs says how the list is laid out. A call over
-   a record is made by value and in place.
+   a record is made by value and in place. Where it is carried out, it is made again with a NaN in q, r and d1 of its record.
 
    list FILE    prints `same N of M`, and the place of each call that differs; status 0 if all are the same. */
 #include "port.h"
+#include <math.h>
 #include <stdio.h>
 #include <stdlib.h>
 #include <string.h>
@@ -77,6 +78,25 @@ static bool same_form(const Call *call, const Call *after, const Reply *expected
     return memcmp(&made, after, sizeof made) == 0 && memcmp(&got, expected, sizeof got) == 0;
 }
 
+/* q, r and d1 of kind 3 have 32 places each, of which dim1, dim2 and dim1 are used. A call that takes one of them for another judges it to the other's length:
+   where that is less, it misses a NaN in the last place that is used, for which 3 is due. */
+static bool same_with_nan(const Call *call)
+{
+    uint32_t head = call->record.cone.dim1, tail = call->record.cone.dim2;
+    for (int part = 0; part < 3; part++) {
+        Call made = *call;
+        SpindleWide *wide = &made.record.wide;
+        double *const last[] = {&wide->q[head - 1], &wide->r[tail - 1], &wide->d1[head - 1]};
+        *last[part] = NAN;
+        Reply refused;
+        memset(&refused, 0, sizeof refused);
+        refused.code = 3;
+        if (call->entry == UPDATE_SCALING) refused.record = made.record;
+        if (!same_form(&made, &made, &refused, false) || !same_form(&made, &made, &refused, true)) return false;
+    }
+    return true;
+}
+
 /* Makes the next call of the list. Hands back in which form it differs, or 0 where it does in none. */
 static const char *difference(void)
 {
@@ -132,6 +152,8 @@ static const char *difference(void)
     if (!same_form(&call, &after, &expected, false)) return "";
     if (call.entry < UPDATE_SCALING || call.entry > COMBINED_DS_SHIFT) return 0;
     if (!same_form(&call, &after, &expected, true)) return ", in place";
+    if (expected.code != 0) return 0;
+    if (cone->kind == 3 && !same_with_nan(&call)) return ", with a NaN in q, r or d1";
     return 0;
 }
 

@@ -1,6 +1,7 @@
 /* Makes every call of the fixed list (crates/run_oracle/stdin) through include/spindle.h and compares each word that comes back with the oracle's answer in
    the list: number, answer, counts, values, the record with its unused places, each array. oracle/src/vectors.rs says how the list is laid out. A call over
-   a record is made by value and in place. Where it is carried out, it is made again with a NaN in q, r and d1 of its record.
+   a record is made by value and in place. Where it is carried out, it is made again with a NaN in q, r and d1 of its record, and an update in place with s
+   and z in the record that it writes.
 
    list FILE    prints `same N of M`, and the place of each call that differs; status 0 if all are the same. */
 #include "port.h"
@@ -97,6 +98,20 @@ static bool same_with_nan(const Call *call)
     return true;
 }
 
+/* s and z of an update in place may lie in the record that it writes: here they stand where its gradient and z were. Of the old record only cone and serial
+   count, so the new one is that of an update with s and z apart. */
+static bool same_from_record(const Call *call, const SpindleScaling *updated)
+{
+    SpindleScaling record = call->record;
+    bool wide = record.cone.kind == 3;
+    double *s = wide ? record.wide.grad : record.three.grad, *z = wide ? record.wide.z : record.three.z;
+    size_t n = call->slices[0].len;
+    memcpy(s, call->slices[0].room + BEFORE, n * sizeof *s);
+    memcpy(z, call->slices[1].room + BEFORE, n * sizeof *z);
+    uint32_t code = spindle_update_scaling_in_place(&record, s, n, z, n, call->numbers[0], call->option);
+    return code == 0 && memcmp(&record, updated, sizeof record) == 0;
+}
+
 /* Makes the next call of the list. Hands back in which form it differs, or 0 where it does in none. */
 static const char *difference(void)
 {
@@ -154,6 +169,7 @@ static const char *difference(void)
     if (!same_form(&call, &after, &expected, true)) return ", in place";
     if (expected.code != 0) return 0;
     if (cone->kind == 3 && !same_with_nan(&call)) return ", with a NaN in q, r or d1";
+    if (call.entry == UPDATE_SCALING && !same_from_record(&call, &back)) return ", in place with s and z in the record";
     return 0;
 }
 

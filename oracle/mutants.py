@@ -78,9 +78,12 @@ def wrong_ports(text, work, calls, only):
         if made.returncode:
             stop(f"the wrong port could not be built: {name}")
         ran = subprocess.run([native, "run", program, "--calls", str(calls)], capture_output=True, text=True)
-        at = re.search(r"DIFFERENT at ((?:call|row|plan) \d+)", ran.stdout)
+        at = re.search(r"DIFFERENT at ((?:call|row|plan) \d+)(?:\ncall \w+(, in place)?)?", ran.stdout)
+        # where no place differs, the call that is shown is not the one that was refused
+        if "  0 places differ" in ran.stdout:
+            at = None
         unseen += not at
-        print(f"refused at {at.group(1)}: {name}" if at else f"NOT REFUSED: {name}", flush=True)
+        print(f"refused at {at[1]}{at[2] or ''}: {name}" if at else f"NOT REFUSED: {name}", flush=True)
     print(f"{len(listed)} wrong ports, {len(listed) - unseen} refused, {unseen} not, at most {calls} calls")
     return unseen
 

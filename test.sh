@@ -156,6 +156,7 @@ printf '%s\n' "$listed" | tail -n 1
 
 say "the C between the proved module and a caller (tools/shim)"
 tools/test-shim >/dev/null || die "tools/test-shim failed"
+tools/shim --check || die "a call over a record's parts takes them otherwise than include/spindle.h has them"
 
 say "docs/PROMISES.md and the header's comments name the numbers of the proved table"
 tools/numbers --check || die "docs/PROMISES.md or include/spindle.h differs from the proved table of numbers"

@@ -158,8 +158,8 @@ say "the C between the proved module and a caller (tools/shim)"
 tools/test-shim >/dev/null || die "tools/test-shim failed"
 tools/shim --check || die "a call over a record's parts takes them otherwise than include/spindle.h has them"
 
-say "docs/PROMISES.md and the header's comments name the numbers of the proved table"
-tools/numbers --check || die "docs/PROMISES.md or include/spindle.h differs from the proved table of numbers"
+say "docs/PROMISES.md and the header's comments name the numbers of the proved table; every call that can refuse is among what the contracts allow"
+tools/numbers --check || die "a table of numbers, or the calls that the theorems speak of, differ from the library's"
 
 say "every edit and every name of the code that the papers cite is there"
 tools/named || die "a paper names what is not there"

@@ -56,12 +56,14 @@ outside() {
     cc -ffreestanding -nostdinc -isystem "$(cc -print-file-name=include)" -std=c99 -fsyntax-only -x c include/spindle.h \
         || die "include/spindle.h needs more than a freestanding compiler's headers"
 
-    say "what the header refuses: another machine, 32 bits, the other order of bytes"
+    say "what the header refuses: another machine, 32 bits, the other order of bytes, packed structs"
     for words in -U__x86_64__\ -U__aarch64__ -D__ILP32__ -U__BYTE_ORDER__\ -D__BYTE_ORDER__=__ORDER_BIG_ENDIAN__ -D_WIN32 -D__APPLE__; do
         # shellcheck disable=SC2086
         if cc $words -fsyntax-only -x c include/spindle.h 2>target/log/refused.txt; then die "include/spindle.h takes $words"; fi
         grep -q '#error "spindle.h: the library is built for' target/log/refused.txt || die "include/spindle.h does not say why it refuses $words"
     done
+    if cc -std=c11 -fpack-struct -fsyntax-only -x c include/spindle.h 2>target/log/refused.txt; then die "include/spindle.h takes packed structs"; fi
+    grep -q 'begins at byte 8' target/log/refused.txt || die "include/spindle.h does not say why it refuses packed structs"
 
     say "the fixed list over each form of the library (tests/list/run)"
     tests/list/run

@@ -1,4 +1,6 @@
 //! The functions of include/spindle.h that this crate calls, declared in Rust, with the structs that no caller sees.
+use core::mem::{offset_of, size_of};
+
 use crate::kernels::Root;
 use crate::{Cone, Recorded, Scaling, Settings, Three, Wide};
 
@@ -14,13 +16,15 @@ pub struct Verdict {
     pub answer: u32,
 }
 
-const _: () = assert!(core::mem::size_of::<Verdict>() == 8);
+const _: () = assert!(size_of::<Verdict>() == 8);
 
 #[repr(C)]
 pub struct Number {
     pub code: u32,
     pub value: f64,
 }
+
+const _: () = assert!(size_of::<Number>() == 16 && offset_of!(Number, value) == 8);
 
 #[repr(C)]
 pub struct Rounds {
@@ -58,6 +62,8 @@ pub struct Updated {
     pub record: Scaling,
 }
 
+const _: () = assert!(size_of::<Updated>() == 2752 && offset_of!(Updated, record) == 8);
+
 #[repr(C)]
 pub struct Written {
     pub code: u32,
@@ -88,7 +94,7 @@ pub struct Rescued {
     pub right: bool,
 }
 
-const _: () = assert!(core::mem::size_of::<Root>() == 16);
+const _: () = assert!(size_of::<Root>() == 16);
 
 #[repr(C)]
 pub struct Thinned {

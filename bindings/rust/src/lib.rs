@@ -41,6 +41,8 @@ mod sheet;
 mod trace;
 mod trouble;
 
+use core::mem::{offset_of, size_of};
+
 pub use plan::{Parts, Plan, MOST_CONES};
 pub use sheet::{Most, Sheet, Side, MOST_FILES, SHEET_TEXT};
 pub use trace::{
@@ -321,7 +323,7 @@ pub struct Cone {
 }
 
 // the C struct's size, and where its rule stands
-const _: () = assert!(core::mem::size_of::<Cone>() == 272 && core::mem::offset_of!(Cone, rule) == 12);
+const _: () = assert!(size_of::<Cone>() == 272 && offset_of!(Cone, rule) == 12);
 
 impl Cone {
     /// The exponential cone, under the newer rule.
@@ -595,6 +597,13 @@ pub struct Wide {
     pub d2: f64,
 }
 
+// the C structs' sizes, and where their parts stand
+const _: () = assert!(size_of::<Three>() == 144 && offset_of!(Three, grad) == 24);
+const _: () = assert!(offset_of!(Three, h_dual) == 48 && offset_of!(Three, hs) == 96);
+const _: () = assert!(size_of::<Wide>() == 2320 && offset_of!(Wide, mu) == 512 && offset_of!(Wide, grad) == 520);
+const _: () = assert!(offset_of!(Wide, p) == 1032 && offset_of!(Wide, q) == 1544 && offset_of!(Wide, r) == 1800);
+const _: () = assert!(offset_of!(Wide, d1) == 2056 && offset_of!(Wide, d2) == 2312);
+
 /// The gradient and Hessian of the dual barrier: `three` for kinds 1 and 2, `wide` for kind 3; the other is +0.
 #[derive(Clone, Copy, Debug, PartialEq)]
 pub struct DualGradient {
@@ -654,6 +663,10 @@ pub struct Scaling {
     three: Three,
     wide: Wide,
 }
+
+// the calls in place take the record apart where C has its parts
+const _: () = assert!(size_of::<Scaling>() == 2744 && offset_of!(Scaling, scaled) == 272 && offset_of!(Scaling, serial) == 276);
+const _: () = assert!(offset_of!(Scaling, three) == 280 && offset_of!(Scaling, wide) == 424);
 
 impl Scaling {
     /// The cone that the record was made for.

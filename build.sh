@@ -11,7 +11,8 @@
 #   sh build.sh --help              this text
 #
 # --install looks at two variables: LIBDIR, the folder of the libraries below PREFIX (lib), and DESTDIR, a folder that stands before PREFIX while the
-# files are put there. --uninstall looks at DESTDIR; the list of what was installed tells it the rest.
+# files are put there. --uninstall looks at DESTDIR; the list of what was installed tells it the rest. By that list --install also removes what another
+# version put there and this one has not.
 # The library is fresh if it is the one last built here, by this kit, from the library's files as they are now (by their sums, not their dates).
 # Exit status 0: done; 1: something was not proved or not built; 2: bad usage, or a command is missing.
 set -eu
@@ -136,6 +137,24 @@ put() {
     echo "build: $place"
 }
 
+# lead PATH TARGET: a link as PATH below the prefix, and its line in the list
+lead() {
+    mkdir -p "$(dirname "$DESTDIR$prefix/$1")"
+    ln -sf "$2" "$DESTDIR$prefix/$1"
+    echo "$1" >>"$list"
+}
+
+# remove_files: the paths that are read, below $DESTDIR$prefix
+remove_files() {
+    while IFS= read -r path; do
+        rm -f "$DESTDIR$prefix/$path"
+        echo "build: removed $DESTDIR$prefix/$path"
+        # its folders, as far up as they are empty
+        folder=$(dirname "$path")
+        while [ "$folder" != . ] && rmdir "$DESTDIR$prefix/$folder" 2>/dev/null; do folder=$(dirname "$folder"); done
+    done
+}
+
 # install_files: everything, below $DESTDIR$prefix
 install_files() {
     list=target/install/files
@@ -188,14 +207,17 @@ EOF
     put include/spindle.h include/spindle.h
     put "$libdir/libspindle.a" $native/libspindle.a
     put "$libdir/libspindle.so.1" $native/libspindle.so.1 755
-    ln -sf libspindle.so.1 "$DESTDIR$prefix/$libdir/libspindle.so"
-    echo "$libdir/libspindle.so" >>$list
+    lead "$libdir/libspindle.so" libspindle.so.1
     put "$libdir/pkgconfig/spindle.pc" target/install/spindle.pc
     for file in spindle-config.cmake spindle-config-version.cmake; do put "$libdir/cmake/spindle/$file" target/install/$file; done
     put bin/spindle tools/spindle 755
     for program in $programs show; do put "libexec/spindle/$program" "$native/$program" 755; done
     for page in man/*.[1-9]; do put "share/man/man${page##*.}/${page#man/}" "$page"; done
-    for paper in README.md LICENSE NOTICE CHANGELOG.md docs/01-scope.md docs/PROMISES.md docs/DIFFERENCES.md docs/FINDINGS.md docs/traces.md; do put "share/doc/spindle/${paper#docs/}" "$paper"; done
+    # the papers stand to each other as they do here, so that their links hold
+    for paper in README.md LICENSE NOTICE CHANGELOG.md docs/*.md docs/*.txt docs/orders/*.md examples/*.c examples/*.rs examples/*.sh examples/*.stdout; do
+        put "share/doc/spindle/$paper" "$paper"
+    done
+    lead share/doc/spindle/include/spindle.h ../../../../include/spindle.h
     put share/doc/spindle/files $list
 }
 
@@ -227,21 +249,16 @@ all)
 --install)
     build_archive
     build_programs
+    cat "$DESTDIR$prefix/share/doc/spindle/files" >target/log/earlier.txt 2>/dev/null || true
     install_files
+    LC_ALL=C grep -vxFf $list target/log/earlier.txt | remove_files
     ;;
 --uninstall)
-    top=$DESTDIR$prefix
-    list=$top/share/doc/spindle/files
-    [ -f "$list" ] || die "nothing was installed below $top: there is no $list"
+    list=$DESTDIR$prefix/share/doc/spindle/files
+    [ -f "$list" ] || die "nothing was installed below $DESTDIR$prefix: there is no $list"
     cp "$list" target/log/uninstall.txt
     echo share/doc/spindle/files >>target/log/uninstall.txt
-    while IFS= read -r path; do
-        rm -f "$top/$path"
-        echo "build: removed $top/$path"
-        # its folders, as far up as they are empty
-        folder=$(dirname "$path")
-        while [ "$folder" != . ] && rmdir "$top/$folder" 2>/dev/null; do folder=$(dirname "$folder"); done
-    done <target/log/uninstall.txt
+    remove_files <target/log/uninstall.txt
     ;;
 --package)
     build_archive

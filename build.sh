@@ -12,7 +12,7 @@
 #
 # --install looks at two variables: LIBDIR, the folder of the libraries below PREFIX (lib), and DESTDIR, a folder that stands before PREFIX while the
 # files are put there. --uninstall looks at DESTDIR; the list of what was installed tells it the rest. By that list --install also removes what another
-# version put there and this one has not.
+# version put there and this one has not. PREFIX holds no blank, since the words that pkg-config prints could not be told apart then.
 # The library is fresh if it is the one last built here, by this kit, from the library's files as they are now (by their sums, not their dates).
 # Exit status 0: done; 1: something was not proved or not built; 2: bad usage, or a command is missing.
 set -eu
@@ -229,6 +229,8 @@ libdir=${LIBDIR:-lib}
 case $job in
 --install | --uninstall) case $2 in /*) prefix=${2%/} ;; *) prefix=$from/${2%/} ;; esac ;;
 esac
+# --uninstall takes such a folder, which an earlier version may have filled
+case $job:${prefix:-} in --install:*[[:space:]]*) usage "PREFIX must not hold a blank: '$prefix'" ;; esac
 case $job in
 --fresh)
     fresh

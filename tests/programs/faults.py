@@ -204,12 +204,23 @@ for job in JOBS:
     folder.chmod(0o755)
     out.chmod(0o644)
     alone(f"{job} where it may not write", folder, "out")
-    # a link would be lost; a name that is too long for the file beside it
+    # a link would be lost; the file beside OUT has seven bytes more in its name, and a name has 255 at most
     link = folder / "link"
     link.symlink_to("out")
     one_line(f"{job} into a link", job.run(link), "link: is a link: name the file that it leads to")
-    long = folder / ("x" * 250)
-    one_line(f"{job} into a long name", job.run(long), "File name too long")
+    for length, taken in (248, True), (249, False):
+        long = folder / ("x" * length)
+        for old in None, OLD:
+            if old is not None:
+                long.write_bytes(old)
+            what = f"{job} into a name of {length} bytes"
+            run = job.run(long)
+            if not taken:
+                one_line(what, run, "File name too long")
+                as_it_was(what, long, old)
+            elif run.stdout != job.text or run.stderr or long.read_bytes() != job.new:
+                fail(f"{what}: printed {run.stdout!r}, said {run.stderr!r}")
+            long.unlink(missing_ok=True)
     as_it_was(f"{job} into a link", out, OLD)
     alone(f"{job} into a link", folder, "link", "out")
 

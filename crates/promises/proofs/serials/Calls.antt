@@ -15,7 +15,7 @@ use Rattle.call_record.proofs.update.Updates.{same-answer, refused-keeps, compl
 use Rattle.promises.specs.rules.Entries.{Entry, call, codeOf, updated, fresh, updateScaling}
 use Rattle.promises.specs.demand_one.Calls.{Outcome, made, numberIn, entry, answered}
 use Rattle.promises.specs.contracts.Allowed.{Allowed}
-use Rattle.promises.specs.serials.Calls.{Over, Named, CallsNumber}
+use Rattle.promises.specs.serials.Calls.{Over, Named, CallsSerials}
 use Rattle.promises.proofs.contracts.Defined.{as-defined}
 use Rattle.promises.proofs.serials.Serials.{counts, named}
 
@@ -43,9 +43,9 @@ of-number : (r : Scaling) (e : Entry) (serial : ℕ) → (codeOf (call e (r .con
 unfolding made numberIn
 of-number r e serial law o h n = law (sym (ap numberIn (as-defined _ _ h)) ∙ n)
 
-pub calls-number : CallsNumber
+pub calls-serials : CallsSerials
 unfolding call codeOf
-calls-number = record {
+calls-serials = record {
   fresh = λ c u h. ap (λ (x : Updated). x .scaling .serial) (fresh-made c u h) ∙ counts .fresh c;
   completed = λ r s z μ strategy u h.
       subst (λ (x : Updated). x .code ≡ 0 → Made r (x .scaling) z μ) (sym (update-made r s z μ strategy u h))

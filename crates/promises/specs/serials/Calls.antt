@@ -20,7 +20,7 @@ Over r e o = Allowed (entry e (r .cone)) o
 abbrev pub Named : Scaling → ℕ → Entry → Type 0
 Named r serial e = (o : Outcome) → Over r e o → numberIn o ≡ 0 → r .serial ≡ serial
 
-pub record CallsNumber : Type 0 where
+pub record CallsSerials : Type 0 where
   -- "0 when fresh", of a bad cone's record too
   pub fresh : (c : Cone) (u : Updated) → Allowed (entry fresh c) (answered (updated u)) → u .scaling .serial ≡ 0
   -- "one more after each completed update"; and it is of this call (`Made`)

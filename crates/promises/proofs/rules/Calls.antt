@@ -11,7 +11,7 @@ use Rattle.promises.specs.rules.Entries.{gradientPrimal, barrierPrimal, 
 use Rattle.promises.specs.rules.Entries.{combinedDsShift}
 use Rattle.promises.specs.rules.Entries.{codeOf}
 use Rattle.promises.specs.rules.Calls.{passed, With, GivesOne, Alike, CallsUnderRules}
-use Rattle.promises.specs.demand_one.Calls.{Call, made, numberIn, numberOf, entry, answered, common, both}
+use Rattle.promises.specs.demand_one.Calls.{Call, made, numberIn, numberOf, answered, common, both}
 use Rattle.promises.proofs.contracts.Defined.{as-defined}
 use Rattle.promises.proofs.rules.Answers.{answers}
 use Rattle.promises.proofs.rules.PlanAnswers.{plan-answers, sides-answers}

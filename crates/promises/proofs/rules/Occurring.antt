@@ -2,7 +2,6 @@
 use mathlib.Core.Path.{refl}
 use mathlib.Core.List.{[]}
 use denote.Ref.{RefT}
-use Rattle.cone.specs.declared.Cone.{Cone}
 use Rattle.promises.specs.rules.Entries.{call, withCone}
 use Rattle.promises.specs.rules.Calls.{passed, RecordCallsOccur}
 use Rattle.promises.specs.contracts.Allowed as allowed

@@ -13,9 +13,9 @@ use Rattle.call_record.specs.update.Entries.{updateRows, updateScalingOf}
 use Rattle.call_record.specs.update.Updates.{Made}
 use Rattle.call_record.proofs.update.Updates.{same-answer, refused-keeps, completed-makes}
 use Rattle.promises.specs.rules.Entries.{Entry, call, codeOf, updated, fresh, updateScaling}
-use Rattle.promises.specs.demand_one.Calls.{Outcome, made, numberIn, entry, answered}
+use Rattle.promises.specs.demand_one.Calls.{made, numberIn, entry, answered}
 use Rattle.promises.specs.contracts.Allowed.{Allowed}
-use Rattle.promises.specs.serials.Calls.{Over, Named, CallsSerials}
+use Rattle.promises.specs.serials.Calls.{Over, HadSerial, CallsSerials}
 use Rattle.promises.proofs.contracts.Defined.{as-defined}
 use Rattle.promises.proofs.serials.Serials.{counts, named}
 
@@ -39,7 +39,7 @@ module _ (r : Scaling) (s z : List Float) (μ : Float) (strategy : ℕ) where
   unfolding updateScalingOf
   let-in e = let-through (λ (u : Updated). u .code) _ (refuseUpdate r) (λ k. refl) _ e
 
-of-number : (r : Scaling) (e : Entry) (serial : ℕ) → (codeOf (call e (r .cone)) ≡ 0 → r .serial ≡ serial) → Named r serial e
+of-number : (r : Scaling) (e : Entry) (serial : ℕ) → (codeOf (call e (r .cone)) ≡ 0 → r .serial ≡ serial) → HadSerial r serial e
 unfolding made numberIn
 of-number r e serial law o h n = law (sym (ap numberIn (as-defined _ _ h)) ∙ n)
 

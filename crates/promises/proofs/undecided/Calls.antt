@@ -1,6 +1,6 @@
 -- What a contract allows is what the definition makes; where its number is 0 no row applied, so that the cone was accepted and the answer is
 -- the test's. Assumes nothing.
-use mathlib.Core.Path.{_≡_, refl, _∙_, sym, ap, subst}
+use mathlib.Core.Path.{_≡_, refl, _∙_, sym, ap}
 use mathlib.Core.Bool.{Bool, true, false}
 use mathlib.Core.List.{List}
 use lib.Ieee.{Float}

@@ -1,6 +1,6 @@
 -- 02, Order 6, of the calls of include/spindle.h, by value and over a record in place, whatever their callers pass: of every outcome that a
 -- contract allows. Statements; proofs/serials/Calls has the proofs.
-use Prim.Native.Nat.{ℕ, _+_, _<_}
+use Prim.Native.Nat.{ℕ}
 use mathlib.Core.Path.{_≡_}
 use mathlib.Core.List.{List}
 use lib.Ieee.{Float}
@@ -17,8 +17,8 @@ abbrev pub Over : Scaling → Entry → Outcome → Type 0
 Over r e o = Allowed (entry e (r .cone)) o
 
 -- "name the serial they expect": such a call that is done had a record with that serial
-abbrev pub Named : Scaling → ℕ → Entry → Type 0
-Named r serial e = (o : Outcome) → Over r e o → numberIn o ≡ 0 → r .serial ≡ serial
+abbrev pub HadSerial : Scaling → ℕ → Entry → Type 0
+HadSerial r serial e = (o : Outcome) → Over r e o → numberIn o ≡ 0 → r .serial ≡ serial
 
 pub record CallsSerials : Type 0 where
   -- "0 when fresh", of a bad cone's record too
@@ -36,8 +36,8 @@ pub record CallsSerials : Type 0 where
       → Over r (updateScaling r s z μ strategy) (answered (updated u)) → u .code ≡ 0
       → Over r' (updateScaling r' s z μ strategy) (answered (updated u')) → u' .code ≡ 0 → u ≡ u'
   -- "`get_Hs`, `mul_Hs`, correction and combined shift name the serial they expect"
-  pub block : (r : Scaling) (serial : ℕ) (b : List Float) → Named r serial (getHs r serial b)
-  pub product : (r : Scaling) (serial : ℕ) (y x : List Float) → Named r serial (mulHs r serial y x)
-  pub correction : (r : Scaling) (serial : ℕ) (η ds v : List Float) → Named r serial (higherCorrection r serial η ds v)
+  pub block : (r : Scaling) (serial : ℕ) (b : List Float) → HadSerial r serial (getHs r serial b)
+  pub product : (r : Scaling) (serial : ℕ) (y x : List Float) → HadSerial r serial (mulHs r serial y x)
+  pub correction : (r : Scaling) (serial : ℕ) (η ds v : List Float) → HadSerial r serial (higherCorrection r serial η ds v)
   pub shift : (r : Scaling) (serial : ℕ) (out stepz steps : List Float) (σμ : Float)
-      → Named r serial (combinedDsShift r serial out stepz steps σμ)
+      → HadSerial r serial (combinedDsShift r serial out stepz steps σμ)

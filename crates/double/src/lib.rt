@@ -1,4 +1,6 @@
 // A double taken apart and put together.
+#![tactic(auto)]
+
 ghost use Rattle.std.specs.Prelude.{◌≡◌, ◌^◌, ◌<◌};
 ghost use Rattle.std.specs.Float.{nan, binary64};
 ghost use Rattle.std.specs.Float.Ieee.{of_bits, to_bits};
@@ -62,7 +64,7 @@ pub fn to_bits(x: f64) -> u64
 }
 
 // A positive number m * 2^(k - 1126), with m from 2^52 up to 2^53.
-#[derive(Drop)]
+#[derive(Clone, Copy)]
 pub struct Normal {
     pub m: u64,
     pub k: u64,

@@ -2,7 +2,6 @@
 use Rattle.std.proofs.Common.{sym, ◌∙◌}
 use Rattle.arith.specs.Outcomes.{OneAnswer}
 use Rattle.exponential.proofs.exp.Reads as exp
-use Rattle.exponential.proofs.place.place.Reads as place
 
 pub exp_agrees : OneAnswer exp.Post
 exp_agrees κs a x y s t p q = p ∙ sym q

@@ -108,7 +108,7 @@ module _ (k M p A : ℕ) (below : p < M) where
 
 -- ---- the answer's size
 
--- c is 2^44, K-as-L is 2^62: a bound in units of the sum is one in units of the answer, d·P of them
+-- c is 2^44, K·L is 2^62: a bound in units of the sum is one in units of the answer, d·P of them
 answer-within :
     (c K L d u T P dn : ℕ) → 0 < K → Within (c * (d * K * u)) (c * (K * L * T)) (K * L * T)
     → Within (c * (d * P * (dn * u))) (c * (dn * P * T * L)) (dn * P * T * L)
@@ -143,7 +143,7 @@ composed_value k v h l a b = made (k - 2) ((v + 512) / 1024) (omega arith) (omeg
 
 -- ---- both signs
 
--- U is x + 1024·S(1/3) over thirdDen·b
+-- U is x + 1024·S(1/3) over third_den·b
 near_of :
     (s : Bool) (a b w U : ℕ) → Placed b w U → ((k p : ℕ) → U ≡ p + k * third_num * b → p < third_num * b → Parted s a b (minus k 1024) p)
     → Near s a b (exp_at w)

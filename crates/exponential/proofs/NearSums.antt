@@ -3,14 +3,14 @@
 -- cuts cost on both sides. Assumes nothing.
 use Rattle.std.proofs.Common.{◌≡◌, ℕ, zero, suc, ◌+◌, ◌-◌, ◌*◌, ◌/◌, ◌%◌, ◌^◌, ◌<◌, ◌≤◌, Bool, T, List, [], ◌∷◌, sym, subst, le_trans, le_of_lt, mul-le-mul_right, mul-le-mul, mul-le-mul_left, mul-zero, div-le_self, div-mul-le_self, le_of_mul-le-mul_right, arith, lit<}
 use native.Mathlib.Nat.{lt-div-mul-add}
-use Rattle.arith.proofs.Tables.{every, both, at_index}
+use Rattle.arith.proofs.Tables.{every, at_index}
 use Rattle.rounding.specs.Within.{Within}
 use Rattle.exponential.specs.Sum.{factorial}
 use Rattle.exponential.specs.Steps.{third_in64, coefficient, horner}
 use Rattle.exponential.specs.Estimates.{four_of, eight_of, power_of, near_sum_of}
 use Rattle.exponential.proofs.Coefficients.{horner-starts}
 use Rattle.exponential.proofs.Horner.{horner_below_two}
-use Rattle.exponential.proofs.Polynomials.{value_at, quotient, near_each, near_each}
+use Rattle.exponential.proofs.Polynomials.{value_at, quotient, near_each, near_each_holds}
 use Rattle.exponential.proofs.CutSums.{power, cut, uncut, cut_not_above, cut_not_below}
 
 -- the coefficients, the last first
@@ -245,7 +245,7 @@ module _ (r : ℕ) (l : r ≤ third_in64 + 2048) where
       Within (2 ^ 63 * value_at (uncut (2 ^ 64) of_sum 21) n) (power_of c * power (2 ^ 64) 13 * value_at (uncut (2 ^ 64) of_eight 8) x)
       (3 * (2 ^ 63 * power (2 ^ 64) 20)))
       (parts r)
-      (near_each (c * 2 ^ 58) (2 ^ 58) (2 ^ 63) (power_of c * power (2 ^ 64) 13) (uncut (2 ^ 64) of_sum 21) (uncut (2 ^ 64) of_eight 8) _ _
+      (near_each_holds (c * 2 ^ 58) (2 ^ 58) (2 ^ 63) (power_of c * power (2 ^ 64) 13) (uncut (2 ^ 64) of_sum 21) (uncut (2 ^ 64) of_eight 8) _ _
       (at_index right 45 all_right c c_small) x (le_of_lt x_small))
     where
       parts : (n : ℕ) → n / 2 ^ 58 * 2 ^ 58 + n % 2 ^ 58 ≡ n

@@ -1,5 +1,5 @@
 -- The place of every x from -708 to 709 is the floor of x/S(1/3), raised by 1024, and the sum at its rest is within the bound. Assumes
--- nothing. x is any fraction a / b, or its negative. x + 1024·S(1/3) = U / (thirdDen·b).
+-- nothing. x is any fraction a / b, or its negative. x + 1024·S(1/3) = U / (third_den·b).
 use Rattle.std.proofs.Common.{◌≡◌, ℕ, zero, ◌+◌, ◌-◌, ◌*◌, ◌/◌, ◌^◌, ◌<◌, ◌≤◌, true, false, ◌⊎◌, sym, refl, ap, ◌∙◌, inl, inr, le_trans, le_of_eq, lt_of_lt_of_le, lt_of_le_of_lt, le_of_lt, mul-le-mul_right, add-mul, eq-zero-or-pos, mul-le-mul_left, mul-pos, one-mul, zero-mul, sub-add_cancel, mul_right_comm, div-mul-le_self, mul-div_cancel, arith, lit<, lit≤}
 use native.Mathlib.Nat.{mul-lt-mul_of_pos_left, lt-div-mul-add, div-le_of_le-mul}
 use lib.Arith.{digits_div}

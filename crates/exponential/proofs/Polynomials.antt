@@ -49,10 +49,10 @@ module _ (a X M N : ℕ) where
     not-below = omega (arith, below, mul-le-mul_left x w.not-below, mul-le-mul_right c l);
   }
 
-  pub near_each :
+  pub near_each_holds :
       (p g : List ℕ) (b : ℕ) (bs : List ℕ) → T (near_each p g (b ∷ bs)) → (x : ℕ) → x ≤ X → Within (M * value_at p (a + x)) (N * value_at g x) b
   unfolding near_each value_at
-  near_each p [] b bs t x l = record {
+  near_each_holds p [] b bs t x l = record {
     not-above =
         go (M * value_at p (a + x)) (le_trans (mul-le-mul_left M (rising p (add-le-add (le_refl a) l))) (leb→le (M * value_at p (a + X)) b t));
     not-below = omega arith;
@@ -60,8 +60,8 @@ module _ (a X M N : ℕ) where
     where
       go : (v : ℕ) → v ≤ b → v ≤ N * 0 + b
       go v h = omega arith
-  near_each p (g ∷ gs) b [] t x l = absurd t
-  near_each p (g ∷ gs) b (c ∷ bs) t x l =
+  near_each_holds p (g ∷ gs) b [] t x l = absurd t
+  near_each_holds p (g ∷ gs) b (c ∷ bs) t x l =
       let first : Bool = leb (M * value_at p a + X * c) (N * g + b) in
       let second : Bool = leb (N * g + X * c) (M * value_at p a + b) in
       let others = both_right first _ t in
@@ -69,4 +69,4 @@ module _ (a X M N : ℕ) where
       (step x (value_at p a) (value_at (quotient a p) (a + x)) g (value_at gs x) b c l
       (leb→le (M * value_at p a + X * c) (N * g + b) (both_left first _ t))
       (leb→le (N * g + X * c) (M * value_at p a + b) (both_left second _ others))
-      (near_each (quotient a p) gs c bs (both_right second _ others) x l))
+      (near_each_holds (quotient a p) gs c bs (both_right second _ others) x l))

@@ -54,7 +54,7 @@ module _ (N D b Z off H a w U f : ℕ) (hoff : off + 1024 * N * Z ≡ H * D) whe
 
 -- ---- the largest rest
 
--- r·D·b ≤ p·Z with p below N·b, and N-as-Z below (most + 1)·D
+-- r·D·b ≤ p·Z with p below N·b, and N·Z below (most + 1)·D
 pub rest-most : (N D b Z p r most : ℕ) → r * (D * b) ≤ p * Z → p < N * b → 0 < Z → N * Z ≤ (most + 1) * D → r ≤ most
 rest-most N D b Z p r most h l z m =
     go (lt_of_mul-lt-mul_right (D * b) (lt_of_lt_of_le (lt_of_le_of_lt h (mul-lt-mul_of_pos_right l z))

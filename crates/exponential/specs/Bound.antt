@@ -15,8 +15,8 @@ abbrev pub with_sign : Bool → ℕ → ℤ
 with_sign false n = pos n
 with_sign true n = neg_ℤ (pos n)
 
--- 01: "with j the floor of x/S(1/3) and r = x - j·S(1/3)". Here x is a / b with the sign s, and r is p / (thirdDen·b):
--- x = j·S(1/3) + r, all over thirdDen·b, with r from 0 up to S(1/3).
+-- 01: "with j the floor of x/S(1/3) and r = x - j·S(1/3)". Here x is a / b with the sign s, and r is p / (third_den·b):
+-- x = j·S(1/3) + r, all over third_den·b, with r from 0 up to S(1/3).
 pub record Parted (s : Bool) (a b : ℕ) (j : ℤ) (p : ℕ) : Type 0 where
   pub whole : with_sign s (a * third_den) ≡ j *ℤ pos (third_num * b) +ℤ pos p
   pub below : p < third_num * b

@@ -1,6 +1,8 @@
-// The exponential: 2^j times a sum, with x = typeof.j.S(1/3) + r. The rest r is kept to 2^-64 and the sum to 2^-62, in whole numbers; the answer
+// The exponential: 2^j times a sum, with x = j·S(1/3) + r. The rest r is kept to 2^-64 and the sum to 2^-62, in whole numbers; the answer
 // is rounded once, at the end. Module `place` finds j and r, `sum` has the sum and its estimate from a table, and `inverse`, laws only, says
 // how the sum and the logarithm's L undo one another.
+#![tactic(auto)]
+
 ghost use Rattle.std.specs.Prelude.{◌≡◌, ◌+◌, ◌*◌, ◌<◌, ◌≤◌};
 ghost use Rattle.exponential.specs.Steps.{third_in64, horner, composed, exp_at, exp_of, InRange};
 

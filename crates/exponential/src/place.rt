@@ -15,7 +15,7 @@ const HOME: u64 = 6393154322601327830;
 const HOME_REST: u64 = 116201501695;
 
 // Whole units of 2^-53, and parts of 2048 of a unit: 2^64·709 does not fit 64 bits.
-#[derive(Drop)]
+#[derive(Clone, Copy)]
 pub struct Point {
     pub whole: u64,
     pub part: u64,

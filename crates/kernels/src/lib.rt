@@ -1,4 +1,6 @@
 // The four kernels behind one door: no formula above this crate knows which crate computes a root, a logarithm or an exponential.
+#![tactic(auto)]
+
 ghost use Rattle.std.specs.Prelude.{◌≡◌};
 ghost use Rattle.kernels.specs.Door.{sqrt_of, log_of, exp_of, power_at, powf_of};
 

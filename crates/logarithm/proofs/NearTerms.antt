@@ -240,7 +240,7 @@ module _ (e : ℕ) (small : e ≤ 2 ^ 52) where
       go : (a b c : ℕ) → a ≤ 2 ^ 56 → b ≤ 2 ^ 56 → b * a < c * 2 ^ 64 + 2 ^ 64 → (b + 3) * (a + 2) ≤ (c + 2) * 2 ^ 64
       go a b c h k l = omega arith
 
--- ---- the numerators: F is 2^121, Q is 2^236, E is 2^54, D is E-as-Q = 2^290; m and n are the digits of the factors 2/3 and 2/5; a is a square and
+-- ---- the numerators: F is 2^121, Q is 2^236, E is 2^54, D is E·Q = 2^290; m and n are the digits of the factors 2/3 and 2/5; a is a square and
 -- b a cube
 
 terms_most :

@@ -2,7 +2,7 @@
 -- number up to 2^52 is off by less than one in that number. Assumes nothing.
 use Rattle.std.proofs.Common.{◌≡◌, ℕ, zero, suc, ◌+◌, ◌*◌, ◌^◌, ◌<◌, ◌≤◌, Bool, false, not, T, pos, sym, refl, ap, ◌∙◌, subst, le_trans, mul-le-mul_right, mul-le-mul_left, mul-pos, pow-suc, le_of_mul-le-mul_right, le-add_left, arith, leb→le, pow_pos, pow_mono}
 use native.Mathlib.Decide.{dec_lt}
-use lib.Ieee.{Float, nan, inf, fin, binary64, up, down, round, sum, add, le, is_nan, of_int, of_bits, to_bits}
+use lib.Ieee.{Float, nan, inf, fin, binary64, up, down, round, add, le, is_nan, of_int, of_bits, to_bits}
 use lib.Ieee.Back.{round_whole}
 use lib.Ieee.Exact.{HasValue, round_exact}
 use lib.Ieee.Fits.{add-fits}
@@ -153,7 +153,7 @@ module _ (z : Float) (u : ℕ) (is : Units z u) (small : u ≤ (2 ^ 51 + 2) * 2 
       one_below (2 ^ 1074) (2 ^ 53) (2 ^ 52) (2 ^ 52) (2 ^ 51 + 2) u q (omega arith) small (leb→le (2 ^ 52) (2 ^ 1074) tt) (omega arith)
       (subst (λ (t : ℕ). (u + 2 ^ 52 * 2 ^ 1074) * 2 ^ 53 ≤ t * 2 ^ 53 + (u + 2 ^ 52 * 2 ^ 1074 + 2 ^ 52)) g_is sum_near.near.not-below)
 
--- ---- a product, of m / v² where that is about A-as-B / v: P, H and v as above, g its units
+-- ---- a product, of m / v² where that is about A·B / v: P, H and v as above, g its units
 
 pub product_above :
     (v P H A B m g : ℕ) → 0 < v → 0 < P → A + H ≤ P → 1 ≤ B → m ≤ A * B * v → g * v * P ≤ m * P + (m + H * v) → g ≤ (A + 1) * B

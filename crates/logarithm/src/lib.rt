@@ -5,6 +5,7 @@
 // The last is S(t) at t = (m - c)/(m + c), which is below 1/512, so that three of the forty terms do. The entry and t are rounded down, in
 // units of 2^-56 and 2^-60; their sum is off by less than 300 units of 2^-64, and the whole by at most |k - 1074| + 3 units of 2^-54, of
 // which 2^-44 is 1024.
+#![tactic(auto)]
 
 ghost use Rattle.std.specs.Prelude.{◌≡◌, ◌+◌, ◌*◌, ◌/◌, ◌^◌, ◌<◌, ◌≤◌};
 ghost use Rattle.logarithm.specs.Steps.{short_series_of, mantissa_of, scaled_of, positive_of, log_of};
@@ -28,7 +29,7 @@ fn long_division(d: u64, n: u64) -> u64
 }
 
 // Two estimates: of d·2^60 / n, and of the small terms of the series there, 2 (t³/3 + t⁵/5), in units of 2^-64.
-#[derive(Drop)]
+#[derive(Clone, Copy)]
 struct Estimate {
     q: u64,
     c: u64,

@@ -1,4 +1,4 @@
--- The cases of `sqrtOf`, by the tests that lead to them. Assumes nothing.
+-- The cases of `sqrt_of`, by the tests that lead to them. Assumes nothing.
 use mathlib.Core.Path.{◌≡◌, refl, sym, ap, subst}
 use mathlib.Core.Bool.{Bool, false, cond}
 use Prim.Native.Nat.{ℕ, zero, suc, ◌^◌, ◌≤◌, ◌<◌}

@@ -1,5 +1,5 @@
 -- By subject: the whole part of a root, its rounding, the rounding over any number of digits, the turns of the loop, the number under the
--- root, the cases of `sqrtOf`,
+-- root, the cases of `sqrt_of`,
 -- doubles as multiples of their last place, middles of doubles by squares, the nearest double, the special cases, roots computed, and the
 -- theorem.
 pub mod WholeRoots

@@ -1,4 +1,4 @@
--- `sqrtOf` is IEEE 754's square root: at a positive finite double the nearest double, and no other is as near. Assumes nothing.
+-- `sqrt_of` is IEEE 754's square root: at a positive finite double the nearest double, and no other is as near. Assumes nothing.
 -- Below the root's binade the doubles lie closer together; there either q is the least of its binade and not above the root, or they are
 -- more than a last place away.
 use mathlib.Core.Path.{◌≡◌, sym, ap, subst, ◌∙◌}
@@ -118,7 +118,7 @@ module _ (n m k : ℕ) (i : Normalised n m k) where
       (middle_above q N c w (pow_pos (h + 485)) rounds.nearest q-pos
       (subst (λ (a : ℕ). q * c + c ≤ a) (sym p.1) (next q p.0 c (subst (λ (a : ℕ). q * c < a) p.1 l))))
 
--- at a positive finite double the steps lead to `rootOf`
+-- at a positive finite double the steps lead to `root_of`
 sqrt_of_positive :
     (x : Float) (n : ℕ) → T (fits binary64 x) → Units x n → 0 < n
     → sqrt_of x ≡ root_of (normal_of (field_of (to_bits binary64 x)) (digits_of (to_bits binary64 x)))

@@ -1,4 +1,4 @@
--- `roundRoot` makes the nearest whole number of the whole part of a root, and there is no tie. Which number it is can be told with no root
+-- `round_root` makes the nearest whole number of the whole part of a root, and there is no tie. Which number it is can be told with no root
 -- taken. Assumes nothing.
 use mathlib.Core.Path.{◌≡◌, refl, sym, ap, ◌∙◌}
 use mathlib.Core.Bool.{Bool, true, false, cond, not}

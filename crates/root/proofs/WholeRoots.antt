@@ -1,4 +1,4 @@
--- The whole part of a root: `wholeRoot` is it, and there is only one. Assumes nothing.
+-- The whole part of a root: `whole_root` is it, and there is only one. Assumes nothing.
 use mathlib.Core.Path.{◌≡◌, subst}
 use mathlib.Core.Bool.{Bool, true, false, cond, not}
 use Prim.Native.Nat.{ℕ, zero, suc, ◌+◌, ◌*◌, ◌/◌, ◌^◌, ◌≤◌, ◌<◌}

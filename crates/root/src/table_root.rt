@@ -11,14 +11,14 @@ ghost use Rattle.root.specs.table_root.Room.{Started, StepFits};
 use double::Normal;
 
 // A root so far, and what the number has over its square.
-#[derive(Drop)]
+#[derive(Clone, Copy)]
 struct Guess {
     root: u64,
     rest: u64,
 }
 
 // A whole root and the correction steps that it took.
-#[derive(Drop)]
+#[derive(Clone, Copy)]
 struct WholeRoot {
     root: u64,
     steps: u32,
@@ -26,7 +26,7 @@ struct WholeRoot {
 
 // The root of a double and the correction steps that it took.
 #[repr(C)]
-#[derive(Drop)]
+#[derive(Clone, Copy)]
 pub struct Root {
     pub root: f64,
     pub steps: u32,

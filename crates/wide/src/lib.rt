@@ -1,12 +1,14 @@
 // Numbers of two 64-bit halves, which the language has no type for: the whole product of two numbers, and what one has over another.
 // The product is made of three partial products; module `four` has it of four, where that is faster.
+#![tactic(auto)]
+
 ghost use Rattle.std.specs.Prelude.{◌≡◌, ◌+◌, ◌-◌, ◌*◌, ◌/◌, ◌%◌, ◌^◌, ◌<◌};
 ghost use Rattle.wide.specs.Products.{whole_of, product_of, left_of};
 
 pub mod four;
 
 // hi * 2^64 + lo
-#[derive(Drop)]
+#[derive(Clone, Copy)]
 pub struct Halves {
     pub hi: u64,
     pub lo: u64,

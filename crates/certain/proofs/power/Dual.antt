@@ -34,7 +34,7 @@ use Rattle.powcone.specs.Feasible.{dual_exponent}
 use Rattle.certain.specs.Coordinates.{largest, Point, exact_of}
 use Rattle.certain.proofs.ExactCoordinates.{in_units, units_exact, exact_over, num_pos_of, cross_of_lem, quotient_exact, quotient-over}
 use Rattle.certain.proofs.Coordinates.{Coordinate, coordinate, Nonzero, positive}
-use Rattle.certain.specs.power.Numbers.{sum, two, one}
+use Rattle.certain.specs.power.Numbers.{sum, one}
 use Rattle.certain.specs.power.Dual as dual
 use Rattle.certain.specs.power.Meaning.{Exponent}
 use Rattle.certain.proofs.power.Distances.{Near, finer, near_moves}

@@ -86,7 +86,7 @@ beyond n p q u v t g P U pn few pP e large res total margin l =
     counted : (n u v : ℕ) → (8 * (16 * n) + 15) * v ≤ 8 * (16 * n) * u → (128 * n + 15) * v ≤ 128 * n * u
     counted n u v h = omega arith
 
--- ---- the exact ones: c/(U-as-U) near v/U, X/Z near u/U
+-- ---- the exact ones: c/(U·U) near v/U, X/Z near u/U
 
 -- x, y and z are n times α, β and b
 above_last :

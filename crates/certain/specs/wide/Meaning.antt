@@ -1,5 +1,5 @@
--- What a yes and a no of the generalized power cone say, as one statement about both tests. Definitions only; proofs/wide/Meaning proves
--- it.
+-- What a yes and a no of the generalized power cone say, as one statement about both tests. Definitions only; proofs/wide_kind/Meaning
+-- proves it.
 use Rattle.std.specs.Prelude.{ℕ, ◌+◌, ◌≤◌, ◌<◌, ◌≡◌, true, List, T, length, Float}
 use Rattle.std.specs.Float.{binary64}
 use Rattle.std.specs.Float.Ieee.{fits}

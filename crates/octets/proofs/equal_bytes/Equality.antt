@@ -3,10 +3,9 @@ use mathlib.Core.Path.{◌≡◌, refl}
 use mathlib.Core.Bool.{Bool, true, false, ◌&&◌}
 use mathlib.Core.List.{List, [], ◌∷◌}
 use Prim.Native.Nat.{ℕ}
-use native.Mathlib.Omega.{arith}
 use lib.Dec.{eqb}
 use borrow.Author.Tests.{eqb-true, eq-eqb}
-use Rattle.octets.specs.equal_bytes.Equal.{equal_bytes, among}
+use Rattle.octets.specs.equal_bytes.Equal.{equal_bytes}
 
 pub equal_itself : (xs : List ℕ) → equal_bytes xs xs ≡ true
 unfolding equal_bytes

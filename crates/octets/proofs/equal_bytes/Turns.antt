@@ -1,5 +1,5 @@
 -- One turn of each loop: what is left to compare, and what is left of a number. Assumes nothing.
-use mathlib.Core.Path.{◌≡◌, refl, sym, ap, ◌∙◌}
+use mathlib.Core.Path.{◌≡◌, sym, ap, ◌∙◌}
 use mathlib.Core.Bool.{Bool, true, false, ◌&&◌}
 use mathlib.Core.List.{List}
 use Prim.Native.Nat.{ℕ, ◌+◌, ◌*◌, ◌%◌, ◌≤◌, ◌<◌}
@@ -37,7 +37,8 @@ module _ (xs ys : List ℕ) (i : ℕ) (so_far : Alike xs ys i) where
     }
 
     pub differ_here : (get_or xs i 0 ≡ get_or ys i 0 → ⊥) → equal_bytes xs ys ≡ false
-    differ_here d = here ∙ ap (λ (t : Bool). t && equal_bytes (drop (i + 1) xs) (drop (i + 1) ys)) (ne_eqb (get_or xs i 0) (get_or ys i 0) d)
+    differ_here d = here ∙ ap (λ (t : Bool). t && equal_bytes (drop (i + 1) xs) (drop (i + 1) ys)) (ne_eqb (get_or xs i 0)
+        (get_or ys i 0) d)
 
   pub alike_all : length xs ≤ i → equal_bytes xs ys ≡ true
   unfolding equal_bytes

@@ -31,7 +31,8 @@ read_none (suc n) [] = refl
 read_none (suc n) (b ∷ bs) = read_none n bs
 
 -- four bytes and eight, written out
-pub spelled_four : (bs : List ℕ) → spelled (take 4 bs) ≡ get_or bs 0 0 + get_or bs 1 0 * 2 ^ 8 + get_or bs 2 0 * 2 ^ 16 + get_or bs 3 0 * 2 ^ 24
+pub spelled_four : (bs : List ℕ) → spelled (take 4 bs) ≡ get_or bs 0 0 + get_or bs 1 0 * 2 ^ 8 + get_or bs 2 0 * 2 ^ 16 + get_or bs 3 0 *
+    2 ^ 24
 spelled_four bs =
     omega (
       arith,
@@ -45,7 +46,8 @@ spelled_four bs =
 pub spelled_eight :
     (bs : List ℕ)
     → spelled (take 8 bs)
-    ≡ get_or bs 0 0 + get_or bs 1 0 * 2 ^ 8 + get_or bs 2 0 * 2 ^ 16 + get_or bs 3 0 * 2 ^ 24 + get_or bs 4 0 * 2 ^ 32 + get_or bs 5 0 * 2 ^ 40
+    ≡ get_or bs 0 0 + get_or bs 1 0 * 2 ^ 8 + get_or bs 2 0 * 2 ^ 16 + get_or bs 3 0 * 2 ^ 24 + get_or bs 4 0 * 2 ^ 32 + get_or bs 5 0 *
+    2 ^ 40
     + get_or bs 6 0 * 2 ^ 48 + get_or bs 7 0 * 2 ^ 56
 spelled_eight bs =
     omega (

@@ -7,7 +7,8 @@ use lib.ListN.{length, take, drop, get_or, length-append, length-drop}
 use lib.Seq.{drop_at, take-add, drop-drop}
 use Rattle.octets.specs.words.Words.{spelled, word_at, row_bytes, row_of, AllBelow}
 use Rattle.octets.specs.words.Runs.{Run, runs_size, runs_bytes, runs_of, Suits}
-use Rattle.octets.proofs.words.Words.{length-row_bytes, length-row_of, row_of-row_bytes, row_bytes-row_of, row_of-below, below-drop, below-append}
+use Rattle.octets.proofs.words.Words.{length-row_bytes, length-row_of, row_of-row_bytes, row_bytes-row_of, row_of-below, below-drop}
+use Rattle.octets.proofs.words.Words.{below-append}
 use Rattle.octets.proofs.words.Words.{row_bytes-below}
 
 pub length-runs_bytes : (runs : List Run) (rows : List (List ℕ)) → Suits runs rows → length (runs_bytes runs rows) ≡ runs_size runs
@@ -86,7 +87,8 @@ no_run = record { width = 0; count = 0 }
 
 -- number j of run i stands behind the runs before it, and j numbers of its own
 pub number_at : (runs : List Run) (bs : List ℕ) (i j : ℕ) → j < (get_or runs i no_run).count
-    → word_at (get_or runs i no_run).width bs (runs_size (take i runs) + (get_or runs i no_run).width * j) ≡ get_or (get_or (runs_of runs bs) i []) j 0
+    → word_at (get_or runs i no_run).width bs (runs_size (take i runs) + (get_or runs i no_run).width * j)
+    ≡ get_or (get_or (runs_of runs bs) i []) j 0
 unfolding runs_of runs_size
 number_at [] bs i j h = absurd (omega arith)
 number_at (run ∷ runs) bs zero j h =

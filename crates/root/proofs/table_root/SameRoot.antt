@@ -49,7 +49,7 @@ low_same t l z = let n = of_low t (normal_of 0 t) (omega (arith, z)) l refl in r
 mid_same : (f t : ℕ) → t < 2 ^ 52 → (f ≡ 0 → ⊥) → (table_root_of (normal_of f t)).root ≡ root_of (normal_of f t)
 mid_same f t l z = rw (of_mid f t z) (root_same (record { m = 2 ^ 52 + t; k = f + 51 }) (omega arith) (omega arith))
 
--- the choice of `tableSqrtFields` by its tests
+-- the choice of `table_sqrt_fields` by its tests
 abbrev chosen : Float → ℕ → ℕ → Bool → Bool → Bool → Root
 chosen x f t a b c = cond a (cond b (unstepped x) (table_root_of (normal_of 0 t))) (cond c (table_root_of (normal_of f t)) (unstepped x))
 
@@ -77,7 +77,7 @@ fields_most x f t = go (eqb f 0) (eqb t 0) (leb f 2046)
 
 -- ---- every double
 
--- the choice of `tableSqrtOf` by its tests
+-- the choice of `table_sqrt_of` by its tests
 abbrev picked : Float → Bool → Bool → Bool → Root
 picked x a b c =
     let p = to_bits binary64 x in

@@ -1,0 +1,18 @@
+-- `abs` meets its contract, by the two tests. Assumes nothing.
+use mathlib.Core.Path.{sym, subst}
+use lib.Dec.{T}
+use lib.Ieee.{of_bits}
+use Rattle.double.proofs.Sizes.{abs_of_negative, abs_of-zero, abs_of_positive}
+use Rattle.double.proofs.abs.Goals as goal
+
+pub returns-then-x : goal.returns-then-x
+unfolding of_bits
+returns-then-x c = abs_of_negative c.args.x c.if-x.true
+
+pub returns-then-x-2 : goal.returns-then-x-2
+unfolding of_bits
+returns-then-x-2 c = abs_of-zero c.args.x (subst T (sym c.well_formed.0.1) tt) c.if-x-2.true
+
+pub returns : goal.returns
+unfolding of_bits
+returns c = abs_of_positive c.args.x c.if-x.false c.if-x-2.false

@@ -13,7 +13,7 @@ use kernels::log;
 // capture as single numbers. The lists that 002's capture, the exponents and the point's heads, travel beside it: an enum holds no slice.
 // What does not change from round to round the Rust takes anew in each; here it is taken once, before the rounds: the logarithms, which are
 // all that the equations read of phi and of the heads, and `ratios`, (1+α)/α of each exponent.
-#[derive(Drop)]
+#[derive(Clone, Copy)]
 pub enum Equation {
     // s3, log(phi), alpha, t0
     Power(f64, f64, f64, f64),
@@ -22,7 +22,7 @@ pub enum Equation {
 }
 
 // Where the rounds ended, and how many were begun.
-#[derive(Drop)]
+#[derive(Clone, Copy)]
 pub struct Solved {
     pub x: f64,
     pub rounds: u32,

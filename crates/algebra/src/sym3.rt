@@ -63,7 +63,7 @@ pub fn outer(x: [f64; 3], y: [f64; 3]) -> [[f64; 3]; 3]
 }
 
 // A lower triangle in the block's packed order, and whether there is one.
-#[derive(Drop)]
+#[derive(Clone, Copy)]
 pub struct Factor {
     pub ok: bool,
     pub l: [f64; 6],
@@ -119,7 +119,7 @@ pub fn cholesky_3x3_explicit_solve(l: [f64; 6], b: [f64; 3]) -> [f64; 3]
 }
 
 // The gradient and the packed Hessian of the dual barrier of 000 or 001.
-#[derive(Drop)]
+#[derive(Clone, Copy)]
 pub struct GradH {
     pub grad: [f64; 3],
     pub h: [f64; 6],

@@ -17,7 +17,7 @@ use cone::{Cone, DualGrad, Number, Updated, YesNo, empty_cone, no_three, no_wide
 use equilibration::rectified;
 use judges::is_wide;
 use judges::refusal::{finished, last_rows, publish, publish_two};
-use kinds::{three, wide};
+use kinds::{three, wide_kind};
 use rows::{fresh_rows, unit_rows};
 
 // A record for the cone that was never scaled.
@@ -89,7 +89,7 @@ pub fn unit_initialization(cone: Cone, z: &mut [f64], s: &mut [f64]) -> u32
     }
     let kind = cone.kind;
     if is_wide(kind) {
-        let point = wide::unit_initialization(&cone.exps, cone.dim1 as usize);
+        let point = wide_kind::unit_initialization(&cone.exps, cone.dim1 as usize);
         let start = head(&point, z.len());
         return publish_two(z, s, start, start);
     }

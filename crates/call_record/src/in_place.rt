@@ -1,7 +1,7 @@
 // The public entries that take a scaling record, but for update_scaling, with the record where it lies: they take its parts in the header's
 // order, a number by its value and an array by its address, so that no record is copied. The calls of `entries`, which take a record by
 // value, lend it to these. What each does is chosen by the cone's kind before anything else: `blocks` and `three` judge, compute and
-// write for kinds 1 and 2, `wide_primal` and `wide` for kind 3.
+// write for kinds 1 and 2, `wide_primal` and `wide_kind` for kind 3.
 //
 // `own` is the record's serial, where a call names the one that it expects. `keptz` and `keptmu` are the record's z and μ for kind 3, where a
 // call may have a z and a μ of its own; `z3` and `grad3` are its z and gradient for kinds 1 and 2.
@@ -39,11 +39,11 @@ pub fn gradient_primal<'a>(
     g: &mut [f64],
     s: &[f64],
 ) -> Rounds
-    ensures* { λ answer. ⌜ record { answer = answer; slice = g.new } ≡ gradient_primal_of
+    ensures { record { answer = result; slice = g.new } ≡ gradient_primal_of
         (record_of kind dim1 dim2 rule exps.now scaled own
         (triple_of z3.now grad3.now hdual.now hs.now)
         (wide_of keptz.now keptmu grad.now p.now q.now r.now d1.now d2))
-        g.old s.now ⌝ }
+        g.old s.now }
 {
     if is_wide(kind) {
         return crate::wide_primal::gradient_primal(
@@ -134,7 +134,7 @@ pub fn compute_barrier<'a>(
         z.now s.now dz.now ds.now alpha }
 {
     if is_wide(kind) {
-        return crate::wide::compute_barrier(
+        return crate::wide_kind::compute_barrier(
             dim1, dim2, rule, exps, keptz, keptmu, grad, p, q, r, d1, d2, z, s, dz, ds, alpha,
         );
     }
@@ -172,14 +172,14 @@ pub fn get_hs<'a>(
     serial: u32,
     block: &mut [f64],
 ) -> u32
-    ensures* { λ answer. ⌜ record { answer = answer; slice = block.new } ≡ get_hs_of
+    ensures { record { answer = result; slice = block.new } ≡ get_hs_of
         (record_of kind dim1 dim2 rule exps.now scaled own
         (triple_of z3.now grad3.now hdual.now hs.now)
         (wide_of keptz.now keptmu grad.now p.now q.now r.now d1.now d2))
-        serial block.old ⌝ }
+        serial block.old }
 {
     if is_wide(kind) {
-        return crate::wide::get_hs(
+        return crate::wide_kind::get_hs(
             dim1,
             dim2,
             rule,
@@ -238,14 +238,14 @@ pub fn mul_hs<'a>(
     y: &mut [f64],
     x: &[f64],
 ) -> u32
-    ensures* { λ answer. ⌜ record { answer = answer; slice = y.new } ≡ mul_hs_of
+    ensures { record { answer = result; slice = y.new } ≡ mul_hs_of
         (record_of kind dim1 dim2 rule exps.now scaled own
         (triple_of z3.now grad3.now hdual.now hs.now)
         (wide_of keptz.now keptmu grad.now p.now q.now r.now d1.now d2))
-        serial y.old x.now ⌝ }
+        serial y.old x.now }
 {
     if is_wide(kind) {
-        return crate::wide::mul_hs(
+        return crate::wide_kind::mul_hs(
             dim1,
             dim2,
             rule,
@@ -300,11 +300,11 @@ pub fn higher_correction<'a>(
     ds: &[f64],
     v: &[f64],
 ) -> u32
-    ensures* { λ answer. ⌜ record { answer = answer; slice = eta.new } ≡ higher_correction_of
+    ensures { record { answer = result; slice = eta.new } ≡ higher_correction_of
         (record_of kind dim1 dim2 rule exps.now scaled own
         (triple_of z3.now grad3.now hdual.now hs.now)
         (wide_of keptz.now keptmu grad.now p.now q.now r.now d1.now d2))
-        serial eta.old ds.now v.now ⌝ }
+        serial eta.old ds.now v.now }
 {
     let three = Three {
         z: *z3,
@@ -351,11 +351,11 @@ pub fn combined_ds_shift<'a>(
     steps: &[f64],
     sigmamu: f64,
 ) -> u32
-    ensures* { λ answer. ⌜ record { answer = answer; slice = shifted.new } ≡ combined_ds_shift_of
+    ensures { record { answer = result; slice = shifted.new } ≡ combined_ds_shift_of
         (record_of kind dim1 dim2 rule exps.now scaled own
         (triple_of z3.now grad3.now hdual.now hs.now)
         (wide_of keptz.now keptmu grad.now p.now q.now r.now d1.now d2))
-        serial shifted.old stepz.now steps.now sigmamu ⌝ }
+        serial shifted.old stepz.now steps.now sigmamu }
 {
     let three = Three {
         z: *z3,

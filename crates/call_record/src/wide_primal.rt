@@ -8,7 +8,7 @@ use crate::wide_rows::{publish_wide, rows};
 use cone::{Number, Rounds};
 use judges::all_finite;
 use judges::refusal::{counted, finished};
-use kinds::wide;
+use kinds::wide_kind;
 
 pub(crate) fn gradient_primal<'a>(
     dim1: u32,
@@ -39,7 +39,7 @@ pub(crate) fn gradient_primal<'a>(
     if code != 0 {
         return Rounds { code, rounds: 0 };
     }
-    let a = wide::gradient_primal(exps, dim1 as usize, s);
+    let a = wide_kind::gradient_primal(exps, dim1 as usize, s);
     let published = publish_wide(g, &a.g);
     counted(published, a.rounds)
 }
@@ -71,5 +71,5 @@ pub(crate) fn barrier_primal<'a>(
     if code != 0 {
         return Number { code, value: 0.0 };
     }
-    finished(wide::barrier_primal(exps, dim1 as usize, s))
+    finished(wide_kind::barrier_primal(exps, dim1 as usize, s))
 }

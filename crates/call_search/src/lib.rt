@@ -1,3 +1,5 @@
 // The public searches: of one cone (single), and of a plan, on one side or on both (plans).
+#![tactic(auto)]
+
 pub mod plans;
 pub mod single;

@@ -3,7 +3,7 @@
 ghost use Rattle.std.specs.Prelude.{◌≡◌};
 ghost use Rattle.cone.specs.words.Words.{cones_of};
 ghost use Rattle.call_search.specs.plans.Rows.{plan_rows, sides_rows};
-ghost use Rattle.call_search.specs.plans.Entries.{common_step_of, planStepOf};
+ghost use Rattle.call_search.specs.plans.Entries.{common_step_of, plan_step_of};
 
 use cone::table::{first_row, no_faults};
 use cone::{Found, Settings};
@@ -95,7 +95,7 @@ pub fn plan_step(
     settings: Settings,
 ) -> Found
     ensures { record { answer = result; first = dualpoint.new; second = primalpoint.new }
-        ≡ planStepOf (cones_of cones.now) dz.now ds.now z.now s.now
+        ≡ plan_step_of (cones_of cones.now) dz.now ds.now z.now s.now
         dualpoint.old primalpoint.old settings }
 {
     let code = sides_rows(

@@ -1,7 +1,7 @@
 -- A point by value holds the numbers of its slice: three places are read one by one; m places hold the slice, and behind it +0. A loop that
 -- writes a list xs from the front into m places that are +0 makes `padded m xs`: after i turns it holds `padded m (take i xs)`. Assumes
 -- nothing.
-use mathlib.Core.Path.{◌≡◌, refl, sym, ◌∙◌, ap, subst}
+use mathlib.Core.Path.{◌≡◌, refl, sym, ◌∙◌, ap}
 use mathlib.Core.List.{List, [], ◌∷◌, ◌++◌}
 use Prim.Native.Nat.{ℕ, suc, ◌+◌, ◌-◌, ◌≤◌, ◌<◌}
 use native.Mathlib.Numerals.{add-one}

@@ -1,5 +1,7 @@
 // The types that the library's calls take and answer with, as include/spindle.h lays them out. Module `table` has the numbers of refusals
 // in their order, `verdict` yes, no and undecided, `words` a cone as it lies in memory.
+#![tactic(auto)]
+
 ghost use Rattle.std.specs.Prelude.{◌≡◌, ◌≤◌, length};
 ghost use Rattle.cone.specs.Fresh.{fresh_of, empty_cone, no_three, no_wide, attempt_of, house_settings, house_strategy};
 ghost use Rattle.cone.specs.Points.{three_of, padded};
@@ -15,7 +17,7 @@ pub mod words;
 // neither read nor judged. The rule, 1 or 2 by the planner's release, says how far from 1 the exponents of kind 3 may sum up; it is judged
 // for every kind.
 #[repr(C)]
-#[derive(Drop)]
+#[derive(Clone, Copy)]
 pub struct Cone {
     pub kind: u32,
     pub dim1: u32,
@@ -26,7 +28,7 @@ pub struct Cone {
 
 // What a step search is told.
 #[repr(C)]
-#[derive(Drop)]
+#[derive(Clone, Copy)]
 pub struct Settings {
     pub start: f64,
     pub step: f64,
@@ -35,7 +37,7 @@ pub struct Settings {
 
 // The numbers of a scaling record of kinds 1 and 2. Packed order is (0,0),(0,1),(1,1),(0,2),(1,2),(2,2).
 #[repr(C)]
-#[derive(Drop)]
+#[derive(Clone, Copy)]
 pub struct Three {
     pub z: [f64; 3],
     pub grad: [f64; 3],
@@ -45,7 +47,7 @@ pub struct Three {
 
 // The numbers of a scaling record of kind 3: z, grad, p in dim1 + dim2 places, q, d1 in dim1, r in dim2.
 #[repr(C)]
-#[derive(Drop)]
+#[derive(Clone, Copy)]
 pub struct Wide {
     pub z: [f64; 64],
     pub mu: f64,
@@ -60,7 +62,7 @@ pub struct Wide {
 // A scaling record, with the cone that it was made for, whether it was ever scaled (0 is no, every other value yes, so that any bytes of a
 // record have one meaning), and how many updates it has completed.
 #[repr(C)]
-#[derive(Drop)]
+#[derive(Clone, Copy)]
 pub struct Scaling {
     pub cone: Cone,
     pub scaled: u32,
@@ -71,28 +73,28 @@ pub struct Scaling {
 
 // The answers. Each carries its number first.
 #[repr(C)]
-#[derive(Drop)]
+#[derive(Clone, Copy)]
 pub struct YesNo {
     pub code: u32,
     pub yes: bool,
 }
 
 #[repr(C)]
-#[derive(Drop)]
+#[derive(Clone, Copy)]
 pub struct Number {
     pub code: u32,
     pub value: f64,
 }
 
 #[repr(C)]
-#[derive(Drop)]
+#[derive(Clone, Copy)]
 pub struct Rounds {
     pub code: u32,
     pub rounds: u32,
 }
 
 #[repr(C)]
-#[derive(Drop)]
+#[derive(Clone, Copy)]
 pub struct Found {
     pub code: u32,
     pub count: u32,
@@ -100,7 +102,7 @@ pub struct Found {
 }
 
 #[repr(C)]
-#[derive(Drop)]
+#[derive(Clone, Copy)]
 pub struct Steps {
     pub code: u32,
     pub dualcount: u32,
@@ -110,7 +112,7 @@ pub struct Steps {
 }
 
 #[repr(C)]
-#[derive(Drop)]
+#[derive(Clone, Copy)]
 pub struct DualGrad {
     pub code: u32,
     pub three: Three,
@@ -118,14 +120,14 @@ pub struct DualGrad {
 }
 
 #[repr(C)]
-#[derive(Drop)]
+#[derive(Clone, Copy)]
 pub struct Updated {
     pub code: u32,
     pub scaling: Scaling,
 }
 
 // A record in the making, and whether the Rust would panic on the way to it.
-#[derive(Drop)]
+#[derive(Clone, Copy)]
 pub struct Attempt {
     pub panics: bool,
     pub scaling: Scaling,

@@ -4,7 +4,7 @@ ghost use Rattle.cone.specs.table.Table.{no_faults, first_row, trace_row};
 
 // What is wrong with a call's arguments, a row of the table each: the cone, a slice's length, a number, the settings or the strategy, a
 // record that has no further serial, one that was never scaled, one of another serial than the caller's.
-#[derive(Drop)]
+#[derive(Clone, Copy)]
 pub struct Faults {
     pub cone: bool,
     pub length: bool,

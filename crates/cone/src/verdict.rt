@@ -3,7 +3,7 @@ ghost use Rattle.std.specs.Prelude.{◌≡◌};
 ghost use Rattle.cone.specs.verdict.Answers.{told_of, is_yes, number_of};
 ghost use Rattle.cone.specs.verdict.Margins.{power_margin};
 
-#[derive(Drop)]
+#[derive(Clone, Copy)]
 pub enum Answer {
     // the residue is below minus the margin, or a sign test failed
     No,
@@ -14,7 +14,7 @@ pub enum Answer {
 
 // The answer of a call, as include/spindle.h lays it out.
 #[repr(C)]
-#[derive(Drop)]
+#[derive(Clone, Copy)]
 pub struct Verdict {
     pub code: u32,
     pub answer: u32,

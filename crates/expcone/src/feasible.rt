@@ -12,7 +12,7 @@ use double::abs;
 use kernels::log;
 
 // What a cone test compares with its margin, beside the logarithm that both are made of.
-#[derive(Drop)]
+#[derive(Clone, Copy)]
 pub struct ExponentialResidue {
     pub res: f64,
     pub log: f64,

@@ -2,6 +2,7 @@
 //
 // Primal exponential cone: s3 ≥ s2*e^(s1/s2), s3,s2 > 0
 // Dual exponential cone: z3 ≥ -z1*e^(z2/z1 - 1), z3 > 0, z1 < 0
+#![tactic(auto)]
 
 ghost use Rattle.std.specs.Prelude.{◌≡◌};
 ghost use Rattle.expcone.specs.Barriers.{barrier_primal_of, barrier_dual_of, compute_barrier_of};
@@ -18,14 +19,14 @@ pub mod feasible;
 pub mod wright;
 
 // A primal barrier, and whether the Rust would panic on the way to it; then the value is 0.
-#[derive(Drop)]
+#[derive(Clone, Copy)]
 pub struct Barrier {
     pub panics: bool,
     pub value: f64,
 }
 
 // A primal gradient, and whether the Rust would panic on the way to it; then it is 0.
-#[derive(Drop)]
+#[derive(Clone, Copy)]
 pub struct ExponentialGradient {
     pub panics: bool,
     pub g: [f64; 3],

@@ -15,14 +15,14 @@ use kernels::log;
 const PI: f64 = 3.141592653589793;
 
 // A value of ω, and whether the Rust would panic: the argument is below 0. Then the value is 0.
-#[derive(Drop)]
+#[derive(Clone, Copy)]
 pub struct Omega {
     pub panics: bool,
     pub w: f64,
 }
 
 // An approximation w and its residual r.
-#[derive(Drop)]
+#[derive(Clone, Copy)]
 pub struct Approx {
     pub w: f64,
     pub r: f64,

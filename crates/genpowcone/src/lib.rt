@@ -5,6 +5,8 @@
 //
 // `alpha` is the slice of the exponents in use, so dim1 is its length. Arrays that are handed back have 64 or 32 places; those behind
 // the used ones are +0.
+#![tactic(auto)]
+
 ghost use Rattle.std.specs.Prelude.{◌≡◌, ◌+◌, ◌≤◌, ◌++◌, length, take};
 ghost use Rattle.algebra.specs.newton.Equations.{gen_f0_at, gen_f1};
 ghost use Rattle.algebra.specs.newton.Rounds.{newton_of};
@@ -34,7 +36,7 @@ use kernels::{exp, log, sqrt};
 pub mod loops;
 
 // What a cone test compares, with the two numbers that it is the difference of: res = power - square.
-#[derive(Drop)]
+#[derive(Clone, Copy)]
 pub struct WideResidue {
     pub res: f64,
     pub power: f64,
@@ -42,21 +44,21 @@ pub struct WideResidue {
 }
 
 // The primal gradient, and how many Newton rounds it took; 0 where Newton was not entered.
-#[derive(Drop)]
+#[derive(Clone, Copy)]
 pub struct WideGradient {
     pub g: [f64; 64],
     pub rounds: u32,
 }
 
 // What update_dual_grad_h computes. Where the Rust panics, since ζ is not above 0, all its numbers are +0.
-#[derive(Drop)]
+#[derive(Clone, Copy)]
 pub struct WideGradH {
     pub panics: bool,
     pub wide: Wide,
 }
 
 // p0, p1, q0 and r1 of update_dual_grad_h.
-#[derive(Drop)]
+#[derive(Clone, Copy)]
 pub struct Coefficients {
     pub p0: f64,
     pub p1: f64,

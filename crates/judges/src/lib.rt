@@ -1,5 +1,7 @@
 // The judges: each asks one thing of a call's arguments. `cone::table` puts their answers in the order of document 01. Module `cone_judge`
 // judges a cone, and its functions are passed on here; `refusal` has what a refused call leaves.
+#![tactic(auto)]
+
 ghost use Rattle.std.specs.Prelude.{◌≡◌, take};
 ghost use Rattle.std.specs.Float.Ieee.Scale.{finite};
 ghost use Rattle.cone.specs.Codes.{is_wide, numel_of};
@@ -112,7 +114,7 @@ pub fn wide_finite<'a>(
     dim2: u32,
 ) -> bool
     ensures { result ≡ wide_finite (record {
-      z = z.entry.now;
+      z = z.now;
       mu = mu;
       grad = grad.now;
       p = p.now;

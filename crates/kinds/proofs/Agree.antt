@@ -13,11 +13,11 @@ use Rattle.kinds.proofs.three.barrier_primal.Reads as three_barrier_primal
 use Rattle.kinds.proofs.three.compute_barrier.Reads as three_compute_barrier
 use Rattle.kinds.proofs.three.higher_correction.Reads as three_higher_correction
 use Rattle.kinds.proofs.three.combined_ds_shift.Reads as three_combined_ds_shift
-use Rattle.kinds.proofs.wide.unit_initialization.Reads as wide_unit_initialization
-use Rattle.kinds.proofs.wide.gradient_primal.Reads as wide_gradient_primal
-use Rattle.kinds.proofs.wide.barrier_primal.Reads as wide_barrier_primal
-use Rattle.kinds.proofs.wide.compute_barrier.Reads as wide_compute_barrier
-use Rattle.kinds.proofs.wide.get_hs.Reads as wide_get_hs
+use Rattle.kinds.proofs.wide_kind.unit_initialization.Reads as wide_unit_initialization
+use Rattle.kinds.proofs.wide_kind.gradient_primal.Reads as wide_gradient_primal
+use Rattle.kinds.proofs.wide_kind.barrier_primal.Reads as wide_barrier_primal
+use Rattle.kinds.proofs.wide_kind.compute_barrier.Reads as wide_compute_barrier
+use Rattle.kinds.proofs.wide_kind.get_hs.Reads as wide_get_hs
 
 pub used_agrees : OneAnswer used.Post
 used_agrees κs a x y s t p q = p ∙ sym q

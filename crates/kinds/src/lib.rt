@@ -1,5 +1,7 @@
 // Each formula of 000, 001 and 002 over a cone: closures become a choice by kind, and this is its place. Row 1 of the table has let
 // through kinds 1, 2 and 3 alone.
+#![tactic(auto)]
+
 ghost use Rattle.std.specs.Prelude.{◌≡◌};
 ghost use Rattle.cone.specs.Calls.{WideCall};
 ghost use Rattle.kinds.specs.Answers.{exp_answer, pow_answer, genpow_answer, used_of, answer_in};
@@ -11,7 +13,7 @@ use cone::verdict::{Answer, is_yes};
 use cone::{Attempt, Cone, attempted, no_three, no_wide, three_of};
 
 pub mod three;
-pub mod wide;
+pub mod wide_kind;
 
 // ---- step_length's two tests, is_primal_feasible and is_dual_feasible
 

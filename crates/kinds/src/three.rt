@@ -6,7 +6,7 @@ ghost use Rattle.kinds.specs.Three.{barrier_primal_of, compute_barrier_of, highe
 use cone::Three;
 
 // A primal gradient, whether the Rust would panic on the way to it, and its Newton rounds.
-#[derive(Drop)]
+#[derive(Clone, Copy)]
 pub struct ThreeGradient {
     pub panics: bool,
     pub g: [f64; 3],
@@ -14,7 +14,7 @@ pub struct ThreeGradient {
 }
 
 // A number, and whether the Rust would panic on the way to it.
-#[derive(Drop)]
+#[derive(Clone, Copy)]
 pub struct Valued {
     pub panics: bool,
     pub value: f64,

@@ -4,6 +4,8 @@
 // Dual power cone: (z1/α)^{α} * (z2/(1-α))^{1-α} ≥ z3, z1,z2 ≥ 0
 //
 // The exponent α is a parameter `alpha` of every function, and 1-α is computed anew at each place, as in the Rust.
+#![tactic(auto)]
+
 ghost use Rattle.std.specs.Prelude.{◌≡◌};
 ghost use Rattle.powcone.specs.Feasible.{residue_at, primal_residue, dual_residue, primal_feasible, dual_feasible};
 ghost use Rattle.powcone.specs.Barriers.{dual_phi, barrier_dual_of, barrier_primal_of, compute_barrier_of};
@@ -20,7 +22,7 @@ use kernels::{exp, log, powf, sqrt};
 pub mod correction;
 
 // What a cone test compares, with the two numbers that it is the difference of: res = power - square.
-#[derive(Drop)]
+#[derive(Clone, Copy)]
 pub struct PowerResidue {
     pub res: f64,
     pub power: f64,
@@ -28,7 +30,7 @@ pub struct PowerResidue {
 }
 
 // The primal gradient, and how many Newton rounds it took; 0 where Newton was not entered.
-#[derive(Drop)]
+#[derive(Clone, Copy)]
 pub struct PowerGradient {
     pub g: [f64; 3],
     pub rounds: u32,

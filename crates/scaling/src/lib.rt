@@ -1,5 +1,7 @@
 // Both scalings of the exponential and the power cone (003), as functions on values: the choice, and the dual one; the primal-dual block is
 // `primal_dual`'s. And the new record that an update makes with them (`update`). Blocks are packed: (0,0),(0,1),(1,1),(0,2),(1,2),(2,2).
+#![tactic(auto)]
+
 ghost use Rattle.std.specs.Prelude.{◌≡◌};
 ghost use Rattle.algebra.specs.Packed.{scaled_of};
 ghost use Rattle.scaling.specs.Scalings.{measure_of, apart, update_hs_of};
@@ -19,7 +21,7 @@ const EPSILON: f64 = 2.220446049250313e-16;
 const SQRT_EPSILON: f64 = 1.4901161193847656e-8;
 
 // The scaling matrix Hs; all +0 where the primal gradient panics.
-#[derive(Drop)]
+#[derive(Clone, Copy)]
 pub struct Scaled {
     pub panics: bool,
     pub hs: [f64; 6],

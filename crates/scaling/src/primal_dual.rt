@@ -6,7 +6,7 @@ use algebra::sym3::{mul, norm_fro, outer};
 use algebra::vector::normalize3;
 
 // What the choice between the two scalings looks at: ⟨s,z⟩, μ, μt, δs, ⟨δs,δz⟩, de1 and de2.
-#[derive(Drop)]
+#[derive(Clone, Copy)]
 pub struct Measures {
     pub dotsz: f64,
     pub mu: f64,

@@ -1,5 +1,7 @@
 // 003: the step search along a direction of one cone. Module `plan` has the search of a list of cones, `trials` the laws of the trials, for
 // any test of a point.
+#![tactic(auto)]
+
 ghost use Rattle.std.specs.Prelude.{◌≡◌, length};
 ghost use Rattle.search.specs.trials.Search.{outcome, search_of};
 ghost use Rattle.search.specs.Points.{trial_point};
@@ -13,7 +15,7 @@ pub mod plan;
 pub mod trials;
 
 // The step, zero where no allowed trial passed, and how many points were tested.
-#[derive(Drop)]
+#[derive(Clone, Copy)]
 pub struct Searched {
     pub step: f64,
     pub count: u32,

@@ -17,7 +17,7 @@ use judges::{cone_ok, numel_of};
 use kinds::{passes, used};
 
 // What the test of a point found: whether every cone passed, and how many cones were tested.
-#[derive(Drop)]
+#[derive(Clone, Copy)]
 pub struct Tested {
     pub all: bool,
     pub count: u32,

@@ -3,7 +3,7 @@ use mathlib.Core.Path.{◌∙◌, sym}
 use mathlib.Core.List.{List}
 use Prim.Native.Nat.{ℕ}
 use lib.Ieee.{Float}
-use Rattle.arith.specs.Outcomes.{OneAnswer, OneOutcome}
+use Rattle.arith.specs.Outcomes.{OneOutcome}
 use Rattle.judges.proofs.Outcomes.{one}
 use Rattle.call_cone.proofs.copies.affine_ds.Reads as affine_ds
 use Rattle.call_cone.proofs.copies.ds_from_dz_offset.Reads as ds_from_dz_offset

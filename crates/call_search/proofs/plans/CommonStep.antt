@@ -11,11 +11,9 @@ use borrow.Fn.Kinds.{Dens, GoodsP, res_t, ended_of}
 use Rattle.cone.specs.declared.Cone.{Cone}
 use Rattle.cone.specs.declared.Settings.{Settings}
 use Rattle.cone.specs.declared.Found.{Found}
-use Rattle.judges.specs.Judges.{all_finite}
 use Rattle.judges.specs.Refusals.{Lent}
 use Rattle.cone.proofs.table.Settled.{done}
 use Rattle.cone.specs.words.Words.{cones_of}
-use Rattle.search.specs.trials.Search.{search_of}
 use Rattle.search.specs.trials.Costed.{costed_of}
 use Rattle.search.proofs.trials.LargestPassing.{largest_passing}
 use Rattle.search.proofs.Settings.{of_true, usable_of}

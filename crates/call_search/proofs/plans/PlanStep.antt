@@ -44,7 +44,7 @@ use Rattle.search.proofs.plan.Sides.{dual-of, primal_of, passes_at_lem}
 use Rattle.search.proofs.plan.EachSide.{both_in_order, sides_at_most, beside_two}
 use Rattle.search.proofs.plan.OneCone.{one-cone}
 use Rattle.call_search.specs.plans.Rows.{plan_rows, sides_faults, sides_rows}
-use Rattle.call_search.specs.plans.Entries.{common_step_of, found_on_sides, refuse_sides, planStepOf}
+use Rattle.call_search.specs.plans.Entries.{common_step_of, found_on_sides, refuse_sides, plan_step_of}
 use Rattle.call_search.specs.plans.PlanStep.{HoldsTested, HoldsStart, BothAsOrdered, PlanStepMeets, BesideTwoSteps, OneConeBothSides}
 use Rattle.call_search.proofs.plans.LetThrough.{finite_slices, each_side, both_plannable}
 use Rattle.call_search.proofs.plans.OneCone.{ok_one, total-one}
@@ -151,7 +151,7 @@ module _ (cs : List Cone) (dz ds z s dual_point primal_point : List Float) (sett
 -- ---- the definition
 
 module _ (cs : List Cone) (dz ds z s dual_point primal_point : List Float) (settings : Settings)
-    (e : (planStepOf cs dz ds z s dual_point primal_point settings).answer.code ≡ 0) where
+    (e : (plan_step_of cs dz ds z s dual_point primal_point settings).answer.code ≡ 0) where
   abbrev rows : ℕ
   rows = sides_rows cs dz ds z s (length dual_point) (length primal_point) settings
 
@@ -159,11 +159,11 @@ module _ (cs : List Cone) (dz ds z s dual_point primal_point : List Float) (sett
   answer = found_on_sides (in_sides cs (costed_of (sides_of cs dz ds z s settings)))
 
   through : rows ≡ 0
-  unfolding planStepOf
+  unfolding plan_step_of
   through = let_through (λ (l : LentTwo Found). l.answer.code) answer (refuse_sides dual_point primal_point) (λ k. refl) rows e
 
-  settled : answer ≡ planStepOf cs dz ds z s dual_point primal_point settings
-  unfolding planStepOf
+  settled : answer ≡ plan_step_of cs dz ds z s dual_point primal_point settings
+  unfolding plan_step_of
   settled = done rows rows answer (refuse_sides dual_point primal_point) refl through
 
 pub plan_step_meets : PlanStepMeets
@@ -195,20 +195,20 @@ module _ (c : Cone) (dz ds z s dual_point primal_point : List Float) (settings :
   abbrev two : LentTwo Steps
   two = both_found (search_of (problem_of c false dz z settings)) (search_of (problem_of c true ds s settings))
 
-  abbrev step_rows : ℕ
-  step_rows = step_rows c dz ds z s (length dual_point) (length primal_point) settings
+  abbrev asked_rows : ℕ
+  asked_rows = step_rows c dz ds z s (length dual_point) (length primal_point) settings
 
-  rows-one : sides_rows lone dz ds z s (length dual_point) (length primal_point) settings ≡ step_rows
+  rows-one : sides_rows lone dz ds z s (length dual_point) (length primal_point) settings ≡ asked_rows
   unfolding sides_faults step_faults
   rows-one = simp (ok_one c, total-one c)
 
-  codes_one : (planStepOf lone dz ds z s dual_point primal_point settings).answer.code
+  codes_one : (plan_step_of lone dz ds z s dual_point primal_point settings).answer.code
       ≡ (step_length_of c dz ds z s dual_point primal_point settings).answer.code
-  unfolding planStepOf step_length_of
+  unfolding plan_step_of step_length_of
   codes_one =
       settled_code (λ (l : LentTwo Found). l.answer.code) _ (refuse_sides dual_point primal_point) refl (λ k. refl) _
       ∙ rows-one
-      ∙ sym (settled_code (λ (l : LentTwo Steps). l.answer.code) two (refuse_steps dual_point primal_point) refl (λ k. refl) step_rows)
+      ∙ sym (settled_code (λ (l : LentTwo Steps). l.answer.code) two (refuse_steps dual_point primal_point) refl (λ k. refl) asked_rows)
 
   steps_one : Doubles settings → sides_rows lone dz ds z s (length dual_point) (length primal_point) settings ≡ 0
       → let l = (step_length_of c dz ds z s dual_point primal_point settings).answer in
@@ -220,7 +220,7 @@ module _ (c : Cone) (dz ds z s dual_point primal_point : List Float) (settings :
       let primal = ready.1.searchable.dq_length in
       let D = one-cone c false dz z settings (sym ready.0.lengths_add_up ∙ total-one c) dual in
       let Q = one-cone c true ds s settings (sym ready.1.lengths_add_up ∙ total-one c) primal in
-      let l = done step_rows step_rows two (refuse_steps dual_point primal_point) refl (sym rows-one ∙ e) in
+      let l = done asked_rows asked_rows two (refuse_steps dual_point primal_point) refl (sym rows-one ∙ e) in
       rw (← l, ← D, ← Q) (searched_beside lone dz ds z s dual_point primal_point settings d e)
 
 pub one_cone_both_sides : OneConeBothSides

@@ -36,9 +36,9 @@ refuse_sides dual_point primal_point k =
     record { answer = record { code = k; count = 0; step = #0 }; first = dual_point; second = primal_point }
 
 -- 01: "One step for both sides of a plan"
-unfoldable pub planStepOf
+unfoldable pub plan_step_of
     : List Cone → List Float → List Float → List Float → List Float → List Float → List Float → Settings → LentTwo Found
-planStepOf cs dz ds z s dual_point primal_point settings =
+plan_step_of cs dz ds z s dual_point primal_point settings =
     settle (sides_rows cs dz ds z s (length dual_point) (length primal_point) settings)
     (found_on_sides (in_sides cs (costed_of (sides_of cs dz ds z s settings))))
     (refuse_sides dual_point primal_point)

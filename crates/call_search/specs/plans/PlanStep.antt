@@ -16,7 +16,7 @@ use Rattle.call_search.specs.single.Entries.{step_length_of}
 use Rattle.call_search.specs.single.Demand3.{Doubles, outcome_of}
 use Rattle.search.specs.plan.Sides.{both_pass, sides_problem, sides_of}
 use Rattle.search.specs.plan.EachSide.{PassesBoth, Beside}
-use Rattle.call_search.specs.plans.Entries.{common_step_of, planStepOf}
+use Rattle.call_search.specs.plans.Entries.{common_step_of, plan_step_of}
 
 module _ (cs : List Cone) (dz ds z s : List Float) (settings : Settings) where
   -- 01: "Both lent points hold what was tested": the two points of the step, and each cone passes on both of its parts
@@ -49,7 +49,7 @@ module _ (cs : List Cone) (dz ds z s : List Float) (settings : Settings) where
 abbrev pub PlanStepMeets : Type 0
 PlanStepMeets =
     (cs : List Cone) (dz ds z s dual_point primal_point : List Float) (settings : Settings) → Doubles settings
-    → let l = planStepOf cs dz ds z s dual_point primal_point settings in
+    → let l = plan_step_of cs dz ds z s dual_point primal_point settings in
     l.answer.code ≡ 0 → BothAsOrdered cs dz ds z s settings l
 
 -- ---- beside the steps that the sides have by themselves
@@ -58,7 +58,7 @@ PlanStepMeets =
 abbrev pub BesideTwoSteps : Type 0
 BesideTwoSteps =
     (cs : List Cone) (dz ds z s dual_point primal_point : List Float) (settings : Settings) → Doubles settings
-    → let both = (planStepOf cs dz ds z s dual_point primal_point settings).answer in
+    → let both = (plan_step_of cs dz ds z s dual_point primal_point settings).answer in
     let dual = (common_step_of cs false dz z dual_point settings).answer in
     let primal = (common_step_of cs true ds s primal_point settings).answer in
     both.code ≡ 0 → (dual.code ≡ 0) × (primal.code ≡ 0) × Beside both.step dual.step primal.step
@@ -67,6 +67,6 @@ BesideTwoSteps =
 abbrev pub OneConeBothSides : Type 0
 OneConeBothSides =
     (c : Cone) (dz ds z s dual_point primal_point : List Float) (settings : Settings)
-    → let both = (planStepOf (c ∷ []) dz ds z s dual_point primal_point settings).answer in
+    → let both = (plan_step_of (c ∷ []) dz ds z s dual_point primal_point settings).answer in
     let two = (step_length_of c dz ds z s dual_point primal_point settings).answer in
     (both.code ≡ two.code) × (Doubles settings → both.code ≡ 0 → Beside both.step two.dualstep two.primalstep)

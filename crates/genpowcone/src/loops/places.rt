@@ -152,7 +152,7 @@ pub(crate) fn gradient_flat_head(alpha: &[f64], p: &[f64]) -> [f64; 64]
 }
 
 // What the first loop of update_dual_grad_h fills: τ, and the gradient's head.
-#[derive(Drop)]
+#[derive(Clone, Copy)]
 pub struct Heads {
     pub tau: [f64; 32],
     pub grad: [f64; 64],

@@ -18,7 +18,7 @@ use Rattle.search.specs.trials.Costed.{costed_of}
 use Rattle.search.proofs.trials.LargestPassing.{largest_passing}
 use Rattle.search.proofs.Points.{take-point, drop-point}
 use Rattle.search.specs.plan.Plans.{cone_passes, all_pass, tests_of, plan_of}
-use Rattle.search.specs.plan.EachCone.{part_of, part_passes, FirstFailing, TestedInOrder, PartsOfTrials}
+use Rattle.search.specs.plan.EachCone.{part_of, part_passes, TestedInOrder, PartsOfTrials}
 use Rattle.search.proofs.plan.Plans.{tests_most, pass_on, pass_ends, tests_on, tests_end}
 
 module _ (primal : Bool) where

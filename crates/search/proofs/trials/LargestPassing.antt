@@ -2,17 +2,16 @@
 -- every test is a single one. Assumes nothing.
 use mathlib.Core.Path.{◌≡◌, refl, sym, ap, ◌∙◌, subst}
 use mathlib.Core.Logic.{◌⊎◌, inl, inr}
-use mathlib.Core.Bool.{true, false, true≢false}
+use mathlib.Core.Bool.{true≢false}
 use Prim.Native.Nat.{ℕ, ◌<◌}
 use native.Mathlib.Nat.{le_trans, mul-le-mul_left}
 use native.Mathlib.Decide.{dec_lt}
 use native.Mathlib.Omega.{arith}
 use lib.Dec.{T}
-use lib.Ieee.{Float}
 use Rattle.double.specs.Operators.{◌≺◌}
-use Rattle.search.specs.trials.Trials.{trial, Allowed, Usable}
-use Rattle.search.specs.trials.Search.{Problem, Outcome, outcome, passes_at, search_of}
-use Rattle.search.specs.trials.FirstPassing.{First, NonePasses, FirstPassing}
+use Rattle.search.specs.trials.Trials.{Usable}
+use Rattle.search.specs.trials.Search.{Problem, Outcome, outcome, search_of}
+use Rattle.search.specs.trials.FirstPassing.{First}
 use Rattle.search.specs.trials.Costed.{Costed, with_costs, costed_of, single}
 use Rattle.search.specs.trials.LargestPassing.{NoneAbove, LargestPassing}
 use Rattle.search.proofs.trials.Trials.{above_later}

@@ -1,0 +1,11 @@
+-- `f1` meets its contract: the equation's variant picks the definition's case. Assumes nothing.
+use Rattle.algebra.specs.newton.Equations.{f1_of}
+use Rattle.algebra.proofs.newton.f1.Goals as goal
+
+pub returns-in-Power : goal.returns-in-Power
+unfolding f1_of
+returns-in-Power c = rw c.in-Power.is c.powcone_f1.ensures
+
+pub returns-in-Generalized : goal.returns-in-Generalized
+unfolding f1_of
+returns-in-Generalized c = rw c.in-Generalized.is c.genpowcone_f1.ensures

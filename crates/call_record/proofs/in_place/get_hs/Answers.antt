@@ -1,0 +1,15 @@
+-- By kind, the entry is `wide`'s or `blocks`'s of its name. Assumes nothing.
+use mathlib.Core.Path.{◌∙◌}
+use Rattle.cone.proofs.AskedKind.{wide_kind, other_kind}
+use Rattle.call_record.proofs.in_place.ByKind.{get-hs-3D, get-hs-wide}
+use borrow.Author.Rules.{rules}
+use Rattle.call_record.proofs.in_place.get_hs.Goals as goal
+
+pub returns-then-is_wide : goal.returns-then-is_wide
+returns-then-is_wide c =
+    c.get_hs.ensures ∙ get-hs-wide _ (wide_kind c.is_wide.ensures c.if-is_wide.true) _ _
+
+pub returns : goal.returns
+returns c =
+    -- the four arrays of kinds 1 and 2 are copied one by one
+    c.get_hs-2.ensures ∙ get-hs-3D _ (other_kind c.is_wide.ensures c.if-is_wide.false) _ _

@@ -1,0 +1,26 @@
+-- A plan that is not good is refused with 1; of a good one the lengths are added, and the other rows judge. Assumes nothing.
+use mathlib.Core.Path.{sym, ◌∙◌}
+use Rattle.call_search.specs.plans.Rows.{plan_faults}
+use Rattle.call_search.proofs.plans.LetThrough.{bad-plan}
+use Rattle.call_search.proofs.plans.plan_rows.Goals as goal
+
+pub returns-then-not-plan_ok : goal.returns-then-not-plan_ok
+returns-then-not-plan_ok c = bad-plan _ _ _ _ _ (sym c.plan_ok.ensures ∙ c.if-not-plan_ok.true)
+
+pub total-n-requires : goal.total-n-requires
+total-n-requires c = sym c.plan_ok.ensures ∙ c.if-not-plan_ok.false
+
+pub returns : goal.returns
+unfolding plan_faults
+returns c =
+    let good-plan = sym c.plan_ok.ensures ∙ c.if-not-plan_ok.false in
+    simp (
+      c.first_row.ensures,
+      c.settings_ok.ensures,
+      c.settings_finite.ensures,
+      c.all_finite-2.ensures,
+      c.all_finite.ensures,
+      c.no_faults-faults.ensures,
+      c.total-n.ensures,
+      good-plan,
+    )

@@ -1,0 +1,20 @@
+-- `is_dual_feasible` asks the signs, and then tells by residue and margin. Assumes nothing.
+use Rattle.genpowcone.specs.Feasible.{signs, dual_margin, dual_feasible}
+use Rattle.genpowcone.proofs.is_dual_feasible.Goals as goal
+
+pub returns-then-all_above_zero : goal.returns-then-all_above_zero
+unfolding dual_feasible signs dual_margin
+returns-then-all_above_zero c =
+    let tested = c.before.before.before in
+    simp (
+      ← tested.head.ensures,
+      ← tested.all_above_zero.ensures,
+      tested.if-all_above_zero.true,
+      ← c.dual_residue-dual.ensures,
+      ← c.power_margin.ensures,
+      c.told.ensures,
+    )
+
+pub returns : goal.returns
+unfolding dual_feasible signs
+returns c = simp (← c.head.ensures, ← c.all_above_zero.ensures, c.if-all_above_zero.false)

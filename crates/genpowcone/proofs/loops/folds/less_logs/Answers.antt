@@ -1,0 +1,18 @@
+-- `less_logs` meets its contract: after i turns the loop holds the start less the first i terms. The measure is what is left of the shorter
+-- length. Assumes nothing.
+use Rattle.std.proofs.Common.{arith}
+use Rattle.arith.proofs.Turns.{iter_end, iter-next, iter-none}
+use Rattle.genpowcone.specs.loops.Folds.{less_logs}
+use Rattle.genpowcone.proofs.loops.folds.less_logs.Goals as goal
+
+pub loop-i-init : goal.loop-i-init
+loop-i-init c = (c.shorter-n.ensures, omega arith, iter-none _ _)
+
+pub loop-i-preserved : goal.loop-i-preserved
+loop-i-preserved c =
+    let l = c.loop-i in
+    (l.invariant.0, omega arith, rw c.log.ensures (iter-next _ _ _ l.invariant.2))
+
+pub returns : goal.returns
+unfolding less_logs
+returns c = iter_end _ _ _ _ c.loop-i.invariant.2 (omega arith) (omega arith)

@@ -1,0 +1,12 @@
+-- `product_head` meets its contract: after i turns the first i places are written. The measure is what is left of the count. Assumes
+-- nothing.
+use Rattle.std.proofs.Common.{◌≡◌, ◌-◌, ◌≤◌, length, take}
+use Rattle.cone.specs.Points.{padded}
+use Rattle.genpowcone.specs.loops.Places.{product_head}
+use Rattle.genpowcone.proofs.loops.places.product_head.Given as goal
+
+abbrev pub invariant-loop-i : goal.invariant-loop-i
+invariant-loop-i l = (l.i ≤ length l.x) × (l.y ≡ padded 64 (take l.i (product_head l.d1 l.q l.coefq l.x)))
+
+abbrev pub decreases-loop-i : goal.decreases-loop-i
+decreases-loop-i l = length l.x - l.i

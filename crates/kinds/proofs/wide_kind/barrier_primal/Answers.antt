@@ -1,0 +1,14 @@
+-- `barrier_primal` hands on the exponents in use. Assumes nothing.
+use native.Mathlib.Omega.{arith}
+use Rattle.judges.proofs.Lengths.{used_at_most}
+use Rattle.kinds.specs.Wide.{barrier_primal_of}
+use borrow.Author.Rules.{rules}
+use Rattle.kinds.proofs.wide_kind.barrier_primal.Goals as goal
+
+pub barrier_primal-requires : goal.barrier_primal-requires
+barrier_primal-requires c =
+    (omega (arith, used_at_most c.args.dim1 c.args.exps.now (search rules) c.head.ensures), c.requires)
+
+pub returns : goal.returns
+unfolding barrier_primal_of
+returns c = simp (← c.head.ensures) c.barrier_primal.ensures

@@ -1,5 +1,3 @@
--- A record that a reader finds lies in the trace (Places); what every walk over a `Reader` uses (Held), and the call of `make` (Making).
+-- A record that a reader finds lies in the trace (Places), and any two outcomes agree (Agree).
 pub mod Places
-pub mod Held
-pub mod Making
 pub mod Agree

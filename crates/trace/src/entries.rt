@@ -16,7 +16,7 @@ use trace_layout::pieces::{NEWEST_EDITION, TRAILER_SIZE};
 
 // What a call that writes answers: its number, and the trace's length as it stands now.
 #[repr(C)]
-#[derive(Drop)]
+#[derive(Clone, Copy)]
 pub struct Written {
     pub code: u32,
     pub length: u64,
@@ -24,7 +24,7 @@ pub struct Written {
 
 // A trace that was judged: 0 or 9, its edition and its count of records.
 #[repr(C)]
-#[derive(Drop)]
+#[derive(Clone, Copy)]
 pub struct Opened {
     pub code: u32,
     pub edition: u32,

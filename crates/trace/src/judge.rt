@@ -11,7 +11,7 @@ use trace_layout::pieces::{BACK_MARK, MOST_RECORDS, NEWEST_EDITION, Piece, TRAIL
 pub(crate) const MOST_COUNT: u32 = MOST_RECORDS as u32;
 
 // What a trailer says.
-#[derive(Drop)]
+#[derive(Clone, Copy)]
 pub struct Trailer {
     pub list: u64,
     pub count: u32,
@@ -20,7 +20,7 @@ pub struct Trailer {
 }
 
 // A trace that was judged: 0 or 9, its edition and count, and where its records end.
-#[derive(Drop)]
+#[derive(Clone, Copy)]
 pub struct Judged {
     pub code: u32,
     pub edition: u32,

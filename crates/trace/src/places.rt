@@ -3,7 +3,7 @@
 // records already"
 ghost use Rattle.std.specs.Prelude.{◌≡◌, cond};
 ghost use Rattle.trace_layout.specs.Records.{own_dims};
-ghost use Rattle.trace.specs.places.Given.{entryOf};
+ghost use Rattle.trace.specs.places.Given.{entry_of};
 ghost use Rattle.trace.specs.places.Places.{open_front, entry_ok, place_for, has_room};
 
 use crate::judge::MOST_COUNT;
@@ -23,7 +23,7 @@ fn dim(kind: u32, own: u32, other: u32) -> u32
 
 // The numbers of a record beside its vectors; of a double, its bits.
 pub(crate) fn entry_of(cone: Cone, flag: u32, settings: Settings, steps: Steps) -> Entry
-    ensures { result ≡ entryOf cone flag settings steps }
+    ensures { result ≡ entry_of cone flag settings steps }
 {
     let kind = cone.kind;
     let dim1 = dim(kind, cone.dim1, 3);

@@ -1,10 +1,10 @@
 // The reader of records, for bytes of any origin: what record of an edition stands at a place, and where the next one begins. 02, Order 2:
-// "The reader keeps hold of the trace and its place between records; the engineers want the same reader for later tools". The judge, replay,
-// the sheet and the readers of one record run over it, and so does the walk of `whole`, by which rescue, seal and thin find their records.
+// "The reader keeps hold of the trace and its place between records; the engineers want the same reader for later tools". The judge,
+// replay, the sheet and the readers of one record run over it, and so does the walk of `whole`, by which rescue, seal and thin find their
+// records.
 //
-// The borrow checker covers no function over a struct that holds a slice: each of these is a thin walk proved by hand and leaves the work
-// to a covered function over the slice, the place and the edition. `current_in` and `place_in` make a Reader for one call, so that a loop
-// over a plain slice and a place needs no such walk.
+// The functions of a Reader are thin, and leave the work to a function over the slice, the place and the edition. `current_in` and
+// `place_in` make a Reader for one call, so that a loop keeps a plain slice and a place.
 ghost use Rattle.std.specs.Prelude.{◌≡◌};
 ghost use Rattle.trace.specs.reader.Reading.{found_from, place_after};
 
@@ -12,7 +12,7 @@ use octets::words::behind;
 use trace_layout::pieces::Piece;
 use trace_layout::pieces::layout::found_at;
 
-#[derive(Drop)]
+#[derive(Clone, Copy)]
 pub struct Reader<'a> {
     pub bytes: &'a [u8],
     pub at: usize,

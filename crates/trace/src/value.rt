@@ -21,7 +21,7 @@ use trace_layout::pieces::{
 // A record, or the number of a refusal: where it begins, and where the next one does. Of each vector the first dim1 + dim2 places are used,
 // the others are +0.
 #[repr(C)]
-#[derive(Drop)]
+#[derive(Clone, Copy)]
 pub struct Recorded {
     pub code: u32,
     pub flag: u32,

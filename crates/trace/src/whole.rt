@@ -9,7 +9,7 @@ use crate::reader::current_in;
 use trace_layout::pieces::{MOST_RECORDS, Piece};
 
 // How many whole records there are, and where the last of them ends.
-#[derive(Drop)]
+#[derive(Clone, Copy)]
 pub struct Walked {
     pub count: usize,
     pub end: usize,

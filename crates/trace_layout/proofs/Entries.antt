@@ -68,7 +68,8 @@ entry_stands e zero at t entries d h i g = absurd (omega arith)
 entry_stands e (suc n) at t entries d h zero g =
     let w = turned e n at t entries h in entry_first e at (word_at 8 entries 0) t w.laid w.here
 entry_stands e (suc n) at t entries d h (suc i) g =
-    at_entry e at t (get_or (records_in e n (drop (size_at e t) t)) i d) (word_at 8 entries (8 * suc i)) (word_at 8 (drop 8 entries) (8 * i))
+    at_entry e at t (get_or (records_in e n (drop (size_at e t) t)) i d) (word_at 8 entries (8 * suc i)) (word_at 8 (drop 8 entries)
+    (8 * i))
     (next-entry entries i)
     (entry_later e at (size_at e t) (word_at 8 (drop 8 entries) (8 * i)) t (get_or (records_in e n (drop (size_at e t) t)) i d)
     (entry_stands e n (at + size_at e t) (drop (size_at e t) t) (drop 8 entries) d (turned e n at t entries h).later i (omega arith)))

@@ -68,7 +68,8 @@ traces_inverse = record {
     laid = good_laid bs bytes good;
   };
   determined = λ bs cs b c g h e r.
-      good_is_written bs b g ∙ ap (λ (k : ℕ). trace_of k (records_of bs)) e ∙ ap (trace_of (edition_at cs)) r ∙ sym (good_is_written cs c h);
+      good_is_written bs b g ∙ ap (λ (k : ℕ). trace_of k (records_of bs)) e ∙ ap (trace_of (edition_at cs)) r
+      ∙ sym (good_is_written cs c h);
 }
 
 -- ---- one record more

@@ -11,7 +11,8 @@ use mathlib.Core.Logic.{◌⊎◌, inl, inr, ⊎_elim}
 use Rattle.arith.proofs.Branches.{and_left, and_right, false_not_true}
 use Rattle.octets.specs.words.Words.{word_at, row_of, AllBelow}
 use Rattle.octets.specs.words.Runs.{Run, runs_size, runs_of, Suits}
-use Rattle.octets.proofs.words.Runs.{no_run, number_at, RowSuits, suits_at, only_below, length-runs_bytes, runs_of-runs_bytes, runs_bytes-runs_of}
+use Rattle.octets.proofs.words.Runs.{no_run, number_at, RowSuits, suits_at, only_below, length-runs_bytes, runs_of-runs_bytes}
+use Rattle.octets.proofs.words.Runs.{runs_bytes-runs_of}
 use Rattle.octets.proofs.words.Runs.{runs_of_suits}
 use Rattle.trace_layout.specs.Records.{Record, Laid, Sized, step_mark, rules_in, exponents, settings_in, run, runs_for, runs_in, size_in}
 use Rattle.trace_layout.specs.Records.{one, rows_in, bytes_of, dims_ok, step_ok, shape_ok, kind_at, dim1_at, dim2_at, flag_place, flag_at}
@@ -205,7 +206,8 @@ module _ (e : ℕ) (r : Record) (h : Laid e r) (g : Sized r) (rest : List ℕ) w
   pub laid_back : laid_at e t ≡ true
   unfolding laid_at
   laid_back =
-      let room : leb (size_in e r) (length t) ≡ true = le-leb (size_in e r) (length t) (simp (length-append, length-bytes_of) (omega arith)) in
+      let room : leb (size_in e r) (length t) ≡ true = le-leb (size_in e r) (length t) (simp (length-append, length-bytes_of)
+      (omega arith)) in
       let size : eqb (size_in e r) (size_in e r) ≡ true = eq-eqb (size_in e r) (size_in e r) refl in
       rw (
         flag_back,
@@ -237,7 +239,7 @@ unfolding AllBelow
 first_below n [] h = leb→le _ _ tt
 first_below n (x ∷ xs) h = h.below.0
 
--- what the tests of `laidAt` say
+-- what the tests of `laid_at` say
 pub record Found (e : ℕ) (t : List ℕ) : Type 0 where
   pub mark : word_at 4 t 0 ≡ step_mark
   pub size : word_at 4 t 4 ≡ size_at e t

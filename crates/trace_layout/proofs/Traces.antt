@@ -11,11 +11,13 @@ use borrow.Author.Tests.{eq-eqb, eqb-true, leb-true, le-leb}
 use Rattle.arith.proofs.Branches.{and_left, and_right}
 use Rattle.octets.specs.words.Words.{le, spelled, word_at, row_bytes, row_of, AllBelow}
 use Rattle.octets.specs.words.Runs.{runs_size, runs_bytes, runs_of, Suits}
-use Rattle.octets.proofs.words.Words.{length-le, spelled-le, le-spelled, length-row_bytes, row_bytes-below, below-append, below-take, below-drop}
+use Rattle.octets.proofs.words.Words.{length-le, spelled-le, le-spelled, length-row_bytes, row_bytes-below, below-append, below-take}
+use Rattle.octets.proofs.words.Words.{below-drop}
 use Rattle.octets.proofs.words.Runs.{number_at, runs_bytes-below, runs_of-runs_bytes, runs_bytes-runs_of, word_behind}
 use Rattle.trace_layout.specs.Records.{Record, size_in, one, bytes_of, only, size_at, laid_at}
 use Rattle.trace_layout.specs.Traces.{back_mark, most_records, newest_edition, known, records_bytes, offsets_from, trailer_runs, trailer_of}
-use Rattle.trace_layout.specs.Traces.{trace_of, AllLaid, list_at, count_at, edition_at, trailer_ok, walks, good_trace, records_in, records_of}
+use Rattle.trace_layout.specs.Traces.{trace_of, AllLaid, list_at, count_at, edition_at, trailer_ok, walks, good_trace, records_in}
+use Rattle.trace_layout.specs.Traces.{records_of}
 use Rattle.trace_layout.proofs.Records.{bounds, size-most, size-least, size_back, record_back, laid_back}
 use Rattle.trace_layout.proofs.Records.{length-bytes_of, bytes_read, laid_read}
 use Rattle.trace_layout.proofs.Records.{sized-read, size-read}
@@ -267,7 +269,7 @@ trailer_read c bytes h mark =
       number_at trailer_runs c 3 0 (omega arith),
     ) written
 
--- the tests of `trailerOk`
+-- the tests of `trailer_ok`
 pub record Ends (bs : List ℕ) : Type 0 where
   pub enough : 20 ≤ length bs
   pub mark : word_at 4 bs (length bs - 4) ≡ back_mark

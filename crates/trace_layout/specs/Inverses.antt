@@ -2,7 +2,8 @@
 use Rattle.std.specs.Prelude.{ℕ, ◌≤◌, ◌<◌, ◌≡◌, true, List, [], ◌∷◌, ◌++◌, length, take, get_or}
 use Rattle.octets.specs.words.Words.{AllBelow}
 use Rattle.trace_layout.specs.Records.{Record, Laid, Sized, bytes_of, laid_at, size_at, record_at}
-use Rattle.trace_layout.specs.Traces.{most_records, known, records_bytes, offsets_from, trace_of, AllLaid, edition_at, offset_at, good_trace}
+use Rattle.trace_layout.specs.Traces.{most_records, known, records_bytes, offsets_from, trace_of, AllLaid, edition_at, offset_at}
+use Rattle.trace_layout.specs.Traces.{good_trace}
 use Rattle.trace_layout.specs.Traces.{records_of}
 
 -- of one record, whatever lies behind it
@@ -24,7 +25,8 @@ pub record OfTraces : Type 0 where
   pub good : (e : ℕ) (rs : List Record) → Makes e rs → good_trace (trace_of e rs) ≡ true
   pub edition : (e : ℕ) (rs : List Record) → Makes e rs → edition_at (trace_of e rs) ≡ e
   pub read : (e : ℕ) (rs : List Record) → Makes e rs → records_of (trace_of e rs) ≡ rs
-  pub offset : (e : ℕ) (rs : List Record) → Makes e rs → (i : ℕ) → i < length rs → offset_at (trace_of e rs) i ≡ get_or (offsets_from e 0 rs) i 0
+  pub offset : (e : ℕ) (rs : List Record) → Makes e rs → (i : ℕ) → i < length rs → offset_at (trace_of e rs) i
+      ≡ get_or (offsets_from e 0 rs) i 0
   -- a good trace was written so, of an edition and records that make one
   pub written : (bs : List ℕ) → AllBelow 256 bs → good_trace bs ≡ true → bs ≡ trace_of (edition_at bs) (records_of bs)
   pub makes : (bs : List ℕ) → AllBelow 256 bs → good_trace bs ≡ true → Makes (edition_at bs) (records_of bs)

@@ -1,5 +1,6 @@
 -- A record of a step search as numbers, and its bytes in each edition. 02, Order 1. Definitions only.
-use Rattle.std.specs.Prelude.{ℕ, ◌+◌, ◌*◌, ◌-◌, ◌^◌, ◌<◌, ◌≡◌, Bool, true, cond, ◌&&◌, List, [], ◌∷◌, eqb, leb, ltb, length, get_or, replicate}
+use Rattle.std.specs.Prelude.{ℕ, ◌+◌, ◌*◌, ◌-◌, ◌^◌, ◌<◌, ◌≡◌, Bool, true, cond, ◌&&◌, List, [], ◌∷◌, eqb, leb, ltb, length, get_or}
+use Rattle.std.specs.Prelude.{replicate}
 use Rattle.octets.specs.lines.Lines.{mark}
 use Rattle.octets.specs.words.Words.{word_at, AllBelow}
 use Rattle.octets.specs.words.Runs.{Run, runs_size, runs_bytes, runs_of}

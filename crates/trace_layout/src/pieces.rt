@@ -43,7 +43,7 @@ pub const PRIMAL_COUNT_BACK: usize = 4;
 pub const FIXED_SIZE: usize = 56;
 
 // The numbers that a record's parts depend on, and its whole length.
-#[derive(Drop)]
+#[derive(Clone, Copy)]
 pub struct Shape {
     pub kind: u32,
     pub dim1: u32,
@@ -53,14 +53,14 @@ pub struct Shape {
 }
 
 // What stands at a place.
-#[derive(Drop)]
+#[derive(Clone, Copy)]
 pub enum Piece {
     Record(Shape),
     Broken,
 }
 
 // The numbers of a record beside its vectors: of a double, its bits.
-#[derive(Drop)]
+#[derive(Clone, Copy)]
 pub struct Entry {
     pub kind: u32,
     pub dim1: u32,
@@ -77,7 +77,7 @@ pub struct Entry {
 }
 
 // Where a record goes: the number of a refusal, or 0; the trace's edition, count of records and list; the record's length.
-#[derive(Drop)]
+#[derive(Clone, Copy)]
 pub struct Place {
     pub code: u32,
     pub edition: u32,

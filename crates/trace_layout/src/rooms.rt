@@ -23,7 +23,7 @@ pub fn file_room() -> [u8; FILE_ROOM]
 }
 
 // How many bytes of a text and of an output a program on a file has written.
-#[derive(Drop)]
+#[derive(Clone, Copy)]
 pub struct Lengths {
     pub text: usize,
     pub output: usize,

@@ -18,7 +18,7 @@ use trace_layout::rooms::row;
 
 // What a replay answers: its number, how many records there are, and how many of them are the same and differ.
 #[repr(C)]
-#[derive(Drop)]
+#[derive(Clone, Copy)]
 pub struct Replayed {
     pub code: u32,
     pub records: u32,

@@ -15,7 +15,7 @@ use trace_layout::rooms::row;
 
 // What a rescue answers: its number, the records kept, the bytes dropped, the output's length, and whether the input was a good trace.
 #[repr(C)]
-#[derive(Drop)]
+#[derive(Clone, Copy)]
 pub struct Rescued {
     pub code: u32,
     pub kept: u32,

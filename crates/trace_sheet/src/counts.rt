@@ -4,7 +4,7 @@ ghost use Rattle.trace_sheet.specs.counts.Counts.{place_of, counted, larger_of, 
 
 // The largest count of tests so far: size is one more than it, and 0 where there are no records; the file's number and the record's offset.
 #[repr(C)]
-#[derive(Drop)]
+#[derive(Clone, Copy)]
 pub struct Largest {
     pub size: u64,
     pub file: u64,

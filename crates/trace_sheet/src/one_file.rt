@@ -17,14 +17,14 @@ use trace_layout::pieces::{
 };
 
 // How many searches of one side there are, and the largest of them.
-#[derive(Drop)]
+#[derive(Clone, Copy)]
 pub struct Tally {
     pub records: u64,
     pub largest: Largest,
 }
 
 // Whether a file is counted, how many records it has, and the largest of each side. Its own number is 1.
-#[derive(Drop)]
+#[derive(Clone, Copy)]
 pub struct Part {
     pub taken: bool,
     pub records: u64,

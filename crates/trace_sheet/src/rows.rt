@@ -3,7 +3,8 @@
 ghost use Rattle.std.specs.Prelude.{◌≡◌, false, cond, length};
 ghost use Rattle.octets.specs.words.Words.{AllBelow};
 ghost use Rattle.trace_sheet.specs.counts.Counts.{Fresh, summed};
-ghost use Rattle.trace_sheet.specs.rows.Rows.{spills, rows_ok, named_in, names_ok, no_room, sheet_row, join_code, refused_totals, join_of, add_of};
+ghost use Rattle.trace_sheet.specs.rows.Rows.{spills, rows_ok, named_in, names_ok, no_room, sheet_row, join_code, refused_totals};
+ghost use Rattle.trace_sheet.specs.rows.Rows.{join_of, add_of};
 ghost use Rattle.trace_sheet.specs.rows.Added.{TotalsFit, joined_totals};
 
 use crate::counts::{Largest, larger_of, moved_up};
@@ -18,7 +19,7 @@ const LARGEST_COUNT: u64 = 0xffff_ffff_ffff_ffff;
 
 // What a sheet holds beside its rows, or the number of a refusal: its files, skipped ones too, its records, and the largest of each side.
 #[repr(C)]
-#[derive(Drop)]
+#[derive(Clone, Copy)]
 pub struct Totals {
     pub code: u32,
     pub files: u32,

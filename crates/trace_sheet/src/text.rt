@@ -15,7 +15,7 @@ const MOST_COUNT: u32 = MOST_FILES as u32;
 
 // The number of a refusal, or the text's length.
 #[repr(C)]
-#[derive(Drop)]
+#[derive(Clone, Copy)]
 pub struct Printed {
     pub code: u32,
     pub length: u64,

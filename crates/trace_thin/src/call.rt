@@ -14,7 +14,7 @@ use trace_layout::rooms::row;
 
 // What a thinning answers: its number, the records kept and dropped, the new trace's length.
 #[repr(C)]
-#[derive(Drop)]
+#[derive(Clone, Copy)]
 pub struct Thinned {
     pub code: u32,
     pub kept: u32,

@@ -13,7 +13,7 @@ use octets::words::{behind, copy, front, u32_at};
 use trace::whole::walk;
 
 // How many pieces are chosen, and how many bytes they have.
-#[derive(Drop)]
+#[derive(Clone, Copy)]
 pub struct Chosen {
     pub kept: usize,
     pub size: usize,

@@ -24,7 +24,7 @@ use Rattle.trace.specs.record_writer.Parts.{entry_bytes}
 use Rattle.trace.specs.writer.Entries.{insert_of}
 use Rattle.trace.proofs.record_writer.Bits.{length-bits_of}
 use Rattle.trace.proofs.record_writer.Parts.{entry_is_record, length-entry}
-use Rattle.trace.specs.places.Given.{canLay}
+use Rattle.trace.specs.places.Given.{can_lay}
 use Rattle.trace.specs.entries.Writing.{good_front, longer, append_rows}
 use Rattle.trace.specs.places.Places.{open_front, entry_ok, has_room, place_with, place_for}
 
@@ -56,8 +56,8 @@ module _ (e : ℕ) (x : Entry) (exps dz ds z s : List Float) where
   abbrev r : Record
   r = record_of x exps dz ds z s
 
-  pub same_judge : entry_ok e x (length dz) (length ds) (length z) (length s) ≡ canLay e r
-  unfolding entry_ok canLay record_of
+  pub same_judge : entry_ok e x (length dz) (length ds) (length z) (length s) ≡ can_lay e r
+  unfolding entry_ok can_lay record_of
   same_judge = rw (length-bits_of dz, length-bits_of ds, length-bits_of z, length-bits_of s)
 
   pub record CanLay : Type 0 where
@@ -70,7 +70,7 @@ module _ (e : ℕ) (x : Entry) (exps dz ds z s : List Float) where
     pub dualstep : step_ok x.dualstep ≡ true
     pub primalstep : step_ok x.primalstep ≡ true
 
-  pub can_lay_lem : canLay e r ≡ true → CanLay
+  pub can_lay_lem : can_lay e r ≡ true → CanLay
   unfolding entry_ok
   can_lay_lem h =
       let n = x.dim1 + x.dim2 in
@@ -101,7 +101,7 @@ module _ (e : ℕ) (x : Entry) (exps dz ds z s : List Float) where
       }
 
   module _ (exponent_places : shape_ok x.kind x.dim1 x.dim2 x.flag ≡ true → length exps ≡ exponents x.kind x.dim1)
-      (laid : canLay e r ≡ true) where
+      (laid : can_lay e r ≡ true) where
     pub entry-size : length (entry_bytes e x exps dz ds z s) ≡ runs_size (runs_for e x.kind x.dim1 x.dim2 x.flag)
     unfolding runs_for runs_size
     entry-size =
@@ -135,19 +135,20 @@ module _ (bs : List ℕ) (used : ℕ) (bytes : AllBelow 256 bs) (x : Entry) (exp
     pub good_old : good_trace old ≡ true
     good_old = and_right (leb used (length bs)) (good_trace old) good
 
-    pub longer-length : canLay (edition_at old) given ≡ true → length (longer bs used given) ≡ used + size + 8
+    pub longer-length : can_lay (edition_at old) given ≡ true → length (longer bs used given) ≡ used + size + 8
     unfolding longer record_of
     longer-length laid =
         grown-length bs used bytes inside good_old given (record_size (edition_at old) x exps dz ds z s exponent_places laid)
 
-    pub longer-stored : canLay (edition_at old) given ≡ true → used + size + 8 ≤ length bs
-        → insert_of bs place (entry_bytes (edition_at old) x exps dz ds z s) ≡ longer bs used given ++ drop (length (longer bs used given)) bs
+    pub longer-stored : can_lay (edition_at old) given ≡ true → used + size + 8 ≤ length bs
+        → insert_of bs place (entry_bytes (edition_at old) x exps dz ds z s)
+        ≡ longer bs used given ++ drop (length (longer bs used given)) bs
     unfolding insert_of longer place_with record_of
     longer-stored laid room =
         rw (front_good bs used good, entry_is_record (edition_at old) x exps dz ds z s)
         (grown-stored bs used bytes inside good_old given (record_size (edition_at old) x exps dz ds z s exponent_places laid) room)
 
-    same_rows : (l : Bool) → canLay (edition_at old) given ≡ l → place.code ≡ append_rows bs used given
+    same_rows : (l : Bool) → can_lay (edition_at old) given ≡ l → place.code ≡ append_rows bs used given
     unfolding append_rows place_with trace_row has_room
     same_rows false h = rw (front_good bs used good, good, same_judge (edition_at old) x exps dz ds z s, h)
     same_rows true h =
@@ -162,7 +163,7 @@ module _ (bs : List ℕ) (used : ℕ) (bytes : AllBelow 256 bs) (x : Entry) (exp
 
   code_by : (g : Bool) → good_front bs used ≡ g → place.code ≡ append_rows bs used given
   unfolding append_rows place_with trace_row
-  code_by true g = same_rows g (canLay (edition_at old) given) refl
+  code_by true g = same_rows g (can_lay (edition_at old) given) refl
   code_by false g = rw (front_bad bs used g, g)
 
   -- the code's number is the definition's
@@ -172,7 +173,7 @@ module _ (bs : List ℕ) (used : ℕ) (bytes : AllBelow 256 bs) (x : Entry) (exp
   -- what number 0 says
   pub record Free : Type 0 where
     pub good : good_front bs used ≡ true
-    pub laid : canLay (edition_at old) given ≡ true
+    pub laid : can_lay (edition_at old) given ≡ true
     pub few : count_at old < most_records
     pub room : used + size + 8 ≤ length bs
     pub used_length : list_at old + 8 * count_at old + 20 ≡ used
@@ -181,9 +182,9 @@ module _ (bs : List ℕ) (used : ℕ) (bytes : AllBelow 256 bs) (x : Entry) (exp
   unfolding append_rows
   free h =
       let off = trace_row-off _ _ h in
-      let judged = not-false (good_front bs used && canLay (edition_at old) given) off.0 in
-      let good = and_left (good_front bs used) (canLay (edition_at old) given) judged in
-      let laid = and_right (good_front bs used) (canLay (edition_at old) given) judged in
+      let judged = not-false (good_front bs used && can_lay (edition_at old) given) off.0 in
+      let good = and_left (good_front bs used) (can_lay (edition_at old) given) judged in
+      let laid = and_right (good_front bs used) (can_lay (edition_at old) given) judged in
       let fits = not-false (ltb (length (records_of old)) most_records && leb (length (longer bs used given)) (length bs)) off.1 in
       let few : length (records_of old) < most_records =
       ltb-true _ _ (and_left (ltb (length (records_of old)) most_records) (leb (length (longer bs used given)) (length bs)) fits) in

@@ -27,7 +27,7 @@ use Rattle.cone.specs.table.Table.{settle}
 use Rattle.trace_layout.specs.declared.pieces.Entry.{Entry}
 use Rattle.trace_layout.specs.pieces.Entries.{settings_row, record_of}
 use Rattle.trace.proofs.record_writer.Bits.{length-bits_of}
-use Rattle.trace.specs.places.Given.{dim1Of, dim2Of, entryOf, usedExps, given_of, canLay}
+use Rattle.trace.specs.places.Given.{dim1_of, dim2_of, entry_of, used_exps, given_of, can_lay}
 use Rattle.trace.specs.entries.Writing.{Left, refuse, leave, longer, append_rows, append_of}
 use Rattle.trace.specs.entries.Values.{Passed}
 use Rattle.trace.specs.kept.Appended.{trace_in, Appended}
@@ -48,30 +48,30 @@ settled (suc k) bs left h = absurd (omega arith)
 module _ (c : Cone) (flag : ℕ) (settings : Settings) (dz ds z s : List Float) (steps : Steps)
     (passed : Passed c flag settings dz ds z s steps) where
   abbrev x : Entry
-  x = entryOf c flag settings steps
+  x = entry_of c flag settings steps
 
   abbrev r : Record
   r = given_of c flag settings dz ds z s steps
 
-  pub exponent_places : shape_ok x.kind x.dim1 x.dim2 x.flag ≡ true → length (usedExps c) ≡ exponents x.kind x.dim1
-  unfolding entryOf
+  pub exponent_places : shape_ok x.kind x.dim1 x.dim2 x.flag ≡ true → length (used_exps c) ≡ exponents x.kind x.dim1
+  unfolding entry_of
   exponent_places h =
-      length-take-le (exponents c.kind (dim1Of c)) c.exps
+      length-take-le (exponents c.kind (dim1_of c)) c.exps
       (omega (
         arith,
         passed.places,
-        exponents-most c.kind (dim1Of c) 32 (omega arith)
-            (bounds c.kind (dim1Of c) (dim2Of c) flag h).dim1,
+        exponents-most c.kind (dim1_of c) 32 (omega arith)
+            (bounds c.kind (dim1_of c) (dim2_of c) flag h).dim1,
       ))
 
-  pub given_laid : (e : ℕ) → canLay e r ≡ true → Laid e r
-  unfolding record_of entryOf
+  pub given_laid : (e : ℕ) → can_lay e r ≡ true → Laid e r
+  unfolding record_of entry_of
   given_laid e h =
-      let p = can_lay_lem e x (usedExps c) dz ds z s h in
+      let p = can_lay_lem e x (used_exps c) dz ds z s h in
       record {
         shape = p.shape;
         ruled = no_rule_but_one e c.rule (has_rule e) refl p.ruled;
-        exps = length-bits_of (usedExps c) ∙ exponent_places p.shape;
+        exps = length-bits_of (used_exps c) ∙ exponent_places p.shape;
         settings =
             length-take-le (settings_in flag) (to_bits binary64 settings.step ∷ to_bits binary64 settings.smallest ∷ [])
             (settings-most flag);
@@ -84,16 +84,16 @@ module _ (c : Cone) (flag : ℕ) (settings : Settings) (dz ds z s : List Float) 
       }
 
   settings-below : AllBelow (256 ^ 8) (settings_row x)
-  unfolding AllBelow entryOf
+  unfolding AllBelow entry_of
   settings-below =
       below-take (256 ^ 8) (settings_in flag) (to_bits binary64 settings.step ∷ to_bits binary64 settings.smallest ∷ [])
       (omega (arith, pattern_lt settings.step passed.step), (omega (arith, pattern_lt settings.smallest passed.smallest), tt))
 
   pub given-sized : Sized r
-  unfolding record_of entryOf
+  unfolding record_of entry_of
   given-sized = record {
     rule = omega (arith, passed.rule);
-    exps = bits_below (usedExps c) (doubles_take (exponents c.kind (dim1Of c)) c.exps passed.exps);
+    exps = bits_below (used_exps c) (doubles_take (exponents c.kind (dim1_of c)) c.exps passed.exps);
     start = omega (arith, pattern_lt settings.start passed.start);
     settings = settings-below;
     dz = bits_below dz passed.dz_doubles;
@@ -126,8 +126,8 @@ module _ (c : Cone) (flag : ℕ) (settings : Settings) (dz ds z s : List Float) 
     unfolding append_of
     rows-off = settled (append_rows bs used r) bs (leave bs (longer bs used r)) done
 
-    pub ok : Free bs used bytes x (usedExps c) dz ds z s exponent_places
-    ok = free bs used bytes x (usedExps c) dz ds z s exponent_places rows-off
+    pub ok : Free bs used bytes x (used_exps c) dz ds z s exponent_places
+    ok = free bs used bytes x (used_exps c) dz ds z s exponent_places rows-off
 
     pub left_is : left ≡ leave bs (longer bs used r)
     unfolding append_of settle
@@ -135,17 +135,17 @@ module _ (c : Cone) (flag : ℕ) (settings : Settings) (dz ds z s : List Float) 
 
     pub longer_fits : length (longer bs used r) ≤ length bs
     longer_fits =
-        omega (arith, longer-length bs used bytes x (usedExps c) dz ds z s exponent_places ok.good ok.laid, ok.room)
+        omega (arith, longer-length bs used bytes x (used_exps c) dz ds z s exponent_places ok.good ok.laid, ok.room)
 
     is-longer : after ≡ trace_of e (rs ++ single r)
     unfolding append_of settle longer
     is-longer = rw rows-off (take_at (longer bs used r) (drop (length (longer bs used r)) bs) (length (longer bs used r)) refl)
 
     pub in_slice : used ≤ length bs
-    in_slice = inside bs used bytes x (usedExps c) dz ds z s exponent_places ok.good
+    in_slice = inside bs used bytes x (used_exps c) dz ds z s exponent_places ok.good
 
     pub was_good : good_trace before ≡ true
-    was_good = good_old bs used bytes x (usedExps c) dz ds z s exponent_places ok.good
+    was_good = good_old bs used bytes x (used_exps c) dz ds z s exponent_places ok.good
 
     -- the earlier records make a trace, and so do they with the new one
     makes_before : Makes e rs

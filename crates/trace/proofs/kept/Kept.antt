@@ -18,7 +18,7 @@ use Rattle.trace_layout.specs.Records.{Record, exponents, settings_in, record_at
 use Rattle.trace_layout.specs.Traces.{list_at, count_at, edition_at, offset_at, good_trace, records_of}
 use Rattle.trace_layout.proofs.Appending.{single}
 use Rattle.trace_layout.specs.pieces.Entries.{record_of}
-use Rattle.trace.specs.places.Given.{dim1Of, entryOf, usedExps, given_of}
+use Rattle.trace.specs.places.Given.{dim1_of, entry_of, used_exps, given_of}
 use Rattle.trace.specs.entries.Writing.{append_of}
 use Rattle.trace.specs.entries.Values.{Passed}
 use Rattle.trace.specs.value.Defaults.{default_of}
@@ -53,7 +53,7 @@ module _ (c : Cone) (flag : ℕ) (settings : Settings) (dz ds z s : List Float) 
 
   -- the settings' own numbers stand behind a flag of 0
   settings_back : (e : ℕ) (own : Bool) → eqb flag 0 ≡ own → settings_of e given ≡ cond own settings (default_of e settings.start)
-  unfolding settings_of record_of entryOf settings_in
+  unfolding settings_of record_of entry_of settings_in
   settings_back e true h =
       rw (
         h,
@@ -65,11 +65,11 @@ module _ (c : Cone) (flag : ℕ) (settings : Settings) (dz ds z s : List Float) 
 
   -- the doubles of the record are those that were given
   pub values_kept : (e at : ℕ) → recorded_of e at given ≡ kept_of e at c flag settings dz ds z s steps
-  unfolding recorded_of cone_of steps_of kept_of record_of entryOf
+  unfolding recorded_of cone_of steps_of kept_of record_of entry_of
   values_kept e at =
       rw (
         settings_back e (eqb flag 0) refl,
-        values_back (usedExps c) (doubles_take (exponents c.kind (dim1Of c)) c.exps passed.exps),
+        values_back (used_exps c) (doubles_take (exponents c.kind (dim1_of c)) c.exps passed.exps),
         values_back dz passed.dz_doubles,
         values_back ds passed.ds_doubles,
         values_back z passed.z_doubles,
@@ -109,7 +109,11 @@ module _ (c : Cone) (flag : ℕ) (settings : Settings) (dz ds z s : List Float) 
     pub earlier_kept : (i : ℕ) → i < count_at before → recorded_in after i ≡ recorded_in before i
     earlier_kept i few =
         let e = edition_at before in
-        let early : i < length (records_of before) = omega (arith, count_before c flag settings dz ds z s steps passed bs used bytes done) in
+        let early : i < length (records_of before) = omega (
+          arith,
+          count_before c flag settings dz ds z s steps passed bs used bytes
+              done,
+        ) in
         let more : i < count_at after = omega (arith, now_there.count) in
         read-good after i now_there.good more
         ∙ ap (λ (k : ℕ). recorded_of k (offset_at after i) (get_or (records_of after) i (record_at k []))) now_there.edition

@@ -18,12 +18,13 @@ use Rattle.trace_layout.specs.Traces.{newest_edition, most_records, known, recor
 use Rattle.trace_layout.proofs.Records.{length-bytes_of, laid_back, record_back}
 use Rattle.trace_layout.proofs.Appending.{all_laid_more, records_more}
 use Rattle.trace_layout.proofs.Traces.{good_ends, good-count, good_is_written}
-use Rattle.trace.specs.places.Given.{entryOf, usedExps, canLay}
+use Rattle.trace.specs.places.Given.{entry_of, used_exps, can_lay}
 use Rattle.trace.specs.entries.Values.{Passed}
 use Rattle.trace.specs.entries.Writing.{Left, leave, longer}
 use Rattle.trace.specs.declared.value.Recorded.{Recorded}
 use Rattle.trace.specs.whole.Whole.{whole_records}
-use Rattle.trace.specs.recording.Recording.{put_down, put_rows, record_put_of, record_at_of, whole_front, sealed_front, seal_rows, trace_seal_of}
+use Rattle.trace.specs.recording.Recording.{put_down, put_rows, record_put_of, record_at_of, whole_front, sealed_front, seal_rows}
+use Rattle.trace.specs.recording.Recording.{trace_seal_of}
 use Rattle.trace.specs.kept.Kept.{kept_of}
 use Rattle.trace.specs.kept.Appended.{trace_in, Appended}
 use Rattle.trace.specs.kept.Made.{Call, handed, called, AllPassed, Held, begun, append_one, append_all}
@@ -53,13 +54,13 @@ module _ (e : ℕ) (bs : List ℕ) (at : ℕ) (a : Call) (passed : Fits a) where
   left = put_call e bs at a
 
   abbrev x : Entry
-  x = entryOf a.cone a.flag a.settings a.steps
+  x = entry_of a.cone a.flag a.settings a.steps
 
-  abbrev places : shape_ok x.kind x.dim1 x.dim2 x.flag ≡ true → length (usedExps a.cone) ≡ exponents x.kind x.dim1
+  abbrev places : shape_ok x.kind x.dim1 x.dim2 x.flag ≡ true → length (used_exps a.cone) ≡ exponents x.kind x.dim1
   places = exponent_places a.cone a.flag a.settings a.dz a.ds a.z a.s a.steps passed
 
   -- no row applies where the record can be laid out and has room
-  pub rows_pass : known e ≡ true → canLay e r ≡ true → at + length new ≤ length bs → put_rows bs at e r ≡ 0
+  pub rows_pass : known e ≡ true → can_lay e r ≡ true → at + length new ≤ length bs → put_rows bs at e r ≡ 0
   unfolding put_rows trace_row
   rows_pass edition laid room =
       rw (edition, laid, le-leb at (length bs) (omega arith), le-ltb (length bs) (at + length new) room)
@@ -77,8 +78,8 @@ module _ (e : ℕ) (bs : List ℕ) (at : ℕ) (a : Call) (passed : Fits a) where
     unfolding record_put_of settle
     is_put = rw rows-off
 
-    free : PutFree bs at e x (usedExps a.cone) a.dz a.ds a.z a.s places
-    free = put_free bs at e x (usedExps a.cone) a.dz a.ds a.z a.s places rows-off
+    free : PutFree bs at e x (used_exps a.cone) a.dz a.ds a.z a.s places
+    free = put_free bs at e x (used_exps a.cone) a.dz a.ds a.z a.s places rows-off
 
     pub put_laid : Laid e r
     put_laid = given_laid a.cone a.flag a.settings a.dz a.ds a.z a.s a.steps passed e free.laid
@@ -199,7 +200,8 @@ module _ (e : ℕ) (bs : List ℕ) (used : ℕ) (rs : List Record) (inside : use
   unfolding trace_seal_of settle
   seal_leaves done =
       let new = sealed_front bs used e in
-      rw (settled (seal_rows bs used e) bs (leave bs new) done) (take_at new (drop (length new) bs) (length new) refl ∙ ap (trace_of e) whole_is)
+      rw (settled (seal_rows bs used e) bs (leave bs new) done) (take_at new (drop (length new) bs) (length new) refl
+      ∙ ap (trace_of e) whole_is)
 
   rows_none : known e ≡ true → length (trace_of e rs) ≤ length bs → seal_rows bs used e ≡ 0
   unfolding seal_rows whole_front trace_row
@@ -268,7 +270,7 @@ module _ (room : ℕ) (made put : Held) (now : Alike room made put) where
     abbrev grown : List ℕ
     grown = longer made.bytes made.used (handed a)
 
-    can_put : canLay newest_edition (handed a) ≡ true
+    can_put : can_lay newest_edition (handed a) ≡ true
     can_put =
         rw now.edition at
         (ok a.cone a.flag a.settings a.dz a.ds a.z a.s a.steps passed made.bytes made.used now.stands.bytes

@@ -47,6 +47,7 @@ no_settings f h = rw (ne_eqb f 0 h)
 pub length-row : (row : List Float) → length (row_bytes 8 (bits_of row)) ≡ 8 * length row
 length-row row = rw (length-row_bytes 8 (bits_of row), length-bits_of row)
 
-pub length-vectors : (dz ds z s : List Float) → length (vector_bytes dz ds z s) ≡ 8 * length dz + 8 * length ds + 8 * length z + 8 * length s
+pub length-vectors : (dz ds z s : List Float) → length (vector_bytes dz ds z s)
+    ≡ 8 * length dz + 8 * length ds + 8 * length z + 8 * length s
 unfolding vector_bytes
 length-vectors dz ds z s = simp (length-append, length-row)

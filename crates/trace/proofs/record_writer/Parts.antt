@@ -31,7 +31,8 @@ entry_is_record e x exps dz ds z s =
     let rule = row_bytes 4 (rule_row e x.rule) in
     grouped_six head rule (row_bytes 8 (bits_of exps)) (search_bytes x) (vector_bytes dz ds z s) (result_bytes x)
     ∙ ap (λ (l : List ℕ). head ++ (rule ++ (row_bytes 8 (bits_of exps) ++ (search_bytes x ++ l))))
-    (grouped_five (row_bytes 8 (bits_of dz)) (row_bytes 8 (bits_of ds)) (row_bytes 8 (bits_of z)) (row_bytes 8 (bits_of s)) (result_bytes x))
+    (grouped_five (row_bytes 8 (bits_of dz)) (row_bytes 8 (bits_of ds)) (row_bytes 8 (bits_of z)) (row_bytes 8 (bits_of s))
+    (result_bytes x))
 
 -- ---- lengths
 

@@ -29,7 +29,7 @@ use Rattle.trace_layout.specs.declared.pieces.Entry.{Entry}
 use Rattle.trace_layout.specs.pieces.Entries.{record_of}
 use Rattle.trace.specs.record_writer.Parts.{entry_bytes}
 use Rattle.trace.proofs.record_writer.Parts.{entry_is_record}
-use Rattle.trace.specs.places.Given.{canLay}
+use Rattle.trace.specs.places.Given.{can_lay}
 use Rattle.trace.specs.places.Places.{entry_ok}
 use Rattle.trace.specs.entries.Writing.{Left, leave}
 use Rattle.trace.specs.seal.Seal.{seal_of}
@@ -60,30 +60,30 @@ module _ (bs : List ℕ) (at e : ℕ) (x : Entry) (exps dz ds z s : List Float)
       trace_row (not (known e && entry_ok e x (length dz) (length ds) (length z) (length s) && leb at (length bs)))
       (ltb (length bs) (at + size))
 
-  code_by : (l : Bool) → canLay e given ≡ l → judged ≡ put_rows bs at e given
+  code_by : (l : Bool) → can_lay e given ≡ l → judged ≡ put_rows bs at e given
   unfolding put_rows trace_row record_of
   code_by false h = rw (same_judge e x exps dz ds z s, h, no_middle (known e) (leb at (length bs)))
   code_by true h = rw (same_judge e x exps dz ds z s, h, record_size e x exps dz ds z s exponent_places h)
 
   -- the code's number is the definition's
   pub put_code : judged ≡ put_rows bs at e given
-  put_code = code_by (canLay e given) refl
+  put_code = code_by (can_lay e given) refl
 
   -- what number 0 says
   pub record PutFree : Type 0 where
     pub edition : known e ≡ true
-    pub laid : canLay e given ≡ true
+    pub laid : can_lay e given ≡ true
     pub room : at + length (bytes_of e given) ≤ length bs
 
   pub put_free : put_rows bs at e given ≡ 0 → PutFree
   unfolding put_rows
   put_free h =
       let off = trace_row-off _ _ h in
-      let good = not-false (known e && canLay e given && leb at (length bs)) off.0 in
-      let both = and_left (known e && canLay e given) (leb at (length bs)) good in
+      let good = not-false (known e && can_lay e given && leb at (length bs)) off.0 in
+      let both = and_left (known e && can_lay e given) (leb at (length bs)) good in
       record {
-        edition = and_left (known e) (canLay e given) both;
-        laid = and_right (known e) (canLay e given) both;
+        edition = and_left (known e) (can_lay e given) both;
+        laid = and_right (known e) (can_lay e given) both;
         room = ltb-false (length bs) (at + length (bytes_of e given)) off.1;
       }
 

@@ -12,7 +12,8 @@ use Rattle.cone.specs.declared.Settings.{Settings}
 use Rattle.cone.specs.declared.Steps.{Steps}
 use Rattle.octets.specs.words.Words.{word_at}
 use Rattle.trace_layout.specs.declared.pieces.Shape.{Shape}
-use Rattle.trace_layout.specs.Records.{rules_in, exponents, settings_in, flag_place, kind_at, dim1_at, dim2_at, rule_at, flag_at, size_at, size_in}
+use Rattle.trace_layout.specs.Records.{rules_in, exponents, settings_in, flag_place, kind_at, dim1_at, dim2_at, rule_at, flag_at, size_at}
+use Rattle.trace_layout.specs.Records.{size_in}
 use Rattle.trace_layout.specs.Records.{laid_at, record_at}
 use Rattle.trace_layout.specs.pieces.Shapes.{shape_at}
 use Rattle.trace.specs.value.Defaults.{default_of}

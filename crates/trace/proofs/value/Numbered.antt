@@ -60,7 +60,8 @@ module _ (bs : List ℕ) (i : ℕ) (o : Judged) (is : o ≡ open_of bs) where
     pub entry_inside : o.list + 8 * i + 28 ≤ length bs
     unfolding good_trace
     entry_inside =
-        let e = ends bs (and_left (trailer_ok bs) (walks (edition_at bs) (count_at bs) 0 (take (list_at bs) bs) (drop (list_at bs) bs)) good) in
+        let e = ends bs (and_left (trailer_ok bs) (walks (edition_at bs) (count_at bs) 0 (take (list_at bs) bs) (drop
+        (list_at bs) bs)) good) in
         omega (arith, e.list, list_is, within)
 
     module _ (at : ℕ) (entry : at ≡ word_at 8 bs (o.list + 8 * i)) where
@@ -101,4 +102,12 @@ module _ (bs : List ℕ) (i : ℕ) (o : Judged) (is : o ≡ open_of bs) where
           unfolding recorded_in
           numbered =
               let part-is : t ≡ drop at (take (list_at bs) bs) = part ∙ ap (drop at) body_is in
-              rw (good, lt-ltb i (count_at bs) within, edition-is, part-is, at-is, entry_read bs good (record_at (edition_at bs) []) i within)
+              rw (
+                good,
+                lt-ltb i (count_at bs) within,
+                edition-is,
+                part-is,
+                at-is,
+                entry_read bs good (record_at
+                    (edition_at bs) []) i within,
+              )

@@ -9,7 +9,8 @@ use lib.Seq.{take_at}
 use Rattle.octets.specs.words.Words.{le, spelled, word_at, row_bytes, AllBelow}
 use Rattle.octets.specs.words.Runs.{runs_bytes}
 use Rattle.trace_layout.specs.Records.{Record, laid_at}
-use Rattle.trace_layout.specs.Traces.{most_records, records_bytes, offsets_from, trailer_of, trace_of, AllLaid, edition_at, good_trace, records_of}
+use Rattle.trace_layout.specs.Traces.{most_records, records_bytes, offsets_from, trailer_of, trace_of, AllLaid, edition_at, good_trace}
+use Rattle.trace_layout.specs.Traces.{records_of}
 use Rattle.trace_layout.proofs.Records.{found}
 use Rattle.trace_layout.proofs.Traces.{good_ends, good_laid, good-count, good_is_written}
 use Rattle.trace.specs.whole.Whole.{whole_in, whole_records}

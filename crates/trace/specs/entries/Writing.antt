@@ -7,7 +7,7 @@ use Rattle.cone.specs.table.Table.{trace_row, settle}
 use Rattle.trace_layout.specs.Records.{Record}
 use Rattle.trace_layout.specs.Traces.{newest_edition, most_records, trailer_size, trace_of, edition_at, good_trace, records_of}
 use Rattle.trace.specs.declared.entries.Written.{Written}
-use Rattle.trace.specs.places.Given.{given_of, canLay}
+use Rattle.trace.specs.places.Given.{given_of, can_lay}
 
 -- a call's answer, and the bytes of the slice that it was lent
 pub record Left : Type 0 where
@@ -38,7 +38,7 @@ longer bs used r = let old = take used bs in trace_of (edition_at old) (records_
 -- records already"
 unfoldable pub append_rows : List ℕ → ℕ → Record → ℕ
 append_rows bs used r =
-    trace_row (not (good_front bs used && canLay (edition_at (take used bs)) r))
+    trace_row (not (good_front bs used && can_lay (edition_at (take used bs)) r))
     (not (ltb (length (records_of (take used bs))) most_records && leb (length (longer bs used r)) (length bs)))
 
 unfoldable pub append_of : List ℕ → ℕ → Cone → ℕ → Settings → List Float → List Float → List Float → List Float → Steps → Left

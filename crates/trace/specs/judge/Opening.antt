@@ -8,7 +8,7 @@ use Rattle.trace_layout.specs.Traces.{back_mark, most_records, trailer_size, kno
 unfoldable pub trailer_at : List ℕ → Trailer
 trailer_at bs = record { list = list_at bs; count = count_at bs; edition = edition_at bs; mark = word_at 4 bs (length bs - 4) }
 
--- `trailerOk` of a trailer that was read, at the end of n bytes
+-- `trailer_ok` of a trailer that was read, at the end of n bytes
 unfoldable pub trailer_ok_with : ℕ → Trailer → Bool
 trailer_ok_with n t =
     leb trailer_size n && eqb t.mark back_mark && known t.edition && leb t.count most_records

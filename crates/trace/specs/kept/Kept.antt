@@ -4,7 +4,7 @@ use Rattle.cone.specs.declared.Cone.{Cone}
 use Rattle.cone.specs.declared.Settings.{Settings}
 use Rattle.cone.specs.declared.Steps.{Steps}
 use Rattle.trace_layout.specs.Records.{size_in}
-use Rattle.trace.specs.places.Given.{dim1Of, dim2Of, usedExps, given_of}
+use Rattle.trace.specs.places.Given.{dim1_of, dim2_of, used_exps, given_of}
 use Rattle.trace.specs.declared.value.Recorded.{Recorded}
 use Rattle.trace.specs.value.Defaults.{default_of}
 use Rattle.cone.specs.Points.{padded}
@@ -22,7 +22,7 @@ kept_of edition at c flag settings dz ds z s steps = record {
   flag = flag;
   at = at;
   next = at + size_in edition (given_of c flag settings dz ds z s steps);
-  cone = record { kind = c.kind; dim1 = dim1Of c; dim2 = dim2Of c; rule = c.rule; exps = padded 32 (usedExps c) };
+  cone = record { kind = c.kind; dim1 = dim1_of c; dim2 = dim2_of c; rule = c.rule; exps = padded 32 (used_exps c) };
   settings = cond (eqb flag 0) settings (default_of edition settings.start);
   dz = padded 64 dz;
   ds = padded 64 ds;

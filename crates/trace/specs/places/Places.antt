@@ -12,7 +12,7 @@ use Rattle.trace_layout.specs.declared.pieces.Place.{Place}
 unfoldable pub open_front : List ℕ → ℕ → Judged
 open_front bs used = cond (leb used (length bs)) (open_of (take used bs)) (record { code = 9; edition = 0; count = 0; list = 0 })
 
--- `canLay` of the numbers and the lengths
+-- `can_lay` of the numbers and the lengths
 unfoldable pub entry_ok : ℕ → Entry → ℕ → ℕ → ℕ → ℕ → Bool
 entry_ok e x ndz nds nz ns =
     let n = x.dim1 + x.dim2 in

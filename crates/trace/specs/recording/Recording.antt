@@ -1,5 +1,5 @@
--- Recording as searches are made: what each of the three calls answers and leaves, for all arguments. docs/DECISIONS says why they are there:
--- a call judges only what it touches. Definitions only.
+-- Recording as searches are made: what each of the three calls answers and leaves, for all arguments. docs/DECISIONS says why they are
+-- there: a call judges only what it touches. Definitions only.
 use Rattle.std.specs.Prelude.{ℕ, ◌+◌, Bool, cond, not, ◌&&◌, List, ◌++◌, eqb, leb, ltb, Float, length, take, drop}
 use Rattle.cone.specs.declared.Cone.{Cone}
 use Rattle.cone.specs.declared.Settings.{Settings}
@@ -7,7 +7,7 @@ use Rattle.cone.specs.declared.Steps.{Steps}
 use Rattle.cone.specs.table.Table.{trace_row, settle}
 use Rattle.trace_layout.specs.Records.{Record, bytes_of, laid_at, record_at}
 use Rattle.trace_layout.specs.Traces.{known, records_bytes, trace_of}
-use Rattle.trace.specs.places.Given.{given_of, canLay}
+use Rattle.trace.specs.places.Given.{given_of, can_lay}
 use Rattle.trace.specs.entries.Writing.{Left, refuse, leave}
 use Rattle.trace.specs.declared.value.Recorded.{Recorded}
 use Rattle.trace.specs.value.Recorded.{recorded_of, refused_record}
@@ -24,7 +24,7 @@ put_down bs at new =
 -- place above the slice; "then 8 no room"
 unfoldable pub put_rows : List ℕ → ℕ → ℕ → Record → ℕ
 put_rows bs at e r =
-    trace_row (not (known e && canLay e r && leb at (length bs))) (ltb (length bs) (at + length (bytes_of e r)))
+    trace_row (not (known e && can_lay e r && leb at (length bs))) (ltb (length bs) (at + length (bytes_of e r)))
 
 unfoldable pub record_put_of : List ℕ → ℕ → ℕ → Cone → ℕ → Settings → List Float → List Float → List Float → List Float → Steps → Left
 record_put_of bs at e c flag settings dz ds z s steps =

@@ -10,7 +10,7 @@ use Rattle.trace_layout.specs.Records.{kind_at, dim1_at, dim2_at, flag_at, size_
 unfoldable pub shape_at : ℕ → List ℕ → Shape
 shape_at edition t = record { kind = kind_at t; dim1 = dim1_at t; dim2 = dim2_at t; flag = flag_at edition t; size = size_at edition t }
 
--- `laidAt` of a shape that was read
+-- `laid_at` of a shape that was read
 unfoldable pub laid_with : List ℕ → Shape → Bool
 laid_with t shape =
     leb dual_step_back shape.size

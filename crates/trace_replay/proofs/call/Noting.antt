@@ -1,8 +1,8 @@
 -- What is left to note at a place of a trace that was judged: a turn of the loop, its begin and its end. Assumes nothing.
 use mathlib.Core.Path.{◌≡◌, refl, sym, ap, ◌∙◌}
 use mathlib.Core.Bool.{Bool, true, false}
-use mathlib.Core.List.{List, [], ◌∷◌, ◌++◌}
-use Prim.Native.Nat.{ℕ, zero, suc, ◌+◌, ◌*◌, ◌-◌, ◌≤◌, ◌<◌}
+use mathlib.Core.List.{List, [], ◌++◌}
+use Prim.Native.Nat.{ℕ, suc, ◌+◌, ◌*◌, ◌-◌, ◌≤◌, ◌<◌}
 use native.Mathlib.Omega.{arith}
 use lib.Dec.{eqb}
 use lib.Ieee.{Float}
@@ -14,10 +14,9 @@ use Rattle.octets.specs.words.Words.{word_at}
 use Rattle.octets.proofs.words.Stores.{wrote_after}
 use Rattle.trace_layout.specs.declared.pieces.Shape.{Shape}
 use Rattle.trace.specs.declared.judge.Judged.{Judged}
-use Rattle.trace_layout.specs.declared.pieces.Piece.{Piece}
 use Rattle.trace_layout.specs.declared.pieces.Piece.TheVariants.{Record, Broken}
 use Rattle.trace_layout.specs.Records.{kind_at, dim1_at, dim2_at, flag_at, laid_at, record_at, size_at, size_in}
-use Rattle.trace_layout.specs.Traces.{most_records, list_at, count_at, edition_at, trailer_ok, walks, good_trace, records_in, records_of}
+use Rattle.trace_layout.specs.Traces.{most_records, list_at, count_at, edition_at, trailer_ok, walks, good_trace, records_in}
 use Rattle.trace_layout.proofs.Fields.{kind_of, dim1_of, dim2_of, flag_of}
 use Rattle.trace_layout.proofs.Records.{found, bounds, size-most}
 use Rattle.trace_layout.proofs.Traces.{ends}
@@ -145,7 +144,8 @@ module _ (bs : List ℕ) (o : Judged) (is : o ≡ open_of bs) where
 
       -- one record more is noted, and the place moves behind it
       module _ (t : List ℕ) (part : t ≡ here) (same : Bool) (told : same ≡ same_record o.edition (record_at o.edition t)) (place : ℕ)
-          (moved : place ≡ place_after (body bs o) at o.edition) (offsets offsets' : List ℕ) (n n' : ℕ) (behind : n' ≡ n + length (noted same at))
+          (moved : place ≡ place_after (body bs o) at o.edition) (offsets offsets' : List ℕ) (n n' : ℕ) (behind : n'
+          ≡ n + length (noted same at))
           (wrote : offsets' ≡ sets offsets n (noted same at)) where
         abbrev rest : List ℕ
         rest = left bs o place (i + 1)

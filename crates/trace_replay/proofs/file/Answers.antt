@@ -2,7 +2,7 @@
 use mathlib.Core.Path.{◌≡◌, refl, ap, ◌∙◌}
 use mathlib.Core.Bool.{Bool, true, false}
 use mathlib.Core.List.{List, ◌++◌}
-use Prim.Native.Nat.{ℕ, ◌+◌, ◌≤◌, ◌<◌}
+use Prim.Native.Nat.{ℕ, ◌≤◌, ◌<◌}
 use native.Mathlib.Omega.{arith}
 use lib.ListN.{length, take, drop}
 use lib.Seq.{take_at}
@@ -52,8 +52,8 @@ module _ (bs row exit : List ℕ) (a : Replayed) (told : record { answer = a; of
     refused_with_lem true g off = absurd (off (good_code g))
     refused_with_lem false g off = rw (bad-answer g, is_small bs small, g)
 
-    pub refused_text : (a.code ≡ 0 → ⊥) → refused_text a.code ≡ printed_of bs
-    refused_text off = refused_with_lem (good_trace bs) refl off
+    pub refusal_told : (a.code ≡ 0 → ⊥) → refused_text a.code ≡ printed_of bs
+    refusal_told off = refused_with_lem (good_trace bs) refl off
 
     judged_with : (g : Bool) → good_trace bs ≡ g → a.code ≡ 0 → good_trace bs ≡ true
     judged_with true g on = g

@@ -41,7 +41,7 @@ abbrev pub refused_with : ℕ → Replayed
 refused_with k = record { code = k; records = 0; same = 0; differ = 0 }
 
 abbrev pub refuse : List ℕ → ℕ → Noted
-refuse old k = record { answer = refusedWith k; offsets = old }
+refuse old k = record { answer = refused_with k; offsets = old }
 
 -- 9 for "a trace or record that breaks the layout"; then 8 where the offsets have no room. Behind them the slice is as it was
 unfoldable pub replay_of : List ℕ → List ℕ → Noted

@@ -1,5 +1,5 @@
 -- A recorded search, run again. 02, Order 2. Definitions only.
-use Rattle.std.specs.Prelude.{ℕ, Bool, ◌&&◌, List, eqb, Float, take, replicate}
+use Rattle.std.specs.Prelude.{Bool, ◌&&◌, List, eqb, Float, take, replicate}
 use Rattle.std.specs.Float.{binary64}
 use Rattle.std.specs.Float.Ieee.{to_bits}
 use Rattle.double.specs.Numbers.{#0}

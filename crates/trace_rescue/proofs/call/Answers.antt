@@ -80,7 +80,7 @@ module _ (bs : List ℕ) (bytes : AllBelow 256 bs) (o : Judged) (judged : o ≡ 
     rows : code ≡ trace_row (not (known e)) (ltb (length old) (length (saved_of e bs)))
     rows = row ∙ rw (knows, length-is)
 
-    pub refused-row : (code ≡ 0 → ⊥) → refuse old code ≡ rescueOf bs old given
+    pub refused-row : (code ≡ 0 → ⊥) → refuse old code ≡ rescue_of bs old given
     unfolding rescue_of
     refused-row off = rw (sym chosen) (refused _ code (leave e bs old) (refuse old) rows off)
 

@@ -46,7 +46,8 @@ trace-left : (e : ℕ) (bs old : List ℕ) → trace_in (leave e bs old) ≡ sav
 trace-left e bs old = take_at (saved_of e bs) (drop (length (saved_of e bs)) old) (length (saved_of e bs)) refl
 
 -- a good trace that is saved as it is
-right_again_lem : (x room : List ℕ) (given e : ℕ) → edition_for x given ≡ e → known e ≡ true → good_trace x ≡ true → saved_of e x ≡ x → (k : ℕ)
+right_again_lem : (x room : List ℕ) (given e : ℕ) → edition_for x given ≡ e → known e ≡ true → good_trace x ≡ true → saved_of e x ≡ x
+    → (k : ℕ)
     → length (kept_of e x) ≡ k → dropped_of e x ≡ 0 → length x ≤ length room
     → ◌≡◌ {A = Saved} (rescue_of x room given)
     (record { answer = record { code = 0; kept = k; dropped = 0; length = length x; right = true }; output = x ++ drop (length x) room })

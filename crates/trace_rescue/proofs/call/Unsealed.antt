@@ -4,13 +4,13 @@ use mathlib.Core.Bool.{Bool, true, false, ◌&&◌}
 use mathlib.Core.List.{List, [], ◌∷◌, ◌++◌, append-nil}
 use Prim.Native.Nat.{ℕ, ◌+◌, ◌-◌, ◌≤◌}
 use native.Mathlib.Omega.{arith}
-use lib.Dec.{eqb, leb}
+use lib.Dec.{leb}
 use lib.ListN.{length, take, drop, length-append}
 use lib.Seq.{drop-drop, drop_at}
 use borrow.Author.Tests.{le-leb, eq-eqb, ne_eqb}
 use Rattle.arith.proofs.Branches.{and_left, false_not_true}
 use Rattle.octets.specs.words.Words.{word_at}
-use Rattle.trace_layout.specs.Records.{Record, Laid, Sized, bytes_of, size_in, size_at, laid_at, record_at}
+use Rattle.trace_layout.specs.Records.{Record, Laid, Sized, bytes_of, size_in, laid_at}
 use Rattle.trace_layout.specs.Traces.{back_mark, most_records, known, records_bytes, trace_of, AllLaid, edition_at, count_at, list_at}
 use Rattle.trace_layout.specs.Traces.{trailer_ok, walks, good_trace}
 use Rattle.trace_layout.proofs.Fields.{primalcount_of}
@@ -18,9 +18,8 @@ use Rattle.trace_layout.proofs.Records.{length-bytes_of, size_back, record_back,
 use Rattle.trace_layout.proofs.Traces.{ends}
 use Rattle.trace_layout.proofs.Appending.{records_more}
 use Rattle.trace.proofs.whole.Whole.{no_more, whole_written}
-use Rattle.trace.specs.kept.Made.{Call, AllPassed}
 use Rattle.trace.specs.kept.Sealed.{unused, put_all}
-use Rattle.trace.proofs.kept.Sealed.{Put, put_all_lem, put_begun}
+use Rattle.trace.proofs.kept.Sealed.{put_all_lem, put_begun}
 use Rattle.trace_rescue.specs.call.Rescue.{ends_known, kept_of, saved_of, dropped_of, leave, rescue_of}
 use Rattle.trace_rescue.specs.call.Unsealed.{rebuilt, Unsealed}
 use Rattle.trace_rescue.proofs.call.Saving.{callers_edition}
@@ -30,7 +29,8 @@ use Rattle.trace_rescue.proofs.call.Rescues.{room_rescued}
 good-known : (bs : List ℕ) → good_trace bs ≡ true → ends_known bs ≡ true
 unfolding ends_known good_trace
 good-known bs good =
-    let end = ends bs (and_left (trailer_ok bs) (walks (edition_at bs) (count_at bs) 0 (take (list_at bs) bs) (drop (list_at bs) bs)) good) in
+    let end = ends bs (and_left (trailer_ok bs) (walks (edition_at bs) (count_at bs) 0 (take (list_at bs) bs) (drop
+    (list_at bs) bs)) good) in
     let enough : leb 8 (length bs) ≡ true = le-leb 8 (length bs) (omega (arith, end.enough)) in
     rw (enough, eq-eqb (word_at 4 bs (length bs - 4)) back_mark end.mark, end.edition)
 
@@ -40,7 +40,8 @@ not_good bs true g h = absurd (false_not_true (sym h ∙ good-known bs g))
 
 -- ---- records, and behind them none
 
-module _ (e : ℕ) (rs : List Record) (rest old : List ℕ) (laid : AllLaid e rs) (few : length rs ≤ most_records) (none : laid_at e rest ≡ false)
+module _ (e : ℕ) (rs : List Record) (rest old : List ℕ) (laid : AllLaid e rs) (few : length rs ≤ most_records) (none : laid_at e rest
+    ≡ false)
     (unmarked : ends_known (records_bytes e rs ++ rest) ≡ false) where
   abbrev input : List ℕ
   input = records_bytes e rs ++ rest
@@ -105,7 +106,8 @@ module _ (e : ℕ) (rs : List Record) (r : Record) (laid : Laid e r) (sized : Si
   unfolding ends_known
   not_marked other =
       let t = records_bytes e (rs ++ (r ∷ [])) in
-      rw (ne_eqb (word_at 4 t (length t - 4)) back_mark (λ h. other (sym mark-is ∙ h))) (no_middle (leb 8 (length t)) (known (edition_at t)))
+      rw (ne_eqb (word_at 4 t (length t - 4)) back_mark (λ h. other (sym mark-is
+      ∙ h))) (no_middle (leb 8 (length t)) (known (edition_at t)))
 
 pub unsealed : Unsealed
 unsealed = record {

@@ -37,7 +37,7 @@ abbrev pub refused_with : ℕ → Rescued
 refused_with k = record { code = k; kept = 0; dropped = 0; length = 0; right = false }
 
 abbrev pub refuse : List ℕ → ℕ → Saved
-refuse old k = record { answer = refusedWith k; output = old }
+refuse old k = record { answer = refused_with k; output = old }
 
 -- "report records kept, bytes dropped, and whether list and trailer were rebuilt or already right (the input was a good trace)"
 abbrev pub report_of : ℕ → List ℕ → Rescued

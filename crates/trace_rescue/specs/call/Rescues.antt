@@ -30,7 +30,8 @@ pub record Done (bs old : List ℕ) (left : Saved) : Type 0 where
       ≡ record { answer = right_again left.answer; output = trace_in left ++ drop left.answer.length room }
 
 pub record Rescues : Type 0 where
-  pub done : (bs old : List ℕ) (given : ℕ) → AllBelow 256 bs → (rescue_of bs old given).answer.code ≡ 0 → Done bs old (rescue_of bs old given)
+  pub done : (bs old : List ℕ) (given : ℕ) → AllBelow 256 bs → (rescue_of bs old given).answer.code ≡ 0
+      → Done bs old (rescue_of bs old given)
   -- "A good trace comes out byte for byte with 0 dropped"
   pub good : (bs old : List ℕ) (given : ℕ) → AllBelow 256 bs → good_trace bs ≡ true → (rescue_of bs old given).answer.code ≡ 0
       → (trace_in (rescue_of bs old given) ≡ bs) × ((rescue_of bs old given).answer.dropped ≡ 0)

@@ -16,8 +16,8 @@ rebuilt e rs n old =
     }
 
 pub record Unsealed : Type 1 where
-  -- A host that put records one behind the other loses power: what it put is there, and behind it at most the first bytes of a record. In the
-  -- edition of the puts every record is kept, and only the rest is dropped
+  -- A host that put records one behind the other loses power: what it put is there, and behind it at most the first bytes of a record. In
+  -- the edition of the puts every record is kept, and only the rest is dropped
   pub kept : (e : ℕ) (bs : List ℕ) (calls : List Call) (rest old : List ℕ) → AllPassed calls → known e ≡ true
       → let h = put_all e (unused bs) calls in
       length h.done ≤ most_records → laid_at e rest ≡ false → length (trace_of e h.done) ≤ length old

@@ -9,7 +9,6 @@ use lib.ListN.{length, get_or, length-append, length-map}
 use lib.Seq.{ext_get_or}
 use Rattle.trace_layout.specs.Records.{Record, size_in}
 use Rattle.trace_layout.specs.Traces.{edition_at, records_of}
-use Rattle.trace_sheet.specs.declared.counts.Largest.{Largest}
 use Rattle.trace_sheet.specs.counts.Counts.{Entry, place_of, places, how_many, counts_of, summed, larger_of, largest_of, moved_up}
 use Rattle.trace_sheet.specs.counts.Sheet.{
   taken,

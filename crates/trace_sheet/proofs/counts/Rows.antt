@@ -1,13 +1,13 @@
 -- Rows of counts, place by place: a table, a sum of two rows, one step more. Assumes nothing.
 use mathlib.Core.Path.{◌≡◌, refl, sym, ap, ◌∙◌}
 use mathlib.Core.Bool.{Bool, true, false, cond}
-use mathlib.Core.List.{List, [], ◌∷◌, ◌++◌}
-use Prim.Native.Nat.{ℕ, zero, suc, ◌+◌, ◌<◌, ◌≤◌}
+use mathlib.Core.List.{List, [], ◌∷◌}
+use Prim.Native.Nat.{ℕ, zero, suc, ◌+◌, ◌<◌}
 use native.Mathlib.Omega.{arith}
 use lib.Dec.{eqb, ltb}
-use lib.ListN.{length, get_or, set, length-set, length-append, get_or-append, get_or-eq_default}
+use lib.ListN.{length, get_or, length-set, length-append, get_or-append}
 use lib.Seq.{ext_get_or, get_or_at, get_or-set_same, get_or-set_other}
-use borrow.Author.Tests.{eqb-true, eqb-false, ltb-true, ltb-false, eq-eqb, ne_eqb}
+use borrow.Author.Tests.{eqb-true, eqb-false, ltb-true, ltb-false}
 use Rattle.trace_sheet.specs.counts.Counts.{Entry, Fresh, place_of, places, how_many, table, counts_of, counted, summed}
 
 -- ---- tables

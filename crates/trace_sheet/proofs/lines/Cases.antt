@@ -5,7 +5,8 @@ use mathlib.Core.List.{[], ◌∷◌, ◌++◌}
 use Rattle.octets.specs.decimal.Decimal.{decimal_in}
 use Rattle.octets.specs.lines.Lines.{ascii, line_of}
 use Rattle.trace_sheet.specs.counts.Counts.{none}
-use Rattle.trace_sheet.specs.lines.Text.{name_of, exp_part, exp_line, count_line, exp_lines, most_line, skipped_line, flag_line, skipped_lines}
+use Rattle.trace_sheet.specs.lines.Text.{name_of, exp_part, exp_line, count_line, exp_lines, most_line, skipped_line, flag_line}
+use Rattle.trace_sheet.specs.lines.Text.{skipped_lines}
 
 -- 02: "`dual exp 0 1`"
 exp_zero : exp_line false 1023 1 ≡ ascii "dual exp 0 1\n"

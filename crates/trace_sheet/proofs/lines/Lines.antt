@@ -8,11 +8,10 @@ use native.Mathlib.Numerals.{add-one}
 use lib.ListN.{length, drop, get_or, length-append, drop_of_length-le}
 use lib.Seq.{sets, drop-cons}
 use Rattle.octets.specs.lines.Lines.{ascii, line_of}
-use Rattle.trace_sheet.specs.declared.counts.Largest.{Largest}
 use Rattle.trace_sheet.specs.counts.Sheet.{Side}
 use Rattle.trace_sheet.specs.lines.Text.{name_of, count_line}
 use Rattle.trace_sheet.specs.lines.Text.{exp_lines, most_line, side_text, flag_line, skipped_lines}
-use Rattle.trace_sheet.proofs.lines.Writing.{Wrote, and_then, wrote_as, count_most, named-most, most-most, flag_most}
+use Rattle.trace_sheet.proofs.lines.Writing.{Wrote, and_then, count_most, named-most, most-most, flag_most}
 
 -- ---- what was written, and what is left of the whole
 

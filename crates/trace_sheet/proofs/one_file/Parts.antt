@@ -8,17 +8,16 @@ use lib.Dec.{leb}
 use lib.ListN.{length}
 use borrow.Author.Tests.{le-leb, lt-leb}
 use Rattle.octets.specs.words.Words.{AllBelow}
-use Rattle.trace_layout.specs.Traces.{most_bytes, edition_at, good_trace, records_of}
+use Rattle.trace_layout.specs.Traces.{most_bytes, edition_at, good_trace}
 use Rattle.trace.specs.declared.judge.Judged.{Judged}
 use Rattle.trace.specs.judge.Opening.{open_of}
 use Rattle.trace.specs.whole.Whole.{whole_records}
 use Rattle.trace.proofs.whole.Longest.{whole_holds}
 use Rattle.trace_sheet.specs.declared.counts.Largest.{Largest}
-use Rattle.trace_sheet.specs.counts.Counts.{Entry, Fresh, counts_of, largest_of}
+use Rattle.trace_sheet.specs.counts.Counts.{Fresh, counts_of, largest_of}
 use Rattle.trace_sheet.specs.counts.Sheet.{taken, entries_in, entries_of}
 use Rattle.trace_sheet.proofs.counts.Rows.{all_left, none_left}
 use Rattle.trace_sheet.specs.declared.one_file.Tally.{Tally}
-use Rattle.trace_sheet.specs.declared.one_file.Part.{Part}
 use Rattle.trace_sheet.specs.one_file.Part.{tally_of, part_of, nothing}
 
 module _ (bs : List ℕ) where
@@ -83,7 +82,8 @@ module _ (bs : List ℕ) where
         rw is-taken (ap (λ (e : ℕ). entries_in p 1 e 0 (whole_records e bs)) edition-is
         ∙ ap (entries_in p 1 (edition_at bs) 0) (whole_holds.good bs bytes good))
 
-    part-of : {b : Bool} {n : ℕ} {d p : Largest} → b ≡ taken bs → n ≡ length (entries_of false 1 bs) → d ≡ largest_of (entries_of false 1 bs)
+    part-of : {b : Bool} {n : ℕ} {d p : Largest} → b ≡ taken bs → n ≡ length (entries_of false 1 bs) → d
+        ≡ largest_of (entries_of false 1 bs)
         → p ≡ largest_of (entries_of true 1 bs) → record { taken = b; records = n; dual = d; primal = p } ≡ part_of bs
     unfolding part_of
     part-of h i j k = rw (h, i, j, k)

@@ -10,14 +10,15 @@ use lib.Seq.{drop-drop}
 use borrow.Author.Tests.{ltb-true}
 use Rattle.octets.specs.words.Words.{word_at, AllBelow}
 use Rattle.octets.proofs.words.Words.{below-drop}
-use Rattle.trace_layout.specs.Records.{Record, step_ok, laid_at, size_at, size_in, record_at}
+use Rattle.trace_layout.specs.Records.{Record, step_ok, laid_at, size_at, record_at}
 use Rattle.trace_layout.specs.Traces.{most_records}
 use Rattle.trace_layout.proofs.Fields.{dualstep_of, dualcount_of, primalstep_of, primalcount_of}
 use Rattle.trace_layout.proofs.Records.{found, size-read}
 use Rattle.trace.specs.whole.Whole.{whole_in, whole_records}
 use Rattle.trace.proofs.whole.Whole.{one_more, no_more}
 use Rattle.trace_sheet.specs.declared.counts.Largest.{Largest}
-use Rattle.trace_sheet.specs.counts.Counts.{Entry, Fresh, place_of, places, counts_of, counted, summed, none, largest_in, larger_of, largest_of}
+use Rattle.trace_sheet.specs.counts.Counts.{Entry, Fresh, place_of, places, counts_of, counted, summed, none, largest_in, larger_of}
+use Rattle.trace_sheet.specs.counts.Counts.{largest_of}
 use Rattle.trace_sheet.specs.counts.Sheet.{entry_of, entries_in}
 use Rattle.trace_sheet.proofs.counts.Rows.{all_left, none_left, counted-turn, length-counted, get_or-counted, placed}
 use Rattle.trace_sheet.proofs.counts.Tops.{larger_assoc, larger_none, none_larger}
@@ -42,7 +43,8 @@ module _ (e : ℕ) (t : List ℕ) where
   unfolding step_ok
   small step h = ltb-true step 0x7ff0_0000_0000_0000 h
 
-  pub step_placed : laid_at e t ≡ true → (p : Bool) → place_of (cond p (word_at 8 t (size_at e t - 12)) (word_at 8 t (size_at e t - 24))) < places
+  pub step_placed : laid_at e t ≡ true → (p : Bool) → place_of (cond p (word_at 8 t (size_at e t - 12)) (word_at 8 t
+      (size_at e t - 24))) < places
   step_placed laid true = placed _ (small _ (found e t laid).primalstep)
   step_placed laid false = placed _ (small _ (found e t laid).dualstep)
 

@@ -2,7 +2,7 @@
 use mathlib.Core.Path.{◌≡◌, sym, ap, ◌∙◌}
 use mathlib.Core.List.{List}
 use Prim.Native.Nat.{ℕ}
-use Rattle.arith.specs.Outcomes.{OneAnswer, OneOutcome}
+use Rattle.arith.specs.Outcomes.{OneOutcome}
 use Rattle.trace_sheet.specs.rows.Rows.{Held}
 use Rattle.trace_sheet.proofs.rows.join.Reads as joining
 use Rattle.trace_sheet.proofs.rows.add.Reads as adding

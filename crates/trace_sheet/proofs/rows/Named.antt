@@ -36,7 +36,8 @@ unfolding entries_from largest_of
 from_files p file [] = λ some. absurd (some refl)
 from_files p file (bs ∷ files) =
     rw (largest-append (entries_of p file bs) (entries_from p (file + 1) files))
-    (larger_cases (largest_of (entries_of p file bs)) (largest_of (entries_from p (file + 1) files)) (Stands file (file + length (bs ∷ files)))
+    (larger_cases (largest_of (entries_of p file bs)) (largest_of (entries_from p (file + 1) files)) (Stands file (file + length
+    (bs ∷ files)))
     (λ h some. let s = from_files p (file + 1) files some in (omega arith, omega arith))
     (λ h some. let s = of_file p file bs (taken bs) refl some in (omega arith, omega arith)))
 

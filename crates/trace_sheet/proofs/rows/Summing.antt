@@ -66,7 +66,8 @@ module _ (xs ys : List ℕ) (i : ℕ) where
 
 -- ---- a sum that has room
 
-pub has_room : (xs ys : List ℕ) (k : ℕ) → spills xs ys ≡ false → k < length xs → length xs ≡ length ys → get_or xs k 0 + get_or ys k 0 ≤ most
+pub has_room : (xs ys : List ℕ) (k : ℕ) → spills xs ys ≡ false → k < length xs → length xs ≡ length ys
+    → get_or xs k 0 + get_or ys k 0 ≤ most
 unfolding spills
 has_room [] ys k h g e = absurd (omega arith)
 has_room (x ∷ xs) [] k h g e = absurd (omega arith)

@@ -20,7 +20,8 @@ use Rattle.trace_sheet.proofs.counts.AddsUp.{sheet_laws}
 use Rattle.trace_sheet.specs.declared.one_file.Part.{Part}
 use Rattle.trace_sheet.specs.one_file.Part.{part_of}
 use Rattle.trace_sheet.specs.declared.rows.Totals.{Totals}
-use Rattle.trace_sheet.specs.rows.Rows.{Held, sheet_in, totals_of, held, holding, rows_ok, rows_in, names_ok, spills, no_room, sheet_row, join_code}
+use Rattle.trace_sheet.specs.rows.Rows.{Held, sheet_in, totals_of, held, holding, rows_ok, rows_in, names_ok, spills, no_room, sheet_row}
+use Rattle.trace_sheet.specs.rows.Rows.{join_code}
 use Rattle.trace_sheet.specs.rows.Rows.{join_of, add_of}
 use Rattle.trace_sheet.specs.rows.Sums.{Begun, Countable, IsSheet, add_all, OfSums}
 use Rattle.trace_sheet.proofs.rows.Summing.{most, no_spill}
@@ -204,7 +205,8 @@ module _ (m n : ℕ) (a b : Held) (xs ys : List (List ℕ)) (first : Holds m a x
 
   sum : sheets_added (sheet_in a) (sheet_in b) ≡ sheet_of all
   sum =
-      ap (λ (s : Sheet). sheets_added s (sheet_in b)) (holds_sheet m a xs first) ∙ ap (sheets_added (sheet_of xs)) (holds_sheet n b ys second)
+      ap (λ (s : Sheet). sheets_added s (sheet_in b)) (holds_sheet m a xs first)
+      ∙ ap (sheets_added (sheet_of xs)) (holds_sheet n b ys second)
       ∙ sym (sheet_laws.groups xs ys)
 
   added : join_of a b ≡ holding a (sheet_of all)
@@ -269,7 +271,8 @@ add_holds n h xs bs holds before bytes early free =
     join_holds n (length (bs ∷ [])) h (held (sheet_of (bs ∷ []))) xs (bs ∷ []) holds (held_holds (bs ∷ [])) before bytes (omega arith)
     (omega arith)
 
-add_all_lem : (n : ℕ) (h : Held) (xs files : List (List ℕ)) → Holds n h xs → AllBytes xs → AllBytes files → length xs + length files ≤ most_files
+add_all_lem : (n : ℕ) (h : Held) (xs files : List (List ℕ)) → Holds n h xs → AllBytes xs → AllBytes files
+    → length xs + length files ≤ most_files
     → length xs + length files ≤ n → Holds n (add_all h files) (xs ++ files)
 unfolding add_all
 add_all_lem n h xs [] holds before bytes few free = rw (append-nil xs) holds

@@ -1,20 +1,18 @@
 -- What is known of a sheet that is printed, and that its three parts are its text. Assumes nothing.
-use mathlib.Core.Path.{◌≡◌, refl, sym, ap, ◌∙◌}
-use mathlib.Core.Bool.{Bool, true, false, not}
+use mathlib.Core.Path.{◌≡◌, ◌∙◌}
+use mathlib.Core.Bool.{true, false, not}
 use mathlib.Core.List.{List, ◌++◌}
-use Prim.Native.Nat.{ℕ, ◌+◌, ◌≤◌}
+use Prim.Native.Nat.{ℕ, ◌≤◌}
 use native.Mathlib.Omega.{arith}
 use lib.Dec.{ltb}
 use lib.ListN.{length, take}
 use lib.Seq.{sets, length-take-le}
 use borrow.Author.Tests.{ltb-false, not-false}
 use Rattle.trace_layout.specs.Traces.{most_files}
-use Rattle.trace_sheet.specs.counts.Counts.{places}
 use Rattle.trace_sheet.specs.rows.Rows.{Held, sheet_in, rows_in, sheet_row}
 use Rattle.trace_sheet.proofs.rows.Joining.{Whole, sheet_row-off, whole}
 use Rattle.trace_sheet.specs.lines.Text.{skipped_lines, side_text}
 use Rattle.trace_sheet.proofs.lines.Writing.{Wrote, and_then}
-use Rattle.trace_sheet.specs.declared.text.Printed.{Printed}
 use Rattle.trace_sheet.specs.text.Printed.{sheet_text, text_room, Told}
 
 pub record Fits (old : List ℕ) (h : Held) : Type 0 where

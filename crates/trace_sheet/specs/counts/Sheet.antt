@@ -1,5 +1,5 @@
 -- The monthly sheet as a value, of the bytes of a row of files. 02, Order 14. Definitions only.
-use Rattle.std.specs.Prelude.{ℕ, suc, ◌+◌, Bool, true, false, cond, ◌&&◌, List, [], ◌∷◌, ◌++◌, map, leb, length}
+use Rattle.std.specs.Prelude.{ℕ, ◌+◌, Bool, true, false, cond, ◌&&◌, List, [], ◌∷◌, ◌++◌, map, leb, length}
 use Rattle.trace_layout.specs.Records.{Record, size_in}
 use Rattle.trace_layout.specs.Traces.{most_bytes, edition_at, good_trace, records_of}
 use Rattle.trace_sheet.specs.declared.counts.Largest.{Largest}

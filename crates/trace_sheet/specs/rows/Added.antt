@@ -1,5 +1,5 @@
 -- The totals of two sheets added, where they have room. Definitions only.
-use Rattle.std.specs.Prelude.{ℕ, ◌+◌, ◌≤◌, ◌≡◌}
+use Rattle.std.specs.Prelude.{◌+◌, ◌≤◌, ◌≡◌}
 use Rattle.trace_layout.specs.Traces.{most_files}
 use Rattle.trace_sheet.specs.counts.Counts.{larger_of, moved_up}
 use Rattle.trace_sheet.specs.declared.rows.Totals.{Totals}

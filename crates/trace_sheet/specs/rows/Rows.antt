@@ -1,5 +1,5 @@
 -- A sheet in lent rows, and what adding to it leaves. 02, Order 14. Definitions only.
-use Rattle.std.specs.Prelude.{ℕ, ◌+◌, Bool, true, false, cond, not, ◌&&◌, ◌||◌, List, [], ◌∷◌, eqb, leb, ltb, length, take}
+use Rattle.std.specs.Prelude.{ℕ, ◌+◌, Bool, false, cond, not, ◌&&◌, ◌||◌, List, [], ◌∷◌, eqb, leb, ltb, length, take}
 use Rattle.std.proofs.lemmas.List.Edits.{sets}
 use Rattle.cone.specs.table.Table.{trace_row, settle}
 use Rattle.trace_layout.specs.Traces.{most_files}
@@ -89,7 +89,7 @@ abbrev pub refused_totals : ℕ → Totals
 refused_totals k = record { code = k; files = 0; records = 0; dual = none; primal = none }
 
 abbrev pub refuse : Held → ℕ → Held
-refuse old k = record { totals = refusedTotals k; dual = old.dual; primal = old.primal; skipped = old.skipped }
+refuse old k = record { totals = refused_totals k; dual = old.dual; primal = old.primal; skipped = old.skipped }
 
 -- ---- "Traces joined in two groups and their sheets added"
 

@@ -2,10 +2,10 @@
 use mathlib.Core.Path.{◌≡◌, refl, sym, ap, ◌∙◌}
 use mathlib.Core.Bool.{Bool, true, false, not}
 use mathlib.Core.List.{List, [], ◌++◌, map, append-nil}
-use Prim.Native.Nat.{ℕ, zero, suc, ◌+◌, ◌*◌, ◌-◌, ◌≤◌}
+use Prim.Native.Nat.{ℕ, ◌+◌, ◌*◌, ◌-◌, ◌≤◌}
 use native.Mathlib.Omega.{arith}
 use lib.Dec.{eqb, ltb}
-use lib.ListN.{length, take, drop, replicate, length-append, length-map, length-replicate, drop_of_length-le}
+use lib.ListN.{length, take, replicate, length-append, length-map, length-replicate, drop_of_length-le}
 use lib.Seq.{sets, length-sets}
 use borrow.Author.Tests.{ltb-false, not-false}
 use Rattle.cone.specs.table.Table.{trace_row}
@@ -223,7 +223,7 @@ module _ (bs : List ℕ) (bytes : AllBelow 256 bs) (o : Judged) (judged : o ≡ 
       rows : code ≡ trace_row (not (good_trace bs)) (ltb (length old) (length (thin_trace bs)))
       rows = rows-by (good_trace bs) refl
 
-      pub refused-row : (code ≡ 0 → ⊥) → refuse old code ≡ thinOf bs old
+      pub refused-row : (code ≡ 0 → ⊥) → refuse old code ≡ thin_of bs old
       unfolding thin_of
       refused-row off = refused _ code (apart bs old) (refuse old) rows off
 
@@ -247,7 +247,7 @@ module _ (bs : List ℕ) (bytes : AllBelow 256 bs) (o : Judged) (judged : o ≡ 
     rows-within : code ≡ trace_row (not (good_trace bs)) false
     rows-within = row ∙ rw code_is
 
-    pub refused-within : (code ≡ 0 → ⊥) → refuse bs code ≡ thinInPlaceOf bs
+    pub refused-within : (code ≡ 0 → ⊥) → refuse bs code ≡ thin_in_place_of bs
     unfolding thin_in_place_of
     refused-within off = refused _ code (within bs) (refuse bs) rows-within off
 

@@ -8,14 +8,15 @@ use lib.ListN.{length, take}
 use lib.Seq.{take_at}
 use Rattle.octets.specs.words.Words.{row_bytes, AllBelow}
 use Rattle.trace_layout.specs.Records.{Record, bytes_of}
-use Rattle.trace_layout.specs.Traces.{most_records, records_bytes, offsets_from, trailer_of, trace_of, list_at, edition_at, good_trace, records_of}
+use Rattle.trace_layout.specs.Traces.{most_records, records_bytes, offsets_from, trailer_of, trace_of, list_at, edition_at, good_trace}
+use Rattle.trace_layout.specs.Traces.{records_of}
 use Rattle.trace_layout.specs.Inverses.{Makes}
 use Rattle.trace_layout.proofs.Traces.{good_ends, good_laid, good-count, good_is_written, list_written}
 use Rattle.trace.specs.whole.Whole.{whole_records}
 use Rattle.trace.proofs.whole.Longest.{whole_of_records}
 use Rattle.trace.proofs.seal.Sealing.{length-trace}
 use Rattle.trace_thin.specs.firsts.Pieces.{pieces_at}
-use Rattle.trace_thin.specs.firsts.Firsts.{firsts, firsts_in, starts_in}
+use Rattle.trace_thin.specs.firsts.Firsts.{firsts, firsts_in}
 use Rattle.trace_thin.proofs.firsts.Thinning.{fewer}
 use Rattle.trace_thin.specs.call.Thin.{kept_of, thin_trace}
 use Rattle.trace_thin.proofs.firsts.Pieced.{firsts_are, laid_kept, shorter_kept}

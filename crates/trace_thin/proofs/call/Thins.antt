@@ -19,7 +19,7 @@ use Rattle.trace_thin.specs.firsts.Firsts.{firsts}
 use Rattle.trace_thin.proofs.firsts.Thinning.{again, first_of_kind}
 use Rattle.trace_thin.specs.declared.call.Thinned.{Thinned}
 use Rattle.trace_thin.specs.call.Thin.{kept_of, thin_trace, Left, refuse, report_of, apart, within, thin_of, thin_in_place_of}
-use Rattle.trace_thin.specs.call.Thins.{trace_in, none_dropped, Done, Thins}
+use Rattle.trace_thin.specs.call.Thins.{trace_in, Done, Thins}
 use Rattle.trace_thin.proofs.call.Keeping.{fewer_kept, makes, has_room}
 
 -- ---- calls that are done, and refused ones
@@ -37,7 +37,7 @@ module _ (bs : List ℕ) (good : good_trace bs ≡ true) where
   unfolding thin_of trace_row settle
   short_thinned old h = rw (good, lt-ltb (length old) (length (thin_trace bs)) h)
 
-pub broken_thinned : (bs old : List ℕ) → good_trace bs ≡ false → (thin_of bs old ≡ refuse old 9) × (thinInPlaceOf bs ≡ refuse bs 9)
+pub broken_thinned : (bs old : List ℕ) → good_trace bs ≡ false → (thin_of bs old ≡ refuse old 9) × (thin_in_place_of bs ≡ refuse bs 9)
 unfolding thin_of thin_in_place_of trace_row settle
 broken_thinned bs old bad = (rw bad, rw bad)
 
@@ -135,7 +135,8 @@ module _ (bs : List ℕ) (bytes : AllBelow 256 bs) (good : good_trace bs ≡ tru
       kept = rw (trace_in_lem, records_thin);
       sum = omega (arith, fewer_kept bs bytes good);
       shorter = has_room bs bytes good;
-      again = λ room h. rw trace_in_lem (thin_again T good_thin same_thin (length ks) (ap length kept_thin) (ap length records_thin) room h);
+      again = λ room h. rw trace_in_lem (thin_again T good_thin same_thin (length ks) (ap length kept_thin)
+          (ap length records_thin) room h);
       again_in_place =
           rw trace_in_lem (thin_in_place_again T good_thin same_thin (length ks) (ap length kept_thin) (ap length records_thin));
     }

@@ -1,5 +1,5 @@
 -- 01: "For each, show that any two outcomes allowed by it agree". Assumes nothing.
-use mathlib.Core.Path.{◌≡◌, sym, ◌∙◌}
+use mathlib.Core.Path.{sym, ◌∙◌}
 use mathlib.Core.List.{List}
 use Prim.Native.Nat.{ℕ}
 use Rattle.arith.specs.Outcomes.{OneOutcome}

@@ -87,7 +87,7 @@ module _ (bs : List ℕ) (small : length bs ≤ most_bytes) (bytes : AllBelow 25
     unfolding printed_of
     text_printed =
         rw (is_small bs small, good)
-        (ap (λ (x : Left). thin_text x.answer.length x.answer.auto x.answer.dropped) (left good))
+        (ap (λ (x : Left). thin_text x.answer.length x.answer.kept x.answer.dropped) (left good))
 
     thin_written : thin_trace bs ≡ written_of bs
     unfolding written_of

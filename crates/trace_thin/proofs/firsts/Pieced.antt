@@ -94,7 +94,7 @@ joined_records e (r ∷ rs) = ap (λ (l : List ℕ). bytes_of e r ++ l) (joined_
 pub offsets_records : (e at : ℕ) (rs : List Record) → AllLaid e rs → offsets at (map (bytes_of e) rs) ≡ offsets_from e at rs
 unfolding offsets offsets_from AllLaid
 offsets_records e at [] h = refl
-offsets_records e at (r ∷ rs) h = rw (length-bytes_of e r h.0 h.1 [], offsets_records e _ rs h.2)
+offsets_records e at (r ∷ rs) h = rw (length-bytes_of e r h.0 h.1 [], offsets_records e (at + size_in e r) rs h.2)
 
 -- ---- what is kept
 

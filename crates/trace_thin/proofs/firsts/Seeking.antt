@@ -9,7 +9,7 @@ use lib.ListN.{length, drop, get_or, length-map, drop_of_length-le}
 use lib.Seq.{drop-cons}
 use Rattle.octets.specs.equal_bytes.Equal.{equal_bytes, among, number_of}
 use Rattle.octets.proofs.equal_bytes.Equality.{equal_false}
-use Rattle.trace_thin.specs.firsts.Pieces.{piece_of, piece_at, pieces_at}
+use Rattle.trace_thin.specs.firsts.Pieces.{piece_at, pieces_at}
 
 -- a place's value under a map
 pub map_at : {A B : Type 0} (f : A → B) (l : List A) (j : ℕ) (d : B) (e : A) → j < length l → get_or (map f l) j d ≡ f (get_or l j e)

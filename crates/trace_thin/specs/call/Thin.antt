@@ -24,7 +24,7 @@ abbrev pub refused_with : ℕ → Thinned
 refused_with k = record { code = k; kept = 0; dropped = 0; length = 0 }
 
 abbrev pub refuse : List ℕ → ℕ → Left
-refuse old k = record { answer = refusedWith k; output = old }
+refuse old k = record { answer = refused_with k; output = old }
 
 -- "Report the new length, kept and dropped"
 abbrev pub report_of : List ℕ → Thinned

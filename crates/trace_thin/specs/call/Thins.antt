@@ -47,7 +47,7 @@ pub record Thins : Type 0 where
   pub same : (bs old : List ℕ) → AllBelow 256 bs → (thin_of bs old).answer.code ≡ 0
       → ((thin_in_place_of bs).answer ≡ (thin_of bs old).answer) × (trace_in (thin_in_place_of bs) ≡ trace_in (thin_of bs old))
   -- "9 for a broken trace", whatever room there is
-  pub broken : (bs old : List ℕ) → good_trace bs ≡ false → (thin_of bs old ≡ refuse old 9) × (thinInPlaceOf bs ≡ refuse bs 9)
+  pub broken : (bs old : List ℕ) → good_trace bs ≡ false → (thin_of bs old ≡ refuse old 9) × (thin_in_place_of bs ≡ refuse bs 9)
   -- "8 only for a separate output that is too short": of a good trace, exactly then
   pub short : (bs old : List ℕ) → good_trace bs ≡ true → length old < (thin_in_place_of bs).answer.length → thin_of bs old ≡ refuse old 8
   pub long : (bs old : List ℕ) → good_trace bs ≡ true → (thin_in_place_of bs).answer.length ≤ length old → (thin_of bs old).answer.code ≡ 0

@@ -1,27 +1,109 @@
-// Files by the arguments that a program over traces is started with, and standard output. What fails is said in one line on standard error:
-// a program has no exit status of its own. What the system hands over is no argument of a function here, so their contracts leave it open.
+// Files by the arguments that a program over traces is started with, standard output and standard error. What fails is said in one line on
+// standard error: a program's exit status says nothing of it. What the system hands over is no argument of a function here, so their contracts
+// leave it open.
+#![tactic(auto)]
+
+mod said;
+
 ghost use Rattle.std.specs.Prelude.{◌≡◌, ◌-◌, ◌<◌, length};
 ghost use Rattle.io.specs.Counts.{IsPrefixLen};
 ghost use Rattle.program_files.specs.Reads.{turn_of, Within};
 
-use libc::STDERR_FILENO;
-use libc::types::{stat, timespec};
 use octets::equal_bytes::same;
 use octets::words::front;
+use said::fail;
+pub use said::{print_text, say};
+use std::env::FillError;
+use std::fs;
+use std::fs::{File, OpenOptions, Permissions};
+use std::io::{Error, Read, Result, Write};
+use std::os::unix::fs::{MetadataExt, OpenOptionsExt, PermissionsExt};
+use std::random::RandomSource;
+use std::rt::Env;
+use std::str::from_utf8;
+
+// Linux's numbers of errors.
+const NO_FILE: i32 = 2;
+
+const FILE_EXISTS: i32 = 17;
+
+const INVALID: i32 = 22;
+
+const NAME_TOO_LONG: i32 = 36;
+
+const ILLEGAL_BYTES: i32 = 84;
+
+// The kinds of files in a mode.
+const KIND: u32 = 0o170000;
+
+const PIPE: u32 = 0o010000;
+
+const DEVICE: u32 = 0o020000;
+
+const REGULAR: u32 = 0o100000;
+
+// How many names are tried for the file beside a path.
+const TRIES: u8 = 100;
 
 // Whether a file was read to its end or to the slice's, and how many of its bytes stand at the slice's start.
-#[derive(Drop)]
+#[derive(Clone, Copy)]
 pub struct Got {
     pub done: bool,
     pub count: usize,
 }
 
 // What a read's answer says: whether bytes came, so that there may be more, whether it went well, and how many came.
-#[derive(Drop)]
+#[derive(Clone, Copy)]
 struct Turn {
     more: bool,
     good: bool,
     count: usize,
+}
+
+// A file that is read, and why a read of it failed.
+#[derive(Drop)]
+struct Source {
+    file: File,
+    why: Error,
+}
+
+// How many arguments the program was started with, its own name among them.
+pub fn argument_count(rt: &HostRuntime) -> usize {
+    let mut nothing = [0u8; 0];
+    for i in 0..usize::MAX {
+        if let Err(FillError::NotPresent) = rt.arg(i, &mut nothing) {
+            return i;
+        }
+    }
+    usize::MAX
+}
+
+// Puts argument i at the start of buf, and answers its length; 0 where it is missing or longer than buf.
+pub fn argument(rt: &HostRuntime, i: usize, buf: &mut [u8]) -> usize
+    ensures { IsPrefixLen result buf.new }
+{
+    match rt.arg(i, buf) {
+        Ok(n) => io::count(n as isize, buf),
+        Err(_) => 0,
+    }
+}
+
+fn reason(e: FillError) -> Error {
+    match e {
+        FillError::NotPresent => Error::from_raw_os_error(INVALID),
+        FillError::TooLong => Error::from_raw_os_error(NAME_TOO_LONG),
+    }
+}
+
+// What POSIX's read answers: how many bytes came, or -1.
+fn answer_of(source: &mut Source, room: &mut [u8]) -> isize {
+    match source.file.read(room) {
+        Ok(n) => n as isize,
+        Err(e) => {
+            source.why = e;
+            -1
+        }
+    }
 }
 
 fn judge(answer: isize, room: &[u8]) -> Turn
@@ -34,29 +116,29 @@ fn judge(answer: isize, room: &[u8]) -> Turn
     }
 }
 
-fn read_once(fd: i32, room: &mut [u8]) -> Turn
+fn read_once(source: &mut Source, room: &mut [u8]) -> Turn
     requires { 0 < length room.old }
     ensures { Within (length room.old) result }
 {
-    let answer = libc::read(fd, room);
+    let answer = answer_of(source, room);
     judge(answer, room)
 }
 
 // One read behind the bytes up to `at`.
-fn read_on(fd: i32, file: &mut [u8], at: usize) -> Turn
+fn read_on(source: &mut Source, file: &mut [u8], at: usize) -> Turn
     requires { at < length file.old }
     ensures { Within (length file.old - at) result }
 {
-    read_once(fd, &mut file[at..])
+    read_once(source, &mut file[at..])
 }
 
 // Reads until a read says that the file ends, until one fails, or until the slice is full.
-fn read_all(fd: i32, file: &mut [u8]) -> Got
+fn read_all(source: &mut Source, file: &mut [u8]) -> Got
     ensures { IsPrefixLen result.count file.new }
 {
     let mut at = 0;
     while at < file.len() {
-        let turn = read_on(fd, file, at);
+        let turn = read_on(source, file, at);
         if !turn.more {
             return Got {
                 done: turn.good,
@@ -71,33 +153,58 @@ fn read_all(fd: i32, file: &mut [u8]) -> Got
     }
 }
 
+fn opened(rt: &HostRuntime, path: &str) -> Result<Source> {
+    Ok(Source {
+        file: File::open(rt, path)?,
+        why: Error::from_raw_os_error(INVALID),
+    })
+}
+
+fn nothing() -> Got
+    ensures { result.count ≡ 0 }
+{
+    Got {
+        done: false,
+        count: 0,
+    }
+}
+
+fn read_path(rt: &HostRuntime, path: &str, file: &mut [u8]) -> Got
+    ensures { IsPrefixLen result.count file.new }
+{
+    let mut source = match opened(rt, path) {
+        Ok(source) => source,
+        Err(e) => {
+            fail(rt, path.as_bytes(), e);
+            return nothing();
+        }
+    };
+    let got = read_all(&mut source, file);
+    if !got.done {
+        fail(rt, path.as_bytes(), source.why);
+    }
+    got
+}
+
 // Reads the file that argument i names, which the usage line calls `name`.
-pub fn read_argument(i: usize, name: &[u8], file: &mut [u8]) -> Got
+pub fn read_argument(rt: &HostRuntime, i: usize, name: &[u8], file: &mut [u8]) -> Got
     ensures { IsPrefixLen result.count file.new }
 {
     let mut path = io::buffer();
-    let n = os::arg(i, &mut path);
-    if os::errno() != 0 {
-        os::fail(name);
-        return Got {
-            done: false,
-            count: 0,
-        };
+    let n = match rt.arg(i, &mut path) {
+        Ok(n) => n,
+        Err(e) => {
+            fail(rt, name, reason(e));
+            return nothing();
+        }
+    };
+    match from_utf8(&path[..n]) {
+        Ok(path) => read_path(rt, path, file),
+        Err(_) => {
+            fail(rt, &path[..n], Error::from_raw_os_error(ILLEGAL_BYTES));
+            nothing()
+        }
     }
-    let fd = os::open_read(&path[..n]);
-    if fd < 0 {
-        os::fail(&path[..n]);
-        return Got {
-            done: false,
-            count: 0,
-        };
-    }
-    let got = read_all(fd, file);
-    if !got.done {
-        os::fail(&path[..n]);
-    }
-    libc::close(fd);
-    got
 }
 
 // One byte more than the longest trace that a program writes, a rescue of 74,916 bytes: room for every file that could be the same.
@@ -108,190 +215,247 @@ fn same_room() -> [u8; 74917]
 }
 
 // Whether a file holds these bytes and no more. What is not known counts as no.
-fn holds(path: &[u8], bytes: &[u8]) -> bool {
-    let fd = os::open_read(path);
-    if fd < 0 {
-        return false;
-    }
+fn holds(rt: &HostRuntime, path: &str, bytes: &[u8]) -> bool {
+    let mut source = match opened(rt, path) {
+        Ok(source) => source,
+        Err(_) => return false,
+    };
     let mut old = same_room();
-    let got = read_all(fd, &mut old);
-    libc::close(fd);
+    let got = read_all(&mut source, &mut old);
     let n = got.count;
     got.done && n < old.len() && same(front(&old, n), bytes)
 }
 
-// Whether a path, which C reads up to its first 0, names a link.
-fn is_link(mut path: [u8; 4096]) -> bool {
-    path[4095] = 0;
-    let mut target = [0; 1];
-    libc::readlink(&path, &mut target) >= 0
-}
-
-// Room for a path, and behind it what `os::create_temp` replaces.
-fn crosses() -> [u8; 4096]
-    ensures { 4096 ≡ length result }
-{
-    [b'X'; 4096]
-}
-
-fn put_dot(name: &mut [u8], at: usize) {
-    if at < name.len() {
-        name[at] = b'.';
+fn is_link(rt: &HostRuntime, path: &str) -> bool {
+    match fs::symlink_metadata(rt, path) {
+        Ok(data) => data.is_symlink(),
+        Err(_) => false,
     }
-}
-
-fn no_stat() -> stat {
-    let never = timespec {
-        tv_sec: 0,
-        tv_nsec: 0,
-    };
-    stat {
-        st_dev: 0,
-        st_ino: 0,
-        st_nlink: 0,
-        st_mode: 0,
-        st_uid: 0,
-        st_gid: 0,
-        __pad: 0,
-        st_rdev: 0,
-        st_size: 0,
-        st_blksize: 0,
-        st_blocks: 0,
-        st_atim: never,
-        st_mtim: never,
-        st_ctim: never,
-        __unused: [0; 3],
-    }
-}
-
-fn filled(fd: i32, mut of: stat) -> stat {
-    libc::fstat(fd, &mut of);
-    of
 }
 
 // What kind of file is open, and who may do what with it. 0, which no file has, where the system does not tell.
-fn mode_of(fd: i32) -> u32 {
-    let of = filled(fd, no_stat());
-    of.st_mode
+fn mode_of(file: &File) -> u32 {
+    match file.metadata() {
+        Ok(data) => data.mode(),
+        Err(_) => 0,
+    }
 }
 
 // Gives a file a mode; 0 leaves it the one that it has.
-fn gave_mode(fd: i32, mode: u32) -> bool {
+fn give_mode(file: &File, mode: u32) -> Result<()> {
     if mode == 0 {
-        return true;
+        return Ok(());
     }
-    libc::fchmod(fd, mode & 0o7777) == 0
+    file.set_permissions(Permissions::from_mode(mode & 0o7777))
 }
 
 // Writes all of a file, to the disk, with its mode, and closes it.
-fn fill(fd: i32, path: &[u8], bytes: &[u8], mode: u32) -> bool {
-    let done = io::write_all(fd, bytes) && gave_mode(fd, mode) && libc::fsync(fd) == 0;
-    if !done {
-        os::fail(path);
-    }
-    libc::close(fd);
-    done
+fn fill(mut file: File, bytes: &[u8], mode: u32) -> Result<()> {
+    file.write_all(bytes)?;
+    give_mode(&file, mode)?;
+    file.sync_all()
 }
 
 // The path itself may well be written: what fails is to make a file in its folder.
-fn fail_beside(path: &[u8]) {
-    io::write_all(STDERR_FILENO, path);
-    os::fail(b": no new file can be made in its folder");
+fn fail_beside(rt: &HostRuntime, path: &str, why: Error) {
+    say(rt, path.as_bytes());
+    fail(rt, b": no new file can be made in its folder", why);
 }
 
-// A new file beside the path, or -1. Where a mode is to be kept it is for its user alone until it has that. Else it is made anew, so that
-// it has the mode of any new file.
-fn make_beside(beside: &mut [u8], mode: u32) -> i32 {
-    let fd = os::create_temp(beside);
-    if fd < 0 || mode != 0 {
-        return fd;
+fn put(name: &mut [u8], at: usize, byte: u8) {
+    if at < name.len() {
+        name[at] = byte;
     }
-    libc::close(fd);
-    os::unlink(beside);
-    os::create(beside)
 }
 
-// Writes a new file and gives it the path's name, so that at every moment this names the old file or the new one, whole. `beside` is the
-// path with `.XXXXXX` behind it: a file in the same folder. `mode` is the old file's, or 0 where there is none.
-fn replace(path: &[u8], beside: &mut [u8], bytes: &[u8], mode: u32) -> bool {
-    let fd = make_beside(beside, mode);
-    if fd < 0 {
-        fail_beside(path);
-        return false;
+// A digit or a letter for each number.
+fn letter(x: u8) -> u8 {
+    let d = x % 62;
+    if d < 10 {
+        b'0' + d
+    } else if d < 36 {
+        b'a' + (d - 10)
+    } else {
+        b'A' + (d - 36)
     }
-    if !fill(fd, path, bytes, mode) {
-        os::unlink(beside);
-        return false;
-    }
-    if os::rename(beside, path) < 0 {
-        os::fail(path);
-        os::unlink(beside);
-        return false;
-    }
-    true
 }
 
-// Writes to what is no file on a disk, as a pipe or /dev/null: it has no bytes to lose, and must keep its name.
-fn write_through(fd: i32, path: &[u8], bytes: &[u8]) -> bool {
-    let done = io::write_all(fd, bytes);
-    if !done {
-        os::fail(path);
+// Puts a dot and six letters behind the first n bytes of a name, by chance.
+fn put_letters(rt: &HostRuntime, name: &mut [u8], n: usize, turn: u8) {
+    let mut drawn = [0u8; 6];
+    if rt.fill_bytes(&mut drawn).is_err() {
+        drawn[5] = turn;
     }
-    libc::close(fd);
+    put(name, n, b'.');
+    for k in 0..6 {
+        put(name, n.saturating_add(1 + k), letter(drawn[k]));
+    }
+}
+
+// The file by one name beside the path, which must be new. Where a mode is to be kept it is for its user alone until it has that.
+fn make_named(rt: &HostRuntime, beside: &[u8], mode: u32) -> Result<File> {
+    let name = match from_utf8(beside) {
+        Ok(name) => name,
+        Err(_) => return Err(Error::from_raw_os_error(ILLEGAL_BYTES)),
+    };
+    let first = if mode == 0 { 0o666 } else { 0o600 };
+    OpenOptions::new()
+        .write(true)
+        .create_new(true)
+        .mode(first)
+        .open(rt, name)
+}
+
+// A new file beside the path, by a name that no other has: the first n bytes of `beside`, a dot and six letters.
+fn make_beside(rt: &HostRuntime, beside: &mut [u8], n: usize, mode: u32) -> Result<File> {
+    for turn in 0..TRIES {
+        put_letters(rt, beside, n, turn);
+        match make_named(rt, beside, mode) {
+            Ok(file) => return Ok(file),
+            Err(e) => {
+                if e.raw_os_error() != Some(FILE_EXISTS) {
+                    return Err(e);
+                }
+            }
+        }
+    }
+    Err(Error::from_raw_os_error(FILE_EXISTS))
+}
+
+// Gives the file beside the path the path's name, once it is written. `beside` is its own name until then.
+fn exchange(
+    rt: &HostRuntime,
+    file: File,
+    beside: &str,
+    path: &str,
+    bytes: &[u8],
+    mode: u32,
+) -> Result<()> {
+    let done = match fill(file, bytes, mode) {
+        Ok(()) => fs::rename(rt, beside, path),
+        Err(e) => Err(e),
+    };
+    if done.is_err() {
+        let _ = fs::remove_file(rt, beside);
+    }
     done
 }
 
+// Writes a new file and gives it the path's name, so that at every moment this names the old file or the new one, whole. `beside` has the
+// path's n bytes first, and room for what makes of it the name of a file in the same folder. `mode` is the old file's, or 0 where there is
+// none.
+fn replace(
+    rt: &HostRuntime,
+    path: &str,
+    beside: &mut [u8],
+    n: usize,
+    bytes: &[u8],
+    mode: u32,
+) -> bool {
+    let file = match make_beside(rt, beside, n, mode) {
+        Ok(file) => file,
+        Err(e) => {
+            fail_beside(rt, path, e);
+            return false;
+        }
+    };
+    let done = match from_utf8(beside) {
+        Ok(name) => exchange(rt, file, name, path, bytes, mode),
+        Err(_) => Err(Error::from_raw_os_error(ILLEGAL_BYTES)),
+    };
+    match done {
+        Ok(()) => true,
+        Err(e) => {
+            fail(rt, path.as_bytes(), e);
+            false
+        }
+    }
+}
+
+// Writes to what is no file on a disk, as a pipe or /dev/null: it has no bytes to lose, and must keep its name.
+fn write_through(rt: &HostRuntime, mut file: File, path: &str, bytes: &[u8]) -> bool {
+    match file.write_all(bytes) {
+        Ok(()) => true,
+        Err(e) => {
+            fail(rt, path.as_bytes(), e);
+            false
+        }
+    }
+}
+
 // Refuses what is named, with a reason.
-fn refuse(path: &[u8], why: &[u8]) -> bool {
-    io::write_all(STDERR_FILENO, path);
-    io::write_all(STDERR_FILENO, why);
+fn refuse(rt: &HostRuntime, path: &str, why: &[u8]) -> bool {
+    say(rt, path.as_bytes());
+    say(rt, why);
     false
+}
+
+// Room for the name of a file beside a path.
+fn beside_room() -> [u8; 4096]
+    ensures { 4096 ≡ length result }
+{
+    [0; 4096]
+}
+
+// Writes a new file by argument i, which is this path.
+fn write_anew(rt: &HostRuntime, i: usize, path: &str, bytes: &[u8], mode: u32) -> bool {
+    if is_link(rt, path) {
+        return refuse(rt, path, b": is a link: name the file that it leads to\n");
+    }
+    let mut beside = beside_room();
+    let n = argument(rt, i, &mut beside);
+    // never more than there is room for: such a name is too long for the system
+    let whole = io::count((n + 7) as isize, &beside);
+    replace(rt, path, &mut beside[..whole], n, bytes, mode)
+}
+
+// Writes over a file that is there, and open for writing.
+fn write_over(rt: &HostRuntime, i: usize, file: File, path: &str, bytes: &[u8]) -> bool {
+    let mode = mode_of(&file);
+    let kind = mode & KIND;
+    if kind == PIPE || kind == DEVICE {
+        return write_through(rt, file, path, bytes);
+    }
+    drop(file);
+    if kind != REGULAR {
+        return refuse(rt, path, b": is neither a file nor a pipe\n");
+    }
+    if holds(rt, path, bytes) {
+        return true;
+    }
+    write_anew(rt, i, path, bytes, mode)
+}
+
+fn write_path(rt: &HostRuntime, i: usize, path: &str, bytes: &[u8]) -> bool {
+    // open for writing, so that a file that may not be written is refused; nothing is appended to a file on a disk
+    match OpenOptions::new().append(true).open(rt, path) {
+        Ok(file) => write_over(rt, i, file, path, bytes),
+        Err(e) => {
+            if e.raw_os_error() != Some(NO_FILE) {
+                fail(rt, path.as_bytes(), e);
+                return false;
+            }
+            write_anew(rt, i, path, bytes, 0)
+        }
+    }
 }
 
 // Writes the file that argument i names, which the usage line calls `name`, and says whether it now holds these bytes. Where it does not,
 // it is as it was. One that holds them already is left alone.
-pub fn write_argument(i: usize, name: &[u8], bytes: &[u8]) -> bool {
+pub fn write_argument(rt: &HostRuntime, i: usize, name: &[u8], bytes: &[u8]) -> bool {
     let mut path = io::buffer();
-    let n = os::arg(i, &mut path);
-    if os::errno() != 0 {
-        os::fail(name);
-        return false;
-    }
-    // open for writing, so that a file that may not be written is refused; nothing is appended to a file on a disk
-    let fd = os::open_append(&path[..n]);
-    if fd < 0 && os::errno() != libc::ENOENT {
-        os::fail(&path[..n]);
-        return false;
-    }
-    let mut mode = 0;
-    if fd >= 0 {
-        mode = mode_of(fd);
-        let kind = mode & libc::S_IFMT;
-        if kind == libc::S_IFIFO || kind == libc::S_IFCHR {
-            return write_through(fd, &path[..n], bytes);
+    let n = match rt.arg(i, &mut path) {
+        Ok(n) => n,
+        Err(e) => {
+            fail(rt, name, reason(e));
+            return false;
         }
-        libc::close(fd);
-        if kind != libc::S_IFREG {
-            return refuse(&path[..n], b": is neither a file nor a pipe\n");
+    };
+    match from_utf8(&path[..n]) {
+        Ok(path) => write_path(rt, i, path, bytes),
+        Err(_) => {
+            fail(rt, &path[..n], Error::from_raw_os_error(ILLEGAL_BYTES));
+            false
         }
-        if holds(&path[..n], bytes) {
-            return true;
-        }
-    }
-    if is_link(path) {
-        return refuse(&path[..n], b": is a link: name the file that it leads to\n");
-    }
-    let mut beside = crosses();
-    os::arg(i, &mut beside);
-    put_dot(&mut beside, n);
-    // never more than there is room for: such a name is too long for the system
-    let whole = io::count((n + 7) as isize, &beside);
-    replace(&path[..n], &mut beside[..whole], bytes, mode)
-}
-
-// Writes a text to standard output. One that is cut is said: it would look whole.
-pub fn print_text(text: &[u8]) {
-    if !io::write_all(libc::STDOUT_FILENO, text) {
-        os::fail(b"standard output");
     }
 }

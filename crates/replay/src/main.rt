@@ -1,9 +1,10 @@
-// replay FILE: the searches of a trace, run again. 02, Order 2. It reads, calls and writes; what it is to print is `printedOf`
+// replay FILE: the searches of a trace, run again. 02, Order 2. It reads, calls and writes; what it is to print is `printed_of`
 // of `trace_replay::file`. The file, its text and the offsets lie on the stack.
+#![tactic(auto)]
+
 ghost use Rattle.std.specs.Prelude.{◌≡◌, length};
 
-use libc::STDERR_FILENO;
-use program_files::{print_text, read_argument};
+use program_files::{argument_count, print_text, read_argument, say};
 use trace_layout::rooms::file_room;
 use trace_replay::file::put_replay;
 
@@ -14,23 +15,23 @@ fn text_room() -> [u8; 98391]
     [0; 98391]
 }
 
-fn print(file: &[u8]) {
+fn print(rt: &HostRuntime, file: &[u8]) {
     let mut text = text_room();
     let n = put_replay(&mut text, file);
     // it has room for every text, so this holds
     if n <= text.len() {
-        print_text(&text[..n]);
+        print_text(rt, &text[..n]);
     }
 }
 
-fn main() {
-    if os::arg_count() != 2 {
-        io::write_all(STDERR_FILENO, b"usage: replay FILE\n");
+fn main(rt: HostRuntime) {
+    if argument_count(&rt) != 2 {
+        say(&rt, b"usage: replay FILE\n");
         return;
     }
     let mut file = file_room();
-    let got = read_argument(1, b"FILE", &mut file);
+    let got = read_argument(&rt, 1, b"FILE", &mut file);
     if got.done {
-        print(&file[..got.count]);
+        print(&rt, &file[..got.count]);
     }
 }

@@ -1,14 +1,15 @@
-// rescue IN OUT [EDITION]: a cut trace rescued. 02, Orders 7 and 8. It reads, calls and writes; what it is to print is `printedOf` and what
+// rescue IN OUT [EDITION]: a cut trace rescued. 02, Orders 7 and 8. It reads, calls and writes; what it is to print is `printed_of` and what
 // it is to write `written_of` of trace_rescue::file. EDITION is the one that the new trace has where IN does not end in one: where it is needed and
 // not given, the program asks for it, and says what each would keep. OUT may be IN. It is left alone where IN is refused, where an edition is
 // asked for, and where no record would be kept of bytes that are there. The file, its text and the output lie on the stack.
+#![tactic(auto)]
+
 ghost use Rattle.std.specs.Prelude.{◌≡◌, length};
 ghost use Rattle.trace_rescue.specs.call.Rescue.{kept_of, rescue_of};
 ghost use Rattle.rescue.specs.Deeds.{edition_named, deed_by, deed_of};
 
-use libc::STDERR_FILENO;
 use octets::words::front;
-use program_files::{print_text, read_argument, write_argument};
+use program_files::{argument, argument_count, print_text, read_argument, say, write_argument};
 use trace::whole::walk;
 use trace_layout::pieces::MOST_BYTES;
 use trace_layout::rooms::{file_room, row};
@@ -37,6 +38,7 @@ fn output_room() -> [u8; 74916]
 }
 
 // The edition that the caller's word names. Without a word it is 0, which is none.
+#[tactic(auto, unfolding(crate::specs::Deeds::edition_named))]
 fn edition_named(named: bool, word: &[u8]) -> u32
     ensures { result ≡ edition_named named word.now }
 {
@@ -47,6 +49,7 @@ fn edition_named(named: bool, word: &[u8]) -> u32
 }
 
 // How many records of the file an edition's layout keeps.
+#[tactic(auto, unfolding(trace::specs::whole::Whole::walked_of))]
 fn kept_by(file: &[u8], edition: u32) -> usize
     ensures { result ≡ length (kept_of edition file.now) }
 {
@@ -54,6 +57,7 @@ fn kept_by(file: &[u8], edition: u32) -> usize
     walk(edition, file, &mut starts).count
 }
 
+#[tactic(auto, unfolding(crate::specs::Deeds::deed_by))]
 fn deed_by(named: bool, answer: Rescued) -> u32
     ensures { result ≡ deed_by named answer }
 {
@@ -73,6 +77,7 @@ fn deed_by(named: bool, answer: Rescued) -> u32
 }
 
 // What is to be done with OUT. The rescue is tried in the output's room.
+#[tactic(auto, using(trace_layout::proofs::Limits::is_large, trace_layout::proofs::Limits::is_small), unfolding(crate::specs::Deeds::deed_of))]
 fn deed(file: &[u8], output: &mut [u8], named: bool, edition: u32) -> u32
     ensures { result ≡ deed_of named file.now (rescue_of file.now output.old edition).answer }
 {
@@ -82,39 +87,40 @@ fn deed(file: &[u8], output: &mut [u8], named: bool, edition: u32) -> u32
     deed_by(named, rescue(file, output, edition))
 }
 
-// What each edition would keep, the one that keeps the most first. Editions 1 and 2 have one layout.
-fn ask(file: &[u8]) {
-    let older = kept_by(file, 1);
-    let newest = kept_by(file, 3);
-    io::write_all(
-        STDERR_FILENO,
-        b"rescue: IN does not tell its edition: name it; ",
-    );
-    if older <= newest {
-        io::write_all(STDERR_FILENO, b"edition 3 would keep ");
-        io::print_decimal(STDERR_FILENO, newest as u64);
-        io::write_all(STDERR_FILENO, b" records, 1 and 2 would keep ");
-        io::print_decimal(STDERR_FILENO, older as u64);
-    } else {
-        io::write_all(STDERR_FILENO, b"editions 1 and 2 would keep ");
-        io::print_decimal(STDERR_FILENO, older as u64);
-        io::write_all(STDERR_FILENO, b" records, 3 would keep ");
-        io::print_decimal(STDERR_FILENO, newest as u64);
-    }
-    io::write_all(STDERR_FILENO, b"\n");
+fn say_number(rt: &HostRuntime, n: usize) {
+    let _ = eprint!(rt; "{n}");
 }
 
-fn save(file: &[u8], named: bool, edition: u32) {
+// What each edition would keep, the one that keeps the most first. Editions 1 and 2 have one layout.
+fn ask(rt: &HostRuntime, file: &[u8]) {
+    let older = kept_by(file, 1);
+    let newest = kept_by(file, 3);
+    say(rt, b"rescue: IN does not tell its edition: name it; ");
+    if older <= newest {
+        say(rt, b"edition 3 would keep ");
+        say_number(rt, newest);
+        say(rt, b" records, 1 and 2 would keep ");
+        say_number(rt, older);
+    } else {
+        say(rt, b"editions 1 and 2 would keep ");
+        say_number(rt, older);
+        say(rt, b" records, 3 would keep ");
+        say_number(rt, newest);
+    }
+    say(rt, b"\n");
+}
+
+fn save(rt: &HostRuntime, file: &[u8], named: bool, edition: u32) {
     let mut text = text_room();
     let mut output = output_room();
     let what = deed(file, &mut output, named, edition);
     if what == ASK {
-        ask(file);
+        ask(rt, file);
         return;
     }
     if what == LEAVE {
-        io::write_all(
-            STDERR_FILENO,
+        say(
+            rt,
             b"rescue: no record would be kept: OUT is left as it was\n",
         );
         return;
@@ -122,28 +128,33 @@ fn save(file: &[u8], named: bool, edition: u32) {
     let n = put_rescue(file, &mut text, &mut output, edition);
     // a trace has at least 20 bytes: none is a refusal
     if n.output == 0 {
-        print_text(front(&text, n.text));
+        print_text(rt, front(&text, n.text));
         return;
     }
-    if write_argument(2, b"OUT", front(&output, n.output)) {
-        print_text(front(&text, n.text));
+    if write_argument(rt, 2, b"OUT", front(&output, n.output)) {
+        print_text(rt, front(&text, n.text));
     }
 }
 
-fn main() {
-    let count = os::arg_count();
+fn main(rt: HostRuntime) {
+    let count = argument_count(&rt);
     if count != 3 && count != 4 {
-        io::write_all(STDERR_FILENO, b"usage: rescue IN OUT [EDITION]\n");
+        say(&rt, b"usage: rescue IN OUT [EDITION]\n");
         return;
     }
     let mut file = file_room();
-    let got = read_argument(1, b"IN", &mut file);
+    let got = read_argument(&rt, 1, b"IN", &mut file);
     if !got.done {
         return;
     }
     // a word that is too long to be taken is empty here, and names no edition
     let mut word = io::buffer();
-    let n = os::arg(3, &mut word);
+    let n = argument(&rt, 3, &mut word);
     let named = count == 4;
-    save(&file[..got.count], named, edition_named(named, &word[..n]));
+    save(
+        &rt,
+        &file[..got.count],
+        named,
+        edition_named(named, &word[..n]),
+    );
 }

@@ -1,8 +1,12 @@
 // Runs searches and the cones' formulas at chosen arguments, one module after the other. What it prints is compared with the file stdout.
+#![tactic(auto)]
+
 mod cones_run;
 mod search_run;
 
-fn main() {
-    search_run::run();
-    cones_run::run();
+use std::io;
+
+fn main(rt: HostRuntime) -> io::Result<()> {
+    search_run::run(&rt)?;
+    cones_run::run(&rt)
 }

@@ -3,10 +3,7 @@
 use call_search::single::backtrack_search;
 use cone::{Cone, Settings, house_settings};
 use double::to_bits;
-
-fn word(text: &[u8]) {
-    io::write_all(1, text);
-}
+use std::io;
 
 fn exponential(rule: u32) -> Cone {
     Cone {
@@ -44,32 +41,44 @@ fn settings(start: f64, step: f64, smallest: f64) -> Settings {
     }
 }
 
-fn show(label: &[u8], cone: Cone, primal: bool, dq: [f64; 3], q: [f64; 3], how: Settings) {
+fn show(
+    rt: &HostRuntime,
+    label: &str,
+    cone: Cone,
+    primal: bool,
+    dq: [f64; 3],
+    q: [f64; 3],
+    how: Settings,
+) -> io::Result<()> {
     let mut point = [0.0; 3];
     let found = backtrack_search(cone, primal, &dq, &q, &mut point, how);
-    word(label);
-    word(b": ");
-    io::print_decimal(1, found.code as u64);
-    word(b" ");
-    io::print_hex(1, to_bits(found.step), 16);
-    word(b" after ");
-    io::print_decimal(1, found.count as u64);
-    word(b" at ");
-    io::print_hex(1, to_bits(point[0]), 16);
-    word(b" ");
-    io::print_hex(1, to_bits(point[1]), 16);
-    word(b" ");
-    io::print_hex(1, to_bits(point[2]), 16);
-    word(b"\n");
+    print!(rt;
+        "{label}: {} {:016x} after {}",
+        found.code,
+        to_bits(found.step),
+        found.count
+    )?;
+    let x = to_bits(point[0]);
+    let y = to_bits(point[1]);
+    let z = to_bits(point[2]);
+    println!(rt; " at {x:016x} {y:016x} {z:016x}")
 }
 
 // The exponential cone, from q nowhere: every trial has the point q.
-fn stay(label: &[u8], q: [f64; 3], how: Settings) {
-    show(label, exponential(1), true, [0.0, 0.0, 0.0], q, how);
+fn stay(rt: &HostRuntime, label: &str, q: [f64; 3], how: Settings) -> io::Result<()> {
+    show(rt, label, exponential(1), true, [0.0, 0.0, 0.0], q, how)
 }
 
-fn dual(label: &[u8], cone: Cone, q: [f64; 3]) {
-    show(label, cone, false, [0.0, 0.0, 0.0], q, house_settings(1.0));
+fn dual(rt: &HostRuntime, label: &str, cone: Cone, q: [f64; 3]) -> io::Result<()> {
+    show(
+        rt,
+        label,
+        cone,
+        false,
+        [0.0, 0.0, 0.0],
+        q,
+        house_settings(1.0),
+    )
 }
 
 // 2^-50, and the exponents next to ½ + 2^-50 and ½ - 2^-50 away from ½ with which the sum is the next double.
@@ -79,107 +88,133 @@ const ABOVE: f64 = 0.5 + FINE + 2.220446049250313080847263336181640625e-16;
 
 const BELOW: f64 = 0.5 - FINE - 1.1102230246251565404236316680908203125e-16;
 
-fn rules(edge: [f64; 3]) {
-    dual(b"rule 2, sum 2^-50 above 1", halved(3, 2, 0.5 + FINE), edge);
-    dual(b"rule 2, sum 2^-50 below 1", halved(3, 2, 0.5 - FINE), edge);
-    dual(b"rule 2, the next sum above", halved(3, 2, ABOVE), edge);
-    dual(b"rule 2, the next sum below", halved(3, 2, BELOW), edge);
-    dual(b"rule 1, the next sum above", halved(3, 1, ABOVE), edge);
-    dual(b"rule 1, the next sum below", halved(3, 1, BELOW), edge);
-    dual(b"exponential, rule 2", exponential(2), [-1.0, 0.0, 1.0]);
-    dual(b"exponential, rule 3", exponential(3), [-1.0, 0.0, 1.0]);
-    dual(b"power, rule 0", halved(2, 0, 0.5), edge);
+fn rules(rt: &HostRuntime, edge: [f64; 3]) -> io::Result<()> {
+    dual(
+        rt,
+        "rule 2, sum 2^-50 above 1",
+        halved(3, 2, 0.5 + FINE),
+        edge,
+    )?;
+    dual(
+        rt,
+        "rule 2, sum 2^-50 below 1",
+        halved(3, 2, 0.5 - FINE),
+        edge,
+    )?;
+    dual(rt, "rule 2, the next sum above", halved(3, 2, ABOVE), edge)?;
+    dual(rt, "rule 2, the next sum below", halved(3, 2, BELOW), edge)?;
+    dual(rt, "rule 1, the next sum above", halved(3, 1, ABOVE), edge)?;
+    dual(rt, "rule 1, the next sum below", halved(3, 1, BELOW), edge)?;
+    dual(rt, "exponential, rule 2", exponential(2), [-1.0, 0.0, 1.0])?;
+    dual(rt, "exponential, rule 3", exponential(3), [-1.0, 0.0, 1.0])?;
+    dual(rt, "power, rule 0", halved(2, 0, 0.5), edge)
 }
 
-pub(crate) fn run() {
+pub(crate) fn run(rt: &HostRuntime) -> io::Result<()> {
     // outside and inside the exponential cone
     let out = [0.0, -1.0, 1.0];
     let inside = [-1.0, 1.0, 1.0];
-    stay(b"no pass, house settings", out, house_settings(1.0));
-    stay(b"no pass, step 0.8", out, settings(1.0, 0.8, 0.0001));
+    stay(rt, "no pass, house settings", out, house_settings(1.0))?;
+    stay(rt, "no pass, step 0.8", out, settings(1.0, 0.8, 0.0001))?;
     stay(
-        b"no pass, one exponent",
+        rt,
+        "no pass, one exponent",
         out,
         settings(1.9999999999999998, 0.99, 1.0),
-    );
+    )?;
     stay(
-        b"trial equal to the smallest",
+        rt,
+        "trial equal to the smallest",
         out,
         settings(1.0, 0.5, 0.25),
-    );
+    )?;
     stay(
-        b"start equal to the smallest",
+        rt,
+        "start equal to the smallest",
         out,
         settings(0.25, 0.5, 0.25),
-    );
+    )?;
     stay(
-        b"start below the smallest, passes",
+        rt,
+        "start below the smallest, passes",
         inside,
         settings(0.1, 0.5, 0.25),
-    );
+    )?;
     stay(
-        b"start below the smallest, fails",
+        rt,
+        "start below the smallest, fails",
         out,
         settings(0.1, 0.5, 0.25),
-    );
+    )?;
     let least = 2.2250738585072014e-308;
     stay(
-        b"subnormal start, passes",
+        rt,
+        "subnormal start, passes",
         inside,
         settings(5e-324, 0.5, least),
-    );
-    stay(b"subnormal start, fails", out, settings(5e-324, 0.5, least));
-    stay(b"-0 in q, passes", [-0.0, 1.0, 2.0], house_settings(1.0));
-    stay(b"-0 in q, fails", [-0.0, -1.0, 1.0], house_settings(1.0));
+    )?;
+    stay(
+        rt,
+        "subnormal start, fails",
+        out,
+        settings(5e-324, 0.5, least),
+    )?;
+    stay(rt, "-0 in q, passes", [-0.0, 1.0, 2.0], house_settings(1.0))?;
+    stay(rt, "-0 in q, fails", [-0.0, -1.0, 1.0], house_settings(1.0))?;
     let exp = exponential(1);
     let down = [0.0, -4.0, 0.0];
     show(
-        b"the last trial passes",
+        rt,
+        "the last trial passes",
         exp,
         true,
         down,
         inside,
         settings(1.0, 0.5, 0.125),
-    );
+    )?;
     let far = [0.0, 1.0, 1.7e308];
     let over = [0.0, 0.0, 1e308];
     show(
-        b"the point overflows",
+        rt,
+        "the point overflows",
         exp,
         true,
         over,
         far,
         house_settings(1.0),
-    );
-    dual(b"exponential, dual", exp, [-1.0, 0.0, 1.0]);
+    )?;
+    dual(rt, "exponential, dual", exp, [-1.0, 0.0, 1.0])?;
     let edge = [1.0, 1.0, 0.0];
     let up = [0.0, 0.0, 4.0];
     show(
-        b"power, primal",
+        rt,
+        "power, primal",
         halves(2),
         true,
         up,
         edge,
         settings(1.0, 0.5, 0.0625),
-    );
-    dual(b"power, dual", halves(2), edge);
+    )?;
+    dual(rt, "power, dual", halves(2), edge)?;
     show(
-        b"generalized, primal",
+        rt,
+        "generalized, primal",
         halves(3),
         true,
         up,
         edge,
         settings(1.0, 0.5, 0.0625),
-    );
-    dual(b"generalized, dual", halves(3), edge);
-    rules(edge);
-    stay(b"step 0.991", inside, settings(1.0, 0.991, 0.5));
-    stay(b"start zero", inside, settings(0.0, 0.5, 0.5));
-    stay(b"start infinite", inside, settings(1.0 / 0.0, 0.5, 0.5));
+    )?;
+    dual(rt, "generalized, dual", halves(3), edge)?;
+    rules(rt, edge)?;
+    stay(rt, "step 0.991", inside, settings(1.0, 0.991, 0.5))?;
+    stay(rt, "start zero", inside, settings(0.0, 0.5, 0.5))?;
+    stay(rt, "start infinite", inside, settings(1.0 / 0.0, 0.5, 0.5))?;
     // From the largest double down to the smallest normal one by the slowest step, and no point passes.
     stay(
-        b"the longest search",
+        rt,
+        "the longest search",
         out,
         settings(1.7976931348623157e308, 0.99, least),
-    );
+    )
 }

@@ -2,6 +2,7 @@
 ghost use Rattle.std.specs.Prelude.{◌≡◌, ◌≤◌, length};
 
 use cone::{Cone, Scaling, Three, Wide};
+use std::io::{Read, Stdin};
 
 fn wide(x: u8) -> u64 {
     x as u64
@@ -19,19 +20,21 @@ fn join(b: [u8; 8]) -> u64 {
 }
 
 // The next word; 0 behind the end.
-pub fn word() -> u64 {
+pub fn word(list: Stdin) -> u64 {
     let mut b = [0u8; 8];
-    io::read_full(0, &mut b);
+    let mut input = list;
+    // behind the end the bytes stay 0
+    let _ = input.read_exact(&mut b);
     join(b)
 }
 
-pub fn number() -> f64 {
-    double::of_bits(word())
+pub fn number(list: Stdin) -> f64 {
+    double::of_bits(word(list))
 }
 
 // A word that fits 32 bits; the list has no other where this is asked.
-pub fn short() -> u32 {
-    let n = word();
+pub fn short(list: Stdin) -> u32 {
+    let n = word(list);
     if n < 4294967296 { n as u32 } else { 4294967295 }
 }
 
@@ -42,27 +45,27 @@ fn most_64(n: u64) -> usize
 }
 
 // A length: the list's slices hold at most 64 numbers.
-pub fn count() -> usize
+pub fn count(list: Stdin) -> usize
     ensures { result ≤ 64 }
 {
-    most_64(word())
+    most_64(word(list))
 }
 
-fn filled(n: usize) -> [f64; 64] {
+fn filled(list: Stdin, n: usize) -> [f64; 64] {
     let mut xs = [0.0; 64];
     for i in 0..64 {
         if i < n {
-            xs[i] = number();
+            xs[i] = number(list);
         }
     }
     xs
 }
 
 // n numbers, then +0.
-pub fn numbers(n: usize) -> [f64; 64]
+pub fn numbers(list: Stdin, n: usize) -> [f64; 64]
     ensures { 64 ≡ length result }
 {
-    whole(filled(n))
+    whole(filled(list, n))
 }
 
 fn whole(xs: [f64; 64]) -> [f64; 64]
@@ -71,23 +74,23 @@ fn whole(xs: [f64; 64]) -> [f64; 64]
     xs
 }
 
-pub fn numbers32(n: usize) -> [f64; 32] {
+pub fn numbers32(list: Stdin, n: usize) -> [f64; 32] {
     let mut xs = [0.0; 32];
     for i in 0..32 {
         if i < n {
-            xs[i] = number();
+            xs[i] = number(list);
         }
     }
     xs
 }
 
-pub fn cone() -> Cone {
-    let kind = short();
-    let dim1 = short();
-    let dim2 = short();
-    let rule = short();
-    let n = count();
-    let exps = numbers32(n);
+pub fn cone(list: Stdin) -> Cone {
+    let kind = short(list);
+    let dim1 = short(list);
+    let dim2 = short(list);
+    let rule = short(list);
+    let n = count(list);
+    let exps = numbers32(list, n);
     Cone {
         kind,
         dim1,
@@ -104,23 +107,37 @@ pub fn places(dim: u32) -> usize
     most_64(dim as u64)
 }
 
-fn packed() -> Three {
-    let z = [number(), number(), number()];
-    let grad = [number(), number(), number()];
-    let hdual = [number(), number(), number(), number(), number(), number()];
-    let hs = [number(), number(), number(), number(), number(), number()];
+fn packed(list: Stdin) -> Three {
+    let z = [number(list), number(list), number(list)];
+    let grad = [number(list), number(list), number(list)];
+    let hdual = [
+        number(list),
+        number(list),
+        number(list),
+        number(list),
+        number(list),
+        number(list),
+    ];
+    let hs = [
+        number(list),
+        number(list),
+        number(list),
+        number(list),
+        number(list),
+        number(list),
+    ];
     Three { z, grad, hdual, hs }
 }
 
-fn wide_of(dim1: usize, dim2: usize, n: usize) -> Wide {
-    let z = numbers(n);
-    let mu = number();
-    let grad = numbers(n);
-    let p = numbers(n);
-    let q = numbers32(dim1);
-    let r = numbers32(dim2);
-    let d1 = numbers32(dim1);
-    let d2 = number();
+fn wide_of(list: Stdin, dim1: usize, dim2: usize, n: usize) -> Wide {
+    let z = numbers(list, n);
+    let mu = number(list);
+    let grad = numbers(list, n);
+    let p = numbers(list, n);
+    let q = numbers32(list, dim1);
+    let r = numbers32(list, dim2);
+    let d1 = numbers32(list, dim1);
+    let d2 = number(list);
     Wide {
         z,
         mu,
@@ -134,22 +151,23 @@ fn wide_of(dim1: usize, dim2: usize, n: usize) -> Wide {
 }
 
 // The record that is passed: fresh where the list names no numbers.
-pub fn record(cone: Cone) -> Scaling {
-    let scaled = short();
-    let serial = short();
-    let n = word();
+pub fn record(list: Stdin, cone: Cone) -> Scaling {
+    let scaled = short(list);
+    let serial = short(list);
+    let n = word(list);
     let kind = cone.kind;
     let mut three = cone::no_three();
     let mut wide = cone::no_wide();
     if n != 0 {
         if judges::is_wide(kind) {
             wide = wide_of(
+                list,
                 places(cone.dim1),
                 places(cone.dim2),
                 most_64(cone.dim1 as u64 + cone.dim2 as u64),
             );
         } else {
-            three = packed();
+            three = packed(list);
         }
     }
     Scaling {

@@ -2,6 +2,8 @@
 // `put_files` leaves the text of the sheet of as many files as it is told; that these are the files named, in their order, and that the text
 // is printed, tests/traces checks. A file that cannot be read is said in one line, and then no sheet is printed. One file at a time, the rows
 // and the text lie on the stack.
+#![tactic(auto)]
+
 ghost use Rattle.std.specs.Prelude.{◌≡◌, [], ◌≤◌, length};
 ghost use Rattle.trace_layout.specs.Traces.{most_files};
 ghost use Rattle.trace_sheet.specs.counts.Counts.{Fresh};
@@ -10,9 +12,8 @@ ghost use Rattle.trace_sheet.specs.rows.Rows.{totals_of};
 ghost use Rattle.trace_sheet.specs.text.Printed.{text_room};
 ghost use Rattle.sheet.specs.Counting.{FilesCounted, FilesPrinted};
 
-use libc::STDERR_FILENO;
 use octets::words::front;
-use program_files::{print_text, read_argument};
+use program_files::{argument_count, print_text, read_argument, say};
 use trace_layout::pieces::MOST_FILES;
 use trace_layout::rooms::file_room;
 use trace_sheet::counts::Largest;
@@ -57,7 +58,7 @@ fn nothing() -> Totals
 }
 
 // What was counted, and whether every file was read.
-#[derive(Drop)]
+#[derive(Clone, Copy)]
 struct Counted {
     done: bool,
     totals: Totals,
@@ -66,6 +67,7 @@ struct Counted {
 // The files one after the other, each into the same room. What stands in them is no argument, so that the contract says of some files what
 // the rows hold.
 fn count_files(
+    rt: &HostRuntime,
     files: usize,
     file: &mut [u8],
     dual: &mut [u64],
@@ -78,7 +80,7 @@ fn count_files(
 {
     let mut totals = nothing();
     for i in 0..files {
-        let got = read_argument(i + 1, b"FILE", file);
+        let got = read_argument(rt, i + 1, b"FILE", file);
         if !got.done {
             return Counted {
                 done: false,
@@ -91,7 +93,7 @@ fn count_files(
 }
 
 // The text of their sheet, and its length; 0 where one could not be read.
-fn put_files(files: usize, text: &mut [u8]) -> usize
+fn put_files(rt: &HostRuntime, files: usize, text: &mut [u8]) -> usize
     requires { (files ≤ most_files) × (text_room ≤ length text.old) }
     ensures { FilesPrinted files result text.old text.new }
 {
@@ -99,7 +101,7 @@ fn put_files(files: usize, text: &mut [u8]) -> usize
     let mut dual = count_room();
     let mut primal = count_room();
     let mut skipped = flag_room();
-    let counted = count_files(files, &mut file, &mut dual, &mut primal, &mut skipped);
+    let counted = count_files(rt, files, &mut file, &mut dual, &mut primal, &mut skipped);
     if !counted.done {
         return 0;
     }
@@ -108,18 +110,18 @@ fn put_files(files: usize, text: &mut [u8]) -> usize
     printed.length as usize
 }
 
-fn main() {
-    let count = os::arg_count();
+fn main(rt: HostRuntime) {
+    let count = argument_count(&rt);
     if count < 2 {
-        io::write_all(STDERR_FILENO, b"usage: sheet FILE ..\n");
+        say(&rt, b"usage: sheet FILE ..\n");
         return;
     }
     let files = count - 1;
     if MOST_FILES < files {
-        io::write_all(STDERR_FILENO, b"sheet: at most 1,000 files\n");
+        say(&rt, b"sheet: at most 1,000 files\n");
         return;
     }
     let mut text = text_room();
-    let n = put_files(files, &mut text);
-    print_text(front(&text, n));
+    let n = put_files(&rt, files, &mut text);
+    print_text(&rt, front(&text, n));
 }

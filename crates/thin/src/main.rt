@@ -1,12 +1,13 @@
 // thin IN OUT: a trace without the records that are equal to an earlier one. 02, Order 13. It reads, calls and writes; what it is
-// to print is `printedOf` and what it is to write `written_of` of `trace_thin::file`. OUT is opened when all is known, and may be IN: a file that is refused
+// to print is `printed_of` and what it is to write `written_of` of `trace_thin::file`. OUT is opened when all is known, and may be IN: a file that is refused
 // leaves it alone. The file, its text and the output lie on the stack.
+#![tactic(auto)]
+
 ghost use Rattle.std.specs.Prelude.{◌≡◌, length};
 ghost use Rattle.trace_layout.specs.Traces.{most_bytes};
 
-use libc::STDERR_FILENO;
 use octets::words::front;
-use program_files::{print_text, read_argument, write_argument};
+use program_files::{argument_count, print_text, read_argument, say, write_argument};
 use trace_layout::pieces::MOST_BYTES;
 use trace_layout::rooms::file_room;
 use trace_thin::file::put_thin;
@@ -25,28 +26,28 @@ fn output_room() -> [u8; MOST_BYTES]
     [0; MOST_BYTES]
 }
 
-fn save(file: &[u8]) {
+fn save(rt: &HostRuntime, file: &[u8]) {
     let mut text = text_room();
     let mut output = output_room();
     let n = put_thin(file, &mut text, &mut output);
     // a trace has at least 20 bytes: none is a refusal
     if n.output == 0 {
-        print_text(front(&text, n.text));
+        print_text(rt, front(&text, n.text));
         return;
     }
-    if write_argument(2, b"OUT", front(&output, n.output)) {
-        print_text(front(&text, n.text));
+    if write_argument(rt, 2, b"OUT", front(&output, n.output)) {
+        print_text(rt, front(&text, n.text));
     }
 }
 
-fn main() {
-    if os::arg_count() != 3 {
-        io::write_all(STDERR_FILENO, b"usage: thin IN OUT\n");
+fn main(rt: HostRuntime) {
+    if argument_count(&rt) != 3 {
+        say(&rt, b"usage: thin IN OUT\n");
         return;
     }
     let mut file = file_room();
-    let got = read_argument(1, b"IN", &mut file);
+    let got = read_argument(&rt, 1, b"IN", &mut file);
     if got.done {
-        save(&file[..got.count]);
+        save(&rt, &file[..got.count]);
     }
 }

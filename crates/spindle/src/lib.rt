@@ -1,5 +1,7 @@
 // The face of the library, include/spindle.h: each export hands its arguments on. Those over a lent record stand behind the header's calls
 // over a record in place.
+#![tactic(auto)]
+
 ghost use Rattle.std.specs.Prelude.{◌≡◌};
 ghost use Rattle.kernels.specs.Door.{sqrt_of, log_of, exp_of, powf_of};
 ghost use Rattle.root.specs.table_root.Steps.{table_sqrt_of};
@@ -8,7 +10,7 @@ ghost use Rattle.call_cone.specs.formulas.Entries.{fresh_of, is_primal_feasible_
 ghost use Rattle.call_cone.specs.formulas.Entries.{unit_initialization_of, rectify_equilibration_of, affine_ds_of, ds_from_dz_offset_of};
 ghost use Rattle.call_search.specs.single.Entries.{backtrack_search_of, step_length_of};
 ghost use Rattle.cone.specs.words.Words.{cones_of};
-ghost use Rattle.call_search.specs.plans.Entries.{common_step_of, planStepOf};
+ghost use Rattle.call_search.specs.plans.Entries.{common_step_of, plan_step_of};
 ghost use Rattle.call_record.specs.Parts.{triple_of, wide_of, record_of};
 ghost use Rattle.call_record.specs.update.Entries.{update_scaling_of};
 ghost use Rattle.call_record.specs.entries.Entries.{gradient_primal_of, barrier_primal_of, compute_barrier_of, get_hs_of, mul_hs_of};
@@ -204,7 +206,7 @@ pub extern "C" fn spindle_plan_step(
     settings: Settings,
 ) -> Found
     ensures { record { answer = result; first = dualpoint.new; second = primalpoint.new }
-        ≡ planStepOf (cones_of cones.now) dz.now ds.now z.now s.now
+        ≡ plan_step_of (cones_of cones.now) dz.now ds.now z.now s.now
         dualpoint.old primalpoint.old settings }
 {
     call_search::plans::plan_step(cones, dz, ds, z, s, dualpoint, primalpoint, settings)
@@ -397,11 +399,11 @@ pub extern "C" fn spindle_lent_gradient_primal<'a>(
     g: &mut [f64],
     s: &[f64],
 ) -> Rounds
-    ensures* { λ answer. ⌜ record { answer = answer; slice = g.new } ≡ gradient_primal_of
+    ensures { record { answer = result; slice = g.new } ≡ gradient_primal_of
         (record_of kind dim1 dim2 rule exps.now scaled own
         (triple_of z3.now grad3.now hdual.now hs.now)
         (wide_of keptz.now keptmu grad.now p.now q.now r.now d1.now d2))
-        g.old s.now ⌝ }
+        g.old s.now }
 {
     call_record::in_place::gradient_primal(
         kind, dim1, dim2, rule, exps, scaled, own, z3, grad3, hdual, hs, keptz, keptmu, grad, p, q,
@@ -507,11 +509,11 @@ pub extern "C" fn spindle_lent_get_hs<'a>(
     serial: u32,
     block: &mut [f64],
 ) -> u32
-    ensures* { λ answer. ⌜ record { answer = answer; slice = block.new } ≡ get_hs_of
+    ensures { record { answer = result; slice = block.new } ≡ get_hs_of
         (record_of kind dim1 dim2 rule exps.now scaled own
         (triple_of z3.now grad3.now hdual.now hs.now)
         (wide_of keptz.now keptmu grad.now p.now q.now r.now d1.now d2))
-        serial block.old ⌝ }
+        serial block.old }
 {
     call_record::in_place::get_hs(
         kind, dim1, dim2, rule, exps, scaled, own, z3, grad3, hdual, hs, keptz, keptmu, grad, p, q,
@@ -544,11 +546,11 @@ pub extern "C" fn spindle_lent_mul_hs<'a>(
     y: &mut [f64],
     x: &[f64],
 ) -> u32
-    ensures* { λ answer. ⌜ record { answer = answer; slice = y.new } ≡ mul_hs_of
+    ensures { record { answer = result; slice = y.new } ≡ mul_hs_of
         (record_of kind dim1 dim2 rule exps.now scaled own
         (triple_of z3.now grad3.now hdual.now hs.now)
         (wide_of keptz.now keptmu grad.now p.now q.now r.now d1.now d2))
-        serial y.old x.now ⌝ }
+        serial y.old x.now }
 {
     call_record::in_place::mul_hs(
         kind, dim1, dim2, rule, exps, scaled, own, z3, grad3, hdual, hs, keptz, keptmu, grad, p, q,
@@ -582,11 +584,11 @@ pub extern "C" fn spindle_lent_higher_correction<'a>(
     ds: &[f64],
     v: &[f64],
 ) -> u32
-    ensures* { λ answer. ⌜ record { answer = answer; slice = eta.new } ≡ higher_correction_of
+    ensures { record { answer = result; slice = eta.new } ≡ higher_correction_of
         (record_of kind dim1 dim2 rule exps.now scaled own
         (triple_of z3.now grad3.now hdual.now hs.now)
         (wide_of keptz.now keptmu grad.now p.now q.now r.now d1.now d2))
-        serial eta.old ds.now v.now ⌝ }
+        serial eta.old ds.now v.now }
 {
     call_record::in_place::higher_correction(
         kind, dim1, dim2, rule, exps, scaled, own, z3, grad3, hdual, hs, keptz, keptmu, grad, p, q,
@@ -621,11 +623,11 @@ pub extern "C" fn spindle_lent_combined_ds_shift<'a>(
     steps: &[f64],
     sigmamu: f64,
 ) -> u32
-    ensures* { λ answer. ⌜ record { answer = answer; slice = shifted.new } ≡ combined_ds_shift_of
+    ensures { record { answer = result; slice = shifted.new } ≡ combined_ds_shift_of
         (record_of kind dim1 dim2 rule exps.now scaled own
         (triple_of z3.now grad3.now hdual.now hs.now)
         (wide_of keptz.now keptmu grad.now p.now q.now r.now d1.now d2))
-        serial shifted.old stepz.now steps.now sigmamu ⌝ }
+        serial shifted.old stepz.now steps.now sigmamu }
 {
     call_record::in_place::combined_ds_shift(
         kind, dim1, dim2, rule, exps, scaled, own, z3, grad3, hdual, hs, keptz, keptmu, grad, p, q,

@@ -7,7 +7,7 @@ use mathlib.Core.List.{List, [], ◌∷◌}
 use native.Mathlib.Omega.{arith}
 use lib.Dec.{eqb}
 use lib.Ieee.{Float, nan, lt, le, eq, of_bits, to_bits}
-use lib.ListN.{length, replicate}
+use lib.ListN.{replicate}
 use borrow.Author.Tests.{eqb-true}
 use Rattle.arith.proofs.Branches.{false_not_true, and_left, and_right}
 use Rattle.double.specs.Numbers.{#0, #½, #1}
@@ -35,7 +35,7 @@ use Rattle.trace_layout.specs.Traces.{AllLaid, known, records_bytes, offsets_fro
 use Rattle.trace_layout.specs.Traces.{records_in, records_of}
 use Rattle.trace_layout.specs.pieces.Entries.{record_of}
 use Rattle.trace_layout.proofs.Inverses.{traces_inverse}
-use Rattle.trace.specs.places.Given.{entryOf, canLay}
+use Rattle.trace.specs.places.Given.{entry_of, can_lay}
 use Rattle.trace.specs.judge.Opening.{open_of}
 use Rattle.trace.specs.entries.Opened.{opened_of}
 use Rattle.trace.specs.entries.Writing as writing
@@ -49,7 +49,7 @@ use Rattle.trace_thin.specs.call.Thin as thins
 use Rattle.trace_thin.specs.firsts.Firsts.{firsts_behind}
 use Rattle.trace_sheet.specs.declared.counts.Largest.{Largest}
 use Rattle.trace_sheet.specs.counts.Counts.{largest_of}
-use Rattle.trace_sheet.specs.counts.Sheet.{taken, flag_of, entries_of, entries_from, sheet_of}
+use Rattle.trace_sheet.specs.counts.Sheet.{taken, entries_of, entries_from, sheet_of}
 use Rattle.trace_sheet.proofs.counts.Rows.{length-counts}
 use Rattle.trace_sheet.specs.rows.Rows as rows
 use Rattle.trace_sheet.specs.text.Printed as text
@@ -340,11 +340,11 @@ no_flag = rw (length-counts [])
 
 calls_give : (a : Call) → gives (row_of a) (by_arguments (numbers_of a)) (of-call a) ≡ true
 unfolding gives row_of by_arguments numbers_of of-call made number_in first_row trace_row settle numel_of all_of three_ok cone_ok_within cone_ok total_of
-    all_cones_ok plan_ok lt le eq of_bits to_bits plan_faults sides_faults plans.common_step_of plans.planStepOf writing.create_of writing.longer
+    all_cones_ok plan_ok lt le eq of_bits to_bits plan_faults sides_faults plans.common_step_of plans.plan_step_of writing.create_of writing.longer
     writing.append_rows writing.append_of open_of opened_of value.recorded_in value.refused_record recording.put_rows recording.record_put_of
     recording.record_at_of recording.whole_front recording.seal_rows recording.trace_seal_of replays.replay_of rescues.ends_known
     rescues.edition_for rescues.rescue_of thins.thin_of thins.thin_in_place_of firsts_behind whole_in laid_at known records_bytes offsets_from
-    trailer_of trace_of trailer_ok walks good_trace records_in records_of record_of entryOf canLay runs_for rules_in exponents settings_in rows_in
+    trailer_of trace_of trailer_ok walks good_trace records_in records_of record_of entry_of can_lay runs_for rules_in exponents settings_in rows_in
     bytes_of dims_ok step_ok shape_ok runs_size runs_bytes row_bytes spell spelled word_at rows.rows_ok rows.named_in rows.names_ok rows.no_room
     rows.sheet_row rows.join_code rows.join_of rows.add_of text.print_of
 calls_give (entry e c) = entries_give e

@@ -283,7 +283,7 @@ opening bs true e = rw e
 opening bs false e = rw e
 
 pub only_these : OnlyThese
-unfolding among made number_in numbers_of plan_faults sides_faults plans.common_step_of plans.planStepOf writing.create_of writing.append_rows
+unfolding among made number_in numbers_of plan_faults sides_faults plans.common_step_of plans.plan_step_of writing.create_of writing.append_rows
     writing.append_of recording.put_rows recording.record_put_of recording.record_at_of recording.seal_rows recording.trace_seal_of
     value.recorded_in value.recorded_of value.refused_record replays.replay_of rescues.rescue_of thins.thin_of thins.thin_in_place_of rows.join_code
     rows.join_of rows.add_of rows.holding rows.totals_of text.print_of

@@ -89,9 +89,9 @@ answer l = l.answer
 abbrev pair_answer : LentTwo ℕ → ℕ
 pair_answer l = l.answer
 
-published : (old ans : List Float) → Refuses answer (refuse old) (publishOf old ans)
+published : (old ans : List Float) → Refuses answer (refuse old) (publish_of old ans)
 unfolding publish_of
-published old ans = either answer (refuse old) (allFinite ans) _ _ (done answer (refuse old) _ refl) (with_number answer (refuse old) (λ k. refl) 7)
+published old ans = either answer (refuse old) (all_finite ans) _ _ (done answer (refuse old) _ refl) (with_number answer (refuse old) (λ k. refl) 7)
 
 published-two : (x y a b : List Float) → Refuses pair_answer (refuse_two x y) (publish_two_of x y a b)
 unfolding publish_two_of
@@ -243,7 +243,7 @@ reading-at bs e at =
     (with_number recorded_code value.refused_record (λ k. refl) 9)
 
 pub demand_one : DemandOne
-unfolding made number_in refused plans.common_step_of plans.planStepOf writing.create_of writing.append_of recording.record_put_of recording.trace_seal_of value.refused_record replays.replay_of
+unfolding made number_in refused plans.common_step_of plans.plan_step_of writing.create_of writing.append_of recording.record_put_of recording.trace_seal_of value.refused_record replays.replay_of
     rescues.rescue_of thins.thin_of thins.thin_in_place_of rows.join_of rows.add_of rows.holding rows.totals_of text.print_of
 demand_one (entry e c) n = ap answered (of_entry_lem e c n)
 demand_one (common_step cs primal dq q point s) n =
@@ -254,25 +254,25 @@ demand_one (trace_create bytes) n =
     let no = writing.refuse bytes in
     ap wrote (either left_code no (ltb (length bytes) 20) _ _ (with_number left_code no (λ k. refl) 8) (done left_code no _ refl) n)
 demand_one (trace_append bytes used a) n =
-    let no = writing.refuse bytes in ap wrote (settled left-code no (λ k. refl) _ _ (done left-code no _ refl) n)
+    let no = writing.refuse bytes in ap wrote (settled left_code no (λ k. refl) _ _ (done left_code no _ refl) n)
 demand_one (trace_open bytes) n = ap opened (opening bytes (good_trace bytes) refl n)
 demand_one (trace_record bytes i) n = ap recorded (reading bytes i n)
 demand_one (record_put bytes at edition a) n =
-    let no = writing.refuse bytes in ap wrote (settled left-code no (λ k. refl) _ _ (done left-code no _ refl) n)
+    let no = writing.refuse bytes in ap wrote (settled left_code no (λ k. refl) _ _ (done left_code no _ refl) n)
 demand_one (record_at bytes edition at) n = ap recorded (reading-at bytes edition at n)
 demand_one (trace_seal bytes used edition) n =
-    let no = writing.refuse bytes in ap wrote (settled left-code no (λ k. refl) _ _ (done left-code no _ refl) n)
+    let no = writing.refuse bytes in ap wrote (settled left_code no (λ k. refl) _ _ (done left_code no _ refl) n)
 demand_one (replay bytes offsets) n =
-    let no = replays.refuse offsets in ap replayed (settled noted-code no (λ k. refl) _ _ (done noted-code no _ refl) n)
+    let no = replays.refuse offsets in ap replayed (settled noted_code no (λ k. refl) _ _ (done noted_code no _ refl) n)
 demand_one (rescue input output edition) n =
-    let no = rescues.refuse output in ap rescued (settled saved-code no (λ k. refl) _ _ (done saved-code no _ refl) n)
+    let no = rescues.refuse output in ap rescued (settled saved_code no (λ k. refl) _ _ (done saved_code no _ refl) n)
 demand_one (thin bytes output) n =
-    let no = thins.refuse output in ap thinned (settled thin-code no (λ k. refl) _ _ (done thin-code no _ refl) n)
+    let no = thins.refuse output in ap thinned (settled thin_code no (λ k. refl) _ _ (done thin_code no _ refl) n)
 demand_one (thin_in_place bytes) n =
-    let no = thins.refuse bytes in ap thinned (settled thin-code no (λ k. refl) _ _ (done thin-code no _ refl) n)
+    let no = thins.refuse bytes in ap thinned (settled thin_code no (λ k. refl) _ _ (done thin_code no _ refl) n)
 demand_one (sheet_add h file) n =
-    let no = rows.refuse h in ap summed (settled held-code no (λ k. refl) _ _ (done held-code no _ refl) n)
+    let no = rows.refuse h in ap summed (settled held_code no (λ k. refl) _ _ (done held_code no _ refl) n)
 demand_one (sheet_join h second) n =
-    let no = rows.refuse h in ap summed (settled held-code no (λ k. refl) _ _ (done held-code no _ refl) n)
+    let no = rows.refuse h in ap summed (settled held_code no (λ k. refl) _ _ (done held_code no _ refl) n)
 demand_one (sheet_text bytes h) n =
-    let no = text.refuse bytes in ap printed (settled told-code no (λ k. refl) _ _ (done told-code no _ refl) n)
+    let no = text.refuse bytes in ap printed (settled told_code no (λ k. refl) _ _ (done told_code no _ refl) n)

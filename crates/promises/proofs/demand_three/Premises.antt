@@ -79,8 +79,8 @@ module _ (s : Settings) (F : T (fits binary64 s.smallest)) (a : Asked s) where
   smallest_taken : T (finite s.smallest) × T (#smallest_normal ≼ s.smallest)
   smallest_taken = normal_taken s.smallest F a.smallest_normal (of_true _ a.smallest_above_zero)
 
-  pub settings_finite : settings_finite s ≡ true
-  settings_finite =
+  pub settings_finite_lem : settings_finite s ≡ true
+  settings_finite_lem =
       let step = is_true _ (factor_finite s.step (of_true _ a.factor_above_zero) (of_true _ factor_taken)) in
       and_both (finite s.start && finite s.step) _ (and_both (finite s.start) _ a.start_finite step)
       (is_true _ smallest_taken.0)

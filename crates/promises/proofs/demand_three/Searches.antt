@@ -26,12 +26,12 @@ use Rattle.call_search.specs.single.Entries.{found, refuse_found, both_found, re
 use Rattle.call_search.specs.single.Demand3.{Doubles}
 use Rattle.call_search.proofs.single.Demand3.{search_meets, step_meets}
 use Rattle.call_search.specs.plans.Rows.{plan_faults, plan_rows, sides_faults, sides_rows}
-use Rattle.call_search.specs.plans.Entries.{common_step_of, found_on_sides, refuse_sides, planStepOf}
+use Rattle.call_search.specs.plans.Entries.{common_step_of, found_on_sides, refuse_sides, plan_step_of}
 use Rattle.call_search.proofs.plans.CommonStep.{common_meets}
 use Rattle.call_search.proofs.plans.PlanStep.{plan_step_meets}
 use Rattle.promises.specs.demand_three.Premises.{Accepted, AcceptedPlan, Side, Asked}
 use Rattle.promises.specs.demand_three.Searches.{DemandThree}
-use Rattle.promises.proofs.demand_three.Premises.{settings_finite, settings_ok_lem, plan-taken}
+use Rattle.promises.proofs.demand_three.Premises.{settings_finite_lem, settings_ok_lem, plan-taken}
 
 -- what row 2 asks of a length
 same : (n a : ℕ) → a ≡ n → eqb a n ≡ true
@@ -41,7 +41,7 @@ same n a e = eq-eqb a n e
 
 module _ (s : Settings) (d : Doubles s) (a : Asked s) where
   abbrev finite_s : settings_finite s ≡ true
-  finite_s = settings_finite s d.smallest a
+  finite_s = settings_finite_lem s d.smallest a
 
   abbrev ok_s : settings_ok s ≡ true
   ok_s = settings_ok_lem s d.smallest a
@@ -78,10 +78,10 @@ module _ (s : Settings) (d : Doubles s) (a : Asked s) where
         )
 
   module _ (dz ds z z' dual primal : List Float) where
-    step_rows : (c : Cone) → Accepted c → Side (numel_of c) dz z dual → Side (numel_of c) ds z' primal
+    step_rows_lem : (c : Cone) → Accepted c → Side (numel_of c) dz z dual → Side (numel_of c) ds z' primal
         → step_rows c dz ds z z' (length dual) (length primal) s ≡ 0
     unfolding step_faults first_row
-    step_rows c ok l m =
+    step_rows_lem c ok l m =
         let n = numel_of c in
         rw (
           ok,
@@ -127,7 +127,7 @@ unfolding settle
 settled number k d refuse z e = rw e z
 
 pub demand_three : DemandThree
-unfolding backtrack_search_of step_length_of common_step_of planStepOf
+unfolding backtrack_search_of step_length_of common_step_of plan_step_of
 demand_three = record {
   backtrack_search_lem = λ c primal dq q point s d ok l a.
       let e = settled (λ (x : Lent Found). x.answer.code) _ (found (search_of (problem_of c primal dq q s))) (refuse_found point) refl
@@ -137,7 +137,7 @@ demand_three = record {
   step_length_lem = λ c dz ds z s dual primal how d ok l m a.
       let both = both_found (search_of (problem_of c false dz z how)) (search_of (problem_of c true ds s how)) in
       let e = settled (λ (x : LentTwo Steps). x.answer.code) _ both (refuse_steps dual primal) refl
-      (step_rows how d a dz ds z s dual primal c ok l m)
+      (step_rows_lem how d a dz ds z s dual primal c ok l m)
       in
       (e, step_meets c dz ds z s dual primal how d e);
   common_step_lem = λ cs primal dq q point s d ok l a.

@@ -14,7 +14,7 @@ use Rattle.trace_layout.specs.Traces.{newest_edition, records_bytes, trace_of}
 use Rattle.trace.specs.declared.entries.Written.{Written}
 use Rattle.trace.specs.declared.value.Recorded.{Recorded}
 use Rattle.trace.specs.entries.Writing.{Left, create_of}
-use Rattle.trace.specs.recording.Recording.{record_at_of, record_put_of, trace_seal_of}
+use Rattle.trace.specs.recording.Recording.{record_at_of, trace_seal_of}
 use Rattle.trace.specs.kept.Appended.{trace_in}
 use Rattle.trace.specs.kept.Made.{Call, called, AllPassed, Held, begun, append_one, append_all}
 use Rattle.trace.specs.kept.Sealed.{put_call, unused, put_one, put_all, seal_all, EachAppended}

@@ -20,11 +20,11 @@ use Rattle.kinds.specs.Answers.{answer_in, pow_answer, genpow_answer}
 use Rattle.kinds.specs.Passes.{passes_in}
 use Rattle.kinds.proofs.EachKind.{cone, each_kind}
 use Rattle.trace_layout.specs.Records.{exponents}
-use Rattle.trace.specs.places.Given.{dim1Of, dim2Of, usedExps}
+use Rattle.trace.specs.places.Given.{dim1_of, dim2_of, used_exps}
 
--- as `keptOf` has it
+-- as `kept_of` has it
 abbrev pub kept_cone : Cone → Cone
-kept_cone c = record { kind = c.kind; dim1 = dim1Of c; dim2 = dim2Of c; rule = c.rule; exps = padded 32 (usedExps c) }
+kept_cone c = record { kind = c.kind; dim1 = dim1_of c; dim2 = dim2_of c; rule = c.rule; exps = padded 32 (used_exps c) }
 
 abbrev test : Cone → Bool → List Float → Bool
 test c primal = passes_in c.kind c.dim1 c.exps primal

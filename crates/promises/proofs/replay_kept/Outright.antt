@@ -29,9 +29,9 @@ module _ (e : ℕ) (step : Float) (means : (start : Float) → default_of e star
       record { start = start; step = of_bits binary64 (get_or r.settings 0 0); smallest = of_bits binary64 (get_or r.settings 1 0) } in
       ap (λ (x : Settings). cond (eqb r.flag 0) own x) (means start)
 
-  same_told : (r : Record) → same_record e r ≡ same_told step r
+  same_told_lem : (r : Record) → same_record e r ≡ same_told step r
   unfolding same_record agrees_of rerun_of recorded_of same_told
-  same_told r =
+  same_told_lem r =
       let n = numel_of (cone_of r) in
       let vector : List ℕ → List Float = λ ws. take n (padded 64 (values_of ws)) in
       let point = take n blank_point in
@@ -58,7 +58,7 @@ replayed_by bs old e same is alike = rw (is, counted e same alike _, found e sam
 
 pub outright : Outright
 outright = record {
-  first = λ bs old is. replayed_by bs old 1 _ is (same_told 1 _ defaults_right.first);
-  second = λ bs old is. replayed_by bs old 2 _ is (same_told 2 _ defaults_right.second);
-  third = λ bs old is. replayed_by bs old 3 _ is (same_told 3 _ defaults_right.third);
+  first = λ bs old is. replayed_by bs old 1 _ is (same_told_lem 1 _ defaults_right.first);
+  second = λ bs old is. replayed_by bs old 2 _ is (same_told_lem 2 _ defaults_right.second);
+  third = λ bs old is. replayed_by bs old 3 _ is (same_told_lem 3 _ defaults_right.third);
 }

@@ -2,7 +2,7 @@
 -- for the record that it hands back. Assumes nothing.
 use Prim.Native.Nat.{ℕ, zero, suc}
 use mathlib.Core.Path.{◌≡◌, refl, ap}
-use mathlib.Core.Bool.{Bool, true, false, cond, ◌&&◌}
+use mathlib.Core.Bool.{Bool, true, false, cond}
 use mathlib.Core.List.{List}
 use lib.Dec.{eqb}
 use lib.Ieee.{Float}
@@ -60,7 +60,7 @@ last_rows_lem rule a = refl
 
 both-settled
     : (rule k l : ℕ) (x : Updated) (refuse : ℕ → Updated)
-    → settle k (settle l (updated_under rule x) (λ j. updated_under rule (refuse j))) (λ j. updatedUnder rule (refuse j))
+    → settle k (settle l (updated_under rule x) (λ j. updated_under rule (refuse j))) (λ j. updated_under rule (refuse j))
     ≡ updated_under rule (settle k (settle l x refuse) refuse)
 unfolding settle
 both-settled rule zero zero x refuse = refl

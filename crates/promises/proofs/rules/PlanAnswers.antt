@@ -12,13 +12,13 @@ use Rattle.arith.proofs.Branches.{and_left, and_right, and_both}
 use Rattle.cone.specs.declared.Cone.{Cone}
 use Rattle.cone.specs.declared.Settings.{Settings}
 use Rattle.cone.specs.Codes.{numel_of}
-use Rattle.judges.specs.Judges.{rule1, rule2, rule_ok, tolerance_of, cone_ok_within, cone_ok}
+use Rattle.judges.specs.Judges.{rule1, rule2, rule_ok, cone_ok}
 use Rattle.cone.specs.table.Table.{first_row, settle}
 use Rattle.search.specs.plan.Plans.{total_of, all_cones_ok, most_cones, plan_ok, cone_passes, all_pass, tests_of}
 use Rattle.search.specs.plan.EachCone.{cone_at}
 use Rattle.search.specs.plan.Sides.{both_pass, both_tests, dual_side, primal_side}
 use Rattle.call_search.specs.plans.Rows.{plan_faults, sides_faults}
-use Rattle.call_search.specs.plans.Entries.{common_step_of, planStepOf}
+use Rattle.call_search.specs.plans.Entries.{common_step_of, plan_step_of}
 use Rattle.promises.specs.rules.Entries.{under}
 use Rattle.promises.specs.rules.Rules.{all_under, OneStep, PlanAnswers, OneStepOfBoth, SidesAnswers}
 use Rattle.promises.proofs.rules.Tolerances.{cone_takes}
@@ -124,24 +124,24 @@ module _ (rule : ℕ) (cs : List Cone) where
       )
 
 both_under_1 : (cs : List Cone) → plan_ok cs ≡ true → OneStepOfBoth cs (all_under rule1 cs)
-unfolding planStepOf sides_faults
+unfolding plan_step_of sides_faults
 both_under_1 cs ok dz ds z s dual_point primal_point settings =
     rw (ok, takes cs ok, fun_ext (both_same rule1 cs), fun_ext (counts_same rule1 cs), total_same rule1 cs)
 
 another_of_both : (cs : List Cone) (i : ℕ) → i < length cs → rule_ok (cone_at cs i).rule ≡ false
     → (dz ds z s dual_point primal_point : List Float) (settings : Settings)
-    → (planStepOf cs dz ds z s dual_point primal_point settings).answer.code ≡ 1
-unfolding planStepOf sides_faults first_row settle
+    → (plan_step_of cs dz ds z s dual_point primal_point settings).answer.code ≡ 1
+unfolding plan_step_of sides_faults first_row settle
 another_of_both cs i l bad dz ds z s dual_point primal_point settings = rw (not_planned cs i l bad)
 
 pub sides_answers : SidesAnswers
 sides_answers = record {
   in_row_one = λ cs other e ok ok' dz ds z s dual_point primal_point settings.
       both_under_1 cs ok dz ds z s dual_point primal_point settings
-      ∙ ap (λ (l : List Cone). planStepOf l dz ds z s dual_point primal_point settings) e
+      ∙ ap (λ (l : List Cone). plan_step_of l dz ds z s dual_point primal_point settings) e
       ∙ sym (both_under_1 other ok' dz ds z s dual_point primal_point settings);
   equal = λ cs ok dz ds z s dual_point primal_point settings.
       both_under_1 (all_under rule2 cs) ok dz ds z s dual_point primal_point settings
-      ∙ ap (λ (l : List Cone). planStepOf l dz ds z s dual_point primal_point settings) (rules_replaced rule1 rule2 cs);
+      ∙ ap (λ (l : List Cone). plan_step_of l dz ds z s dual_point primal_point settings) (rules_replaced rule1 rule2 cs);
   another = another_of_both;
 }

@@ -1,6 +1,6 @@
 -- An edition without a rule is read with 1 in its place. An append looks at the rule in one test, which edition 3 passes; and the bytes of
 -- a record are as many under every rule. Assumes nothing.
-use Prim.Native.Nat.{ℕ, zero, suc, ◌+◌, ◌<◌}
+use Prim.Native.Nat.{ℕ, zero, suc, ◌+◌}
 use mathlib.Core.Path.{◌≡◌, refl, sym, ap, ◌∙◌}
 use mathlib.Core.Bool.{Bool, true, false, not, ◌&&◌}
 use mathlib.Core.List.{List, []}
@@ -15,7 +15,7 @@ use Rattle.trace_layout.specs.Traces.{list_at, count_at, edition_at, records_in,
 use Rattle.trace_layout.proofs.Fields.{rule-of}
 use Rattle.trace_layout.specs.pieces.Entries.{record_of}
 use Rattle.trace.proofs.record_writer.Bits.{no_rule}
-use Rattle.trace.specs.places.Given.{dim1Of, dim2Of, entryOf, usedExps, canLay}
+use Rattle.trace.specs.places.Given.{dim1_of, dim2_of, entry_of, used_exps, can_lay}
 use Rattle.trace.specs.entries.Writing.{refuse, leave, good_front, longer, append_rows, append_of}
 use Rattle.trace.proofs.entries.Judged.{can_lay_lem, free, longer-length}
 use Rattle.trace.specs.declared.value.Recorded.{Recorded}
@@ -58,11 +58,11 @@ carried bs used a bytes passed done =
 -- ---- editions without a rule
 
 cannot
-    : (e : ℕ) (a : Call) (lays : Bool) → (e ≡ 3 → ⊥) → (a.cone.rule ≡ 1 → ⊥) → canLay e (handed a) ≡ lays → lays ≡ false
-unfolding entryOf
+    : (e : ℕ) (a : Call) (lays : Bool) → (e ≡ 3 → ⊥) → (a.cone.rule ≡ 1 → ⊥) → can_lay e (handed a) ≡ lays → lays ≡ false
+unfolding entry_of
 cannot e a true not-3 not-1 h =
-    let x = entryOf a.cone a.flag a.settings a.steps in
-    let ruled = (can_lay_lem e x (usedExps a.cone) a.dz a.ds a.z a.s h).ruled in
+    let x = entry_of a.cone a.flag a.settings a.steps in
+    let ruled = (can_lay_lem e x (used_exps a.cone) a.dz a.ds a.z a.s h).ruled in
     absurd (false_not_true (simp (ne_eqb e 3 not-3, ne_eqb a.cone.rule 1 not-1) at ruled))
 cannot e a false not-3 not-1 h = refl
 
@@ -71,14 +71,14 @@ unfolding trace_row
 nine true full = refl
 nine false full = refl
 
-rows_nine : (bs : List ℕ) (used : ℕ) (r : Record) → canLay (edition_at (take used bs)) r ≡ false → append_rows bs used r ≡ 9
+rows_nine : (bs : List ℕ) (used : ℕ) (r : Record) → can_lay (edition_at (take used bs)) r ≡ false → append_rows bs used r ≡ 9
 unfolding append_rows
 rows_nine bs used r h = rw h (nine (good_front bs used) _)
 
 refused
     : (bs : List ℕ) (used : ℕ) (a : Call) → (edition_at (take used bs) ≡ 3 → ⊥) → (a.cone.rule ≡ 1 → ⊥)
     → (called bs used a).answer.code ≡ 9
-unfolding append_of settle record_of entryOf
+unfolding append_of settle record_of entry_of
 refused bs used a not-3 not-1 = rw (rows_nine bs used (handed a) (cannot (edition_at (take used bs)) a _ not-3 not-1 refl))
 
 -- ---- edition 3
@@ -103,41 +103,41 @@ module _
     abbrev r' : Record
     r' = handed (call_under rule a)
 
-    lay_same : canLay e r' ≡ canLay e r
-    unfolding canLay record_of entryOf
+    lay_same : can_lay e r' ≡ can_lay e r
+    unfolding can_lay record_of entry_of
     lay_same = rw (eq-eqb e 3 third)
 
     -- the bytes of a record are counted by its kind, dims and flag
     length-of
-        : (b : Call) → PassedIn b → good_front bs used ≡ true → canLay e (handed b) ≡ true
+        : (b : Call) → PassedIn b → good_front bs used ≡ true → can_lay e (handed b) ≡ true
         → length (longer bs used (handed b))
-        ≡ used + runs_size (runs_for e b.cone.kind (dim1Of b.cone) (dim2Of b.cone) b.flag) + 8
-    unfolding entryOf
+        ≡ used + runs_size (runs_for e b.cone.kind (dim1_of b.cone) (dim2_of b.cone) b.flag) + 8
+    unfolding entry_of
     length-of b p good laid =
         longer-length bs used bytes
-        (entryOf b.cone b.flag b.settings b.steps) (usedExps b.cone) b.dz b.ds b.z b.s
+        (entry_of b.cone b.flag b.settings b.steps) (used_exps b.cone) b.dz b.ds b.z b.s
         (exponent_places b.cone b.flag b.settings b.dz b.ds b.z b.s b.steps p) good laid
 
-    length_same : good_front bs used ≡ true → canLay e r ≡ true → length (longer bs used r') ≡ length (longer bs used r)
+    length_same : good_front bs used ≡ true → can_lay e r ≡ true → length (longer bs used r') ≡ length (longer bs used r)
     length_same good laid = length-of (call_under rule a) passed' good (lay_same ∙ laid) ∙ sym (length-of a passed good laid)
 
-    rows-by : (good laid : Bool) → good_front bs used ≡ good → canLay e r ≡ laid → append_rows bs used r' ≡ append_rows bs used r
+    rows-by : (good laid : Bool) → good_front bs used ≡ good → can_lay e r ≡ laid → append_rows bs used r' ≡ append_rows bs used r
     unfolding append_rows trace_row
     rows-by false laid g l = rw g
     rows-by true false g l = rw (g, lay_same, l)
     rows-by true true g l = rw (g, lay_same, l, length_same g l)
 
-    taken : append_rows bs used r ≡ 0 → (good_front bs used ≡ true) × (canLay e r ≡ true)
+    taken : append_rows bs used r ≡ 0 → (good_front bs used ≡ true) × (can_lay e r ≡ true)
     taken k =
         let f =
-        free bs used bytes (entryOf a.cone a.flag a.settings a.steps) (usedExps a.cone) a.dz a.ds a.z a.s
+        free bs used bytes (entry_of a.cone a.flag a.settings a.steps) (used_exps a.cone) a.dz a.ds a.z a.s
         (exponent_places a.cone a.flag a.settings a.dz a.ds a.z a.s a.steps passed) k in
         (f.good, f.laid)
 
     any_rule : (called bs used (call_under rule a)).answer ≡ (called bs used a).answer
     unfolding append_of
     any_rule =
-        rw (rows-by (good_front bs used) (canLay e r) refl refl)
+        rw (rows-by (good_front bs used) (can_lay e r) refl refl)
         (answers-same (append_rows bs used r) bs (longer bs used r) (longer bs used r') (λ k. length_same (taken k).0 (taken k).1))
 
 pub appends : Appends

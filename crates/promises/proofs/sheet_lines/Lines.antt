@@ -17,7 +17,7 @@ use Rattle.trace_sheet.specs.text.Printed.{sheet_text}
 use Rattle.trace_sheet.proofs.counts.Rows.{get_or-counts}
 use Rattle.promises.specs.sheet_lines.Lines.{three, six_lines, primal_lines, second_skipped, DocumentsLines}
 
--- `expLines` of what the places count
+-- `exp_lines` of what the places count
 unfoldable lines_by : Bool → (ℕ → ℕ) → ℕ → List ℕ
 lines_by primal count zero = []
 lines_by primal count (suc f) = count_line primal (suc f) (count (suc f + 1)) ++ lines_by primal count f

@@ -1,7 +1,7 @@
 -- What rows 1 and 2 of the table leave of a call's cone and point: the kind, the length, and exponents as the theorems of both power cones
 -- ask for them. A cone that rule 2 takes, rule 1 takes (Order 9), so that one tolerance is enough. A cone in memory is one of a call.
 -- Assumes nothing.
-use mathlib.Core.Path.{◌≡◌, refl, sym, ap, ◌∙◌, subst}
+use mathlib.Core.Path.{◌≡◌, refl, sym, ◌∙◌, subst}
 use mathlib.Core.Bool.{Bool, true, ◌&&◌}
 use mathlib.Core.List.{List, [], ◌∷◌}
 use Prim.Native.Nat.{ℕ, zero, suc, ◌+◌, ◌≤◌, ◌<◌}

@@ -2,17 +2,14 @@
 -- go through `feasibility-certain`. Assumes nothing.
 use mathlib.Core.Path.{refl}
 use mathlib.Core.Bool.{true, false}
-use mathlib.Core.List.{List, [], ◌∷◌}
-use Prim.Native.Nat.{ℕ, zero, suc, ◌<◌}
+use Prim.Native.Nat.{zero, suc}
 use native.Mathlib.Nat.{le_of_suc-le-suc, not-suc-le-zero}
 use lib.Dec.{lit≤, lit<}
 use lib.Count.{count_trailing_zeros, count_leading_zeros}
-use lib.ListN.{length, replicate}
 use lib.Ieee.{Float, fits, add, sub, mul, div, neg, lt, le, eq, ne, is_nan, of_bits, to_bits, of_fields, of_int, round, size, units, odd}
 use lib.Ieee.{span, climb}
 use Rattle.arith.specs.Turns.{iter}
-use Rattle.double.specs.Operators.{at}
-use Rattle.double.specs.Numbers.{#0, #½, #1, #2}
+use Rattle.double.specs.Numbers.{#½, #1, #2}
 use Rattle.double.specs.Fields.{mag, shift, normal_of}
 use Rattle.series.specs.change.SignedArithmetic.{AboveZero, BelowZero}
 use Rattle.logarithm.specs.table.Table.{table}
@@ -21,14 +18,13 @@ use Rattle.exponential.specs.Sum.{factorial}
 use Rattle.exponential.specs.Steps.{border, gap, place_of, raised, rest, coefficient, horner, composed, exp_at, exp_of}
 use Rattle.cone.specs.verdict.Answers.{told_of}
 use Rattle.cone.specs.verdict.Margins.{power_margin}
-use Rattle.cone.specs.declared.Cone.{Cone}
 use Rattle.cone.specs.Codes.{numel_of}
 use Rattle.cone.specs.table.Table.{first_row, settle}
 use Rattle.judges.specs.Judges.{all_of, tolerance_of, wide_ok, three_ok, cone_ok_within, cone_ok}
 use Rattle.algebra.specs.Vectors.{sum_of, sumsq_of}
 use Rattle.powcone.specs.Feasible as powcone
 use Rattle.genpowcone.specs.Feasible as genpowcone
-use Rattle.genpowcone.specs.loops.Folds.{all_above_zero, primal_log_sum, dual_log_sum}
+use Rattle.genpowcone.specs.loops.Folds.{all_above_zero, primal_log_sum}
 use Rattle.kinds.specs.Answers.{pow_answer, genpow_answer, answer_in}
 use Rattle.kinds.specs.Cones.{alphas_of}
 use Rattle.certain.specs.Coordinates.{InRange}

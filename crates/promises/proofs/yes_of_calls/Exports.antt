@@ -1,13 +1,12 @@
 -- Order 12 of the exports: the contract equates what a call answers and leaves with the definition of which Order 12 is proved; its cone
 -- and its numbers are doubles by their types. Assumes nothing.
 use mathlib.Core.Path.{◌≡◌, sym, ap, ◌∙◌, subst}
-use mathlib.Core.Bool.{true, false}
-use mathlib.Core.List.{List, map}
-use lib.ListN.{length, length-map}
+use mathlib.Core.List.{List}
+use lib.ListN.{length}
 use mir.Val.{Val}
 use denote.Array.{each}
 use denote.Shadow.{shadow}
-use denote.Struct.Field.{f64-field}
+use denote.Builtin.{f64}
 use Rattle.cone.specs.declared.Cone.{Cone}
 use Rattle.cone.specs.declared.Found.{Found}
 use Rattle.cone.specs.declared.verdict.Verdict.{Verdict}
@@ -26,10 +25,9 @@ use Rattle.promises.proofs.yes_of_calls.CommonStep as one_side
 use Rattle.promises.proofs.yes_of_calls.PlanStep as both_sides
 
 -- the relation of a cone that is passed, of its fifth field
-held_of : (c : Cone) (us : List Val) → length (map (λ v. v) c.exps) ≡ 32
-    → shadow (each f64-field.row.Denot f64-field.row.own_val (map (λ v. v) c.exps) us) → Held c
+held_of : (c : Cone) (us : List Val) → length c.exps ≡ 32 → shadow (each f64.Denot f64.own_val c.exps us) → Held c
 held_of c us long each-Fits = record {
-  places = sym (length-map c.exps (λ v. v)) ∙ long;
+  places = long;
   doubles = λ i l. elements_fit c.exps us each-Fits i;
 }
 

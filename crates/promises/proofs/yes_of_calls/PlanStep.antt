@@ -20,7 +20,7 @@ use Rattle.search.specs.plan.EachCone.{cone_at}
 use Rattle.search.specs.plan.Sides.{dual_side, primal_side, sides_problem, sides_of, in_sides}
 use Rattle.search.proofs.plan.Sides.{dual-passed, primal_passed, dual-of, primal_of}
 use Rattle.call_search.specs.plans.Rows.{sides_faults, sides_rows}
-use Rattle.call_search.specs.plans.Entries.{found_on_sides, refuse_sides, planStepOf}
+use Rattle.call_search.specs.plans.Entries.{found_on_sides, refuse_sides, plan_step_of}
 use Rattle.call_search.proofs.plans.LetThrough.{both_plannable}
 use Rattle.promises.specs.yes_of_calls.Points.{Held}
 use Rattle.promises.specs.yes_of_calls.Searches.{PartsCertain, PlanStepCertain}
@@ -63,7 +63,7 @@ sides_taken cs dz ds z s n m settings e = not-false _ (no_fault (sides_faults cs
 
 -- k is the number of the call's rows
 pub plan_step_certain : PlanStepCertain
-unfolding planStepOf settle
+unfolding plan_step_of settle
 plan_step_certain words i here dz ds z s dual_point primal_point settings =
     go (sides_rows cs dz ds z s (length dual_point) (length primal_point) settings) refl
   where

@@ -11,7 +11,7 @@ use Rattle.certain.specs.power.Primal as primal
 use Rattle.certain.specs.power.Dual as dual
 use Rattle.certain.proofs.power.Meaning as power_proved
 use Rattle.certain.specs.wide.Tests as tests
-use Rattle.certain.proofs.wide.Meaning as wide_proved
+use Rattle.certain.proofs.wide_kind.Meaning as wide_proved
 use Rattle.promises.specs.yes_of_cones.Meaning.{Meaning}
 
 primal_is : (α : Float) (s : List Float) → primal.answer #2⁻³⁰ α (at s 0) (at s 1) (at s 2) ≡ power.primal_feasible α s

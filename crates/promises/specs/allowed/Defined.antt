@@ -1,5 +1,5 @@
 -- 01: "Every public function has a contract that determines its answer, its record and each lent slice for all inputs, refused ones too."
--- Of all calls that can refuse: what a contract allows is what the call's definition makes. Statements only; proofs/contracts/Defined proves
+-- Of all calls that can refuse: what a contract allows is what the call's definition makes. Statements only; proofs/allowed/Defined proves
 -- them.
 use Rattle.std.specs.Prelude.{◌≡◌}
 use Rattle.promises.specs.demand_one.Calls.{Call, Outcome, made}

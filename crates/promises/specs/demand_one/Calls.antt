@@ -6,7 +6,7 @@ use Rattle.cone.specs.declared.Cone.{Cone}
 use Rattle.cone.specs.declared.Settings.{Settings}
 use Rattle.cone.specs.declared.Found.{Found}
 use Rattle.judges.specs.Refusals.{Lent, LentTwo}
-use Rattle.call_search.specs.plans.Entries.{common_step_of, planStepOf}
+use Rattle.call_search.specs.plans.Entries.{common_step_of, plan_step_of}
 use Rattle.trace.specs.declared.entries.Opened.{Opened}
 use Rattle.trace.specs.declared.value.Recorded.{Recorded}
 use Rattle.trace.specs.entries.Opened.{opened_of}
@@ -62,7 +62,7 @@ pub data Outcome : Type 0 where
 unfoldable pub made : Call → Outcome
 made (entry e c) = answered (call e c)
 made (common_step cs primal dq q point s) = common (common_step_of cs primal dq q point s)
-made (plan_step cs dz ds z s dual_point primal_point how) = both (planStepOf cs dz ds z s dual_point primal_point how)
+made (plan_step cs dz ds z s dual_point primal_point how) = both (plan_step_of cs dz ds z s dual_point primal_point how)
 made (trace_create bytes) = wrote (writing.create_of bytes)
 made (trace_append bytes used a) = wrote (appends.called bytes used a)
 made (trace_open bytes) = opened (opened_of bytes)

@@ -13,7 +13,7 @@ use Rattle.search.specs.Problems.{problem_of}
 use Rattle.search.specs.plan.Plans.{total_of}
 use Rattle.call_search.specs.single.Entries.{backtrack_search_of, step_length_of}
 use Rattle.call_search.specs.single.Demand3.{AsDemanded, BothAsDemanded, Doubles, outcome_of}
-use Rattle.call_search.specs.plans.Entries.{common_step_of, planStepOf}
+use Rattle.call_search.specs.plans.Entries.{common_step_of, plan_step_of}
 use Rattle.call_search.specs.plans.CommonStep.{AsOrdered}
 use Rattle.call_search.specs.plans.PlanStep.{BothAsOrdered}
 use Rattle.promises.specs.demand_three.Premises.{Accepted, AcceptedPlan, Side, Asked}
@@ -55,4 +55,4 @@ pub record DemandThree : Type 0 where
   pub common_step_lem : (cs : List Cone) (primal : Bool) (dq q point : List Float) (s : Settings) → Doubles s
       → CommonOwes cs primal dq q point s (common_step_of cs primal dq q point s)
   pub plan_step_lem : (cs : List Cone) (dz ds z s dual_point primal_point : List Float) (settings : Settings) → Doubles settings
-      → PlanOwes cs dz ds z s dual_point primal_point settings (planStepOf cs dz ds z s dual_point primal_point settings)
+      → PlanOwes cs dz ds z s dual_point primal_point settings (plan_step_of cs dz ds z s dual_point primal_point settings)

@@ -9,7 +9,7 @@ use Rattle.cone.specs.declared.Settings.{Settings}
 use Rattle.judges.specs.Judges.{rule1, rule2, rule_ok, tolerance_of, cone_ok_within, cone_ok}
 use Rattle.search.specs.plan.Plans.{plan_ok}
 use Rattle.search.specs.plan.EachCone.{cone_at}
-use Rattle.call_search.specs.plans.Entries.{common_step_of, planStepOf}
+use Rattle.call_search.specs.plans.Entries.{common_step_of, plan_step_of}
 use Rattle.promises.specs.rules.Entries.{Entry, call, code_of, under, carrying}
 
 -- ---- the cones
@@ -63,7 +63,7 @@ pub record PlanAnswers : Type 0 where
 abbrev pub OneStepOfBoth : List Cone → List Cone → Type 0
 OneStepOfBoth cs other =
     (dz ds z s dual_point primal_point : List Float) (settings : Settings)
-    → planStepOf cs dz ds z s dual_point primal_point settings ≡ planStepOf other dz ds z s dual_point primal_point settings
+    → plan_step_of cs dz ds z s dual_point primal_point settings ≡ plan_step_of other dz ds z s dual_point primal_point settings
 
 pub record SidesAnswers : Type 0 where
   pub in_row_one : (cs other : List Cone) → all_under rule1 cs ≡ all_under rule1 other → plan_ok cs ≡ true → plan_ok other ≡ true
@@ -71,7 +71,7 @@ pub record SidesAnswers : Type 0 where
   pub equal : (cs : List Cone) → plan_ok (all_under rule2 cs) ≡ true → OneStepOfBoth (all_under rule2 cs) (all_under rule1 cs)
   pub another : (cs : List Cone) (i : ℕ) → i < length cs → rule_ok (cone_at cs i).rule ≡ false
       → (dz ds z s dual_point primal_point : List Float) (settings : Settings)
-      → (planStepOf cs dz ds z s dual_point primal_point settings).answer.code ≡ 1
+      → (plan_step_of cs dz ds z s dual_point primal_point settings).answer.code ≡ 1
 
 -- ---- at the tolerance
 

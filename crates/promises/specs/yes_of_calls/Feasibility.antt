@@ -7,7 +7,7 @@ use Rattle.cone.specs.declared.Cone.{Cone}
 use Rattle.call_cone.specs.formulas.Entries.{verdict_of, is_primal_feasible_of, is_dual_feasible_of}
 use Rattle.promises.specs.yes_of_calls.Points.{AllDoubles, Held, AllInRange, ExactlyInside, BelowWall}
 
--- A refused call answers no, so that a yes needs no number beside it. `verdictOf No` is a no with the number 0
+-- A refused call answers no, so that a yes needs no number beside it. `verdict_of No` is a no with the number 0
 pub record Certain (c : Cone) (p : List Float) : Type 0 where
   -- "a yes .. means that the exact point is inside"
   pub primal_yes : (is_primal_feasible_of c p).answer ≡ number_of Yes → ExactlyInside c true p

@@ -11,7 +11,7 @@ use Rattle.cone.specs.words.Words.{cones_of}
 use Rattle.judges.specs.Refusals.{LentTwo}
 use Rattle.call_search.specs.single.Entries.{backtrack_search_of, step_length_of}
 use Rattle.search.specs.plan.EachCone.{cone_at, part_of}
-use Rattle.call_search.specs.plans.Entries.{common_step_of, planStepOf}
+use Rattle.call_search.specs.plans.Entries.{common_step_of, plan_step_of}
 use Rattle.promises.specs.yes_of_calls.Points.{Held, AllInRange, ExactlyInside}
 
 -- a step with the point of this cone that is handed back beside it; the point's numbers are rounded sums, and so doubles
@@ -52,4 +52,4 @@ abbrev pub PlanStepCertain : Type 0
 PlanStepCertain =
     (words : List (List ℕ)) (i : ℕ) → let cs = cones_of words in
     i < length cs → (dz ds z s dual_point primal_point : List Float) (settings : Settings)
-    → PartsCertain cs i (planStepOf cs dz ds z s dual_point primal_point settings)
+    → PartsCertain cs i (plan_step_of cs dz ds z s dual_point primal_point settings)

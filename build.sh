@@ -44,23 +44,12 @@ native=target/native
 record=$native/made-of
 log=target/log/build.txt
 
-# The lines of crates.txt of the crates that spindle reaches, itself included.
-reached() {
-    awk '{ sub(/#.*/, "") }
-        (i = index($0, ":")) { name[++n] = substr($0, 1, i - 1); deps[name[n]] = substr($0, i + 1) }
-        END {
-            need["spindle"]
-            for (turn = 1; turn <= n; turn++) for (k = n; k; k--) if (name[k] in need) { m = split(deps[name[k]], d, " "); while (m) need[d[m--]] }
-            for (k = 1; k <= n; k++) if (name[k] in need) print name[k] ":" deps[name[k]]
-        }' crates.txt
-}
-
-# What the proved archive is made of: the kit, and the lines and files of those crates.
+# What a proved crate is made of: the kit, and the lines and files of the crates that it reaches.
 proved_of() {
     {
         rt version
-        reached
-        for name in $(reached | sed 's/:.*//'); do
+        tools/below "$1"
+        for name in $(tools/below "$1" | sed 's/:.*//'); do
             find "crates/$name/src" "crates/$name/specs" "crates/$name/proofs" -type f -exec sha256sum {} + 2>/dev/null | LC_ALL=C sort
         done
     } | sha256sum
@@ -75,7 +64,7 @@ native_of() {
 }
 
 sums() { cat "$@" 2>/dev/null | sha256sum; }
-proved() { [ -f $archive ] && [ -f $module ] && [ -f target/staticlib/made-of ] && [ "$(cat target/staticlib/made-of)" = "$(proved_of; sums $archive $module)" ]; }
+proved() { [ -f $archive ] && [ -f $module ] && [ -f target/staticlib/made-of ] && [ "$(cat target/staticlib/made-of)" = "$(proved_of spindle_c; sums $archive $module)" ]; }
 fresh() { proved && [ -f $record ] && [ "$(cat $record)" = "$(native_of; sums $archive $module; sums $native/libspindle.a $native/libspindle.so.1)" ]; }
 
 build_archive() {
@@ -84,21 +73,19 @@ build_archive() {
         [ "$(rt version)" = "$(cat KIT-ID)" ] || echo "build: note: the kit here is '$(rt version)'; the file KIT-ID names the one that this library was proved with, '$(cat KIT-ID)'"
         echo "build: proving the library and building it: some minutes the first time, a line for each crate; the whole output goes to $log"
         rm -f target/staticlib/made-of target/log/build.status
-        of=$(proved_of)
-        # rt check proves crates beside each other, which rt staticlib does not: it then takes what is proved
-        { RT_JOBS=$(tools/jobs) rt check spindle 2>&1 && echo 0 >target/log/build.status || echo 1 >target/log/build.status; } | tee "$log" | {
+        of=$(proved_of spindle_c)
+        { tools/native keep spindle_c target/staticlib 2>&1 && echo 0 >target/log/build.status || echo 1 >target/log/build.status; } | tee "$log" | {
             # the shell's own read shows a line at once, where an awk may wait for a block of them
-            same=0
             while IFS= read -r line; do
                 case $line in
-                'rt: '*' proved (unchanged'*) same=$((same + 1)) ;;
-                'rt: '*' proved'*) echo "build: ${line#rt: }" ;;
+                '== summary') ;;
+                '== '*) echo "build: ${line#== }" ;;
                 esac
             done
-            [ $same = 0 ] || echo "build: $same crates unchanged since they were proved"
         }
-        [ "$(cat target/log/build.status 2>/dev/null)" = 0 ] || { tail -n 20 "$log" >&2; die "the library was not proved"; }
-        tools/native keep $module staticlib spindle >>"$log" 2>&1 || { tail -n 20 "$log" >&2; die "the library was not built"; }
+        [ "$(cat target/log/build.status 2>/dev/null)" = 0 ] || { tail -n 20 "$log" >&2; die "the library was not proved, or not built"; }
+        mv -f target/staticlib/libspindle_c.a $archive
+        mv -f target/staticlib/spindle_c.bc $module
         { echo "$of"; sums $archive $module; } >target/staticlib/made-of
     fi
     rm -f $record
@@ -110,13 +97,14 @@ build_archive() {
 build_programs() {
     mkdir -p target/module
     for program in $programs; do
-        # rt takes a stamp for the program, too, and hands no module over then
-        [ -f "target/module/$program.bc" ] && [ "$(cat "target/module/$program.of" 2>/dev/null)" = "$(sums "target/bin/$program" "target/module/$program.bc")" ] \
-            || rm -f "target/stamp/$program"
-        tools/native keep "target/module/$program.bc" check "$program" >"target/log/$program.txt" 2>&1 \
-            || { tail -n 20 "target/log/$program.txt" >&2; die "the program $program was not built"; }
-        [ -f "target/module/$program.bc" ] || die "rt handed over no module of the program $program"
-        sums "target/bin/$program" "target/module/$program.bc" >"target/module/$program.of"
+        made="target/module/$program target/module/$program.bc"
+        of=$(proved_of "$program")
+        # shellcheck disable=SC2086
+        [ "$(cat "target/module/$program.of" 2>/dev/null)" = "$(echo "$of"; sums $made)" ] || {
+            tools/native keep "$program" target/module >"target/log/$program.txt" 2>&1 \
+                || { tail -n 20 "target/log/$program.txt" >&2; die "the program $program was not built"; }
+            { echo "$of"; sums $made; } >"target/module/$program.of"
+        }
         tools/native program "$program" $native || die "the program $program was not built for $machine"
         echo "build: $native/$program"
     done

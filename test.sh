@@ -1,9 +1,9 @@
 #!/bin/sh
 # Passes all tests of the repository. The last line is rt ci's own: 'N passed, 0 failed'.
 #
-#   sh test.sh            everything, from nothing
-#   sh test.sh --quick    only the checks of files: layout, lint, listed crates, the longest chain of crates, proof answers that say nothing, lemmas of
-#                         agreement, edits' form, shim, numbers, names, versions, paths
+#   sh test.sh            everything: first rt ci, which takes what it passed before on this machine from what is kept
+#   sh test.sh --quick    only the checks of files: layout, lint, listed crates, the static library's source, the longest chain of crates, proof answers that
+#                         say nothing, lemmas of agreement, edits' form, shim, numbers, names, versions, paths
 #   sh test.sh --outside  only what runs over the library as it is built for this machine: the C examples, the fixed list, the kernels, a gradient, exact points,
 #                         the traces, the programs over them with faults and in a wrong version, the comparison with the Rust, the Rust crate, the Python module, projects outside of the repository
 #   sh test.sh --help     this text
@@ -119,146 +119,138 @@ if [ "${1:-}" = --outside ]; then
     exit 0
 fi
 
-say "layout of .rt and .antt files"
-rt fmt --check || die "some files are not in the layout: run rt fmt"
+# What reads files alone.
+quick() {
+    say "layout of .rt and .antt files"
+    find crates -path '*/out' -prune -o \( -name '*.rt' -o -name '*.antt' \) -exec "$(dirname "$(rt doc)")/bin/rattle" fmt --check {} + \
+        || die "some files are not in the layout: run rt fmt in the crate's folder"
 
-say "shell, Python, Rust and C files (tools/lint)"
-tools/lint || die "tools/lint found something"
+    say "shell, Python, Rust and C files (tools/lint)"
+    tools/lint || die "tools/lint found something"
 
-say "every crate is listed in crates.txt"
-for folder in crates/*/; do
-    name=$(basename "$folder")
-    grep -q "^$name:" crates.txt || die "crates/$name is in no line of crates.txt"
-done
+    say "every crate is listed in crates.txt"
+    for folder in crates/*/; do
+        name=$(basename "$folder")
+        grep -Eq "^$name( [a-z0-9= ]+)?:" crates.txt || die "crates/$name is in no line of crates.txt"
+    done
 
-floors=$(python3 -c '
+    floors=$(python3 -c '
 floors = {}
 for line in open("crates.txt", encoding="utf-8"):
-    name, colon, below = line.split("#")[0].partition(":")
+    head, colon, below = line.split("#")[0].partition(":")
     if colon:
-        floors[name] = 1 + max([floors.get(crate, 0) for crate in below.split()], default=0)
+        floors[head.split()[0]] = 1 + max([floors.get(crate, 0) for crate in below.split()], default=0)
 print(max(floors.values()))')
-say "the longest chain of crates in crates.txt has $floors floors"
-[ "$floors" -le 12 ] || die "a chain of crates in crates.txt has $floors floors, and 12 are the most (docs/DECISIONS.md)"
+    say "the longest chain of crates in crates.txt has $floors floors"
+    [ "$floors" -le 12 ] || die "a chain of crates in crates.txt has $floors floors, and 12 are the most (docs/DECISIONS.md)"
 
-say "answers that say nothing stand in the list of their proof"
-tools/test-inline-needs >/dev/null || die "tools/test-inline-needs failed"
-silent=$(tools/inline-needs --check crates) || die "run tools/inline-needs crates:
+    say "the static library has the functions of crates/spindle, with their clauses (tools/face)"
+    tools/face --check || die "crates/spindle_c is not what tools/face writes from crates/spindle"
+
+    say "answers that say nothing stand in the list of their proof"
+    tools/test-inline-needs >/dev/null || die "tools/test-inline-needs failed"
+    silent=$(tools/inline-needs --check crates) || die "run tools/inline-needs crates:
 $silent"
 
-say "every public function has its lemma of agreement"
-tools/test-agreement >/dev/null || die "tools/test-agreement failed"
-tools/agreement || die "a public function has no lemma that any two outcomes of its contract agree"
+    say "every public function has its lemma of agreement"
+    tools/test-agreement >/dev/null || die "tools/test-agreement failed"
+    tools/agreement || die "a public function has no lemma that any two outcomes of its contract agree"
 
-say "every edit is a swap, is of a definition, or has a twin; none is of a proof"
-tools/test-edits >/dev/null || die "tools/test-edits failed"
-listed=$(tools/edits --list) || die "an edit is not in its form:
+    say "every edit is a swap, is of a definition, or has a twin; none is of a proof"
+    tools/test-edits >/dev/null || die "tools/test-edits failed"
+    listed=$(tools/edits --list) || die "an edit is not in its form:
 $(printf '%s\n' "$listed" | grep WRONG)"
-printf '%s\n' "$listed" | tail -n 1
+    printf '%s\n' "$listed" | tail -n 1
 
-say "the C between the proved module and a caller (tools/shim)"
-tools/test-shim >/dev/null || die "tools/test-shim failed"
-tools/shim --check || die "a call over a record's parts takes them otherwise than include/spindle.h has them"
+    say "the C between the proved module and a caller (tools/shim)"
+    tools/test-shim >/dev/null || die "tools/test-shim failed"
+    tools/shim --check || die "a call over a record's parts takes them otherwise than include/spindle.h has them"
 
-say "docs/PROMISES.md and the header's comments name the numbers of the proved table; every call that can refuse is among what the contracts allow"
-tools/numbers --check || die "a table of numbers, or the calls that the theorems speak of, differ from the library's"
+    say "docs/PROMISES.md and the header's comments name the numbers of the proved table; every call that can refuse is among what the contracts allow"
+    tools/numbers --check || die "a table of numbers, or the calls that the theorems speak of, differ from the library's"
 
-say "every edit and every name of the code that the papers cite is there"
-tools/named || die "a paper names what is not there"
+    say "every edit and every name of the code that the papers cite is there"
+    tools/named || die "a paper names what is not there"
 
-say "header, Rust crate and CHANGELOG.md name one version"
-version=$(sed -n 's/^#define SPINDLE_VERSION "\(.*\)"$/\1/p' include/spindle.h)
-[ -n "$version" ] || die "include/spindle.h has no SPINDLE_VERSION"
-for file in bindings/rust/Cargo.toml bindings/rust/Cargo.lock; do
-    grep -q "^version = \"$version\"\$" $file || die "$file has another version than include/spindle.h, $version"
-done
-number=$(echo "$version" | awk -F. '{ print $1 * 10000 + $2 * 100 + $3 }')
-grep -q "^#define SPINDLE_VERSION_NUMBER $number\$" include/spindle.h || die "SPINDLE_VERSION_NUMBER in include/spindle.h is not $number"
-grep -q "λ r. ⌜ r ≡ $number ⌝" crates/spindle/src/lib.rt || die "spindle_version in crates/spindle is not $number"
-grep -q "^version = \"$version\"\$" bindings/python/pyproject.toml || die "bindings/python/pyproject.toml has another version than include/spindle.h, $version"
-grep -q "^__version__ = \"$version\"\$" bindings/python/spindle/__init__.py || die "bindings/python/spindle has another version than include/spindle.h, $version"
-for page in man/*; do grep -q "^\.TH .* \"Obolspindle $version\"" "$page" || die "$page has another version than include/spindle.h, $version"; done
-grep -q "^## $version" CHANGELOG.md || die "CHANGELOG.md has no heading for version $version of include/spindle.h"
+    say "header, Rust crate and CHANGELOG.md name one version"
+    version=$(sed -n 's/^#define SPINDLE_VERSION "\(.*\)"$/\1/p' include/spindle.h)
+    [ -n "$version" ] || die "include/spindle.h has no SPINDLE_VERSION"
+    for file in bindings/rust/Cargo.toml bindings/rust/Cargo.lock; do
+        grep -q "^version = \"$version\"\$" $file || die "$file has another version than include/spindle.h, $version"
+    done
+    number=$(echo "$version" | awk -F. '{ print $1 * 10000 + $2 * 100 + $3 }')
+    grep -q "^#define SPINDLE_VERSION_NUMBER $number\$" include/spindle.h || die "SPINDLE_VERSION_NUMBER in include/spindle.h is not $number"
+    grep -q "ensures { result ≡ $number }" crates/spindle/src/lib.rt || die "spindle_version in crates/spindle is not $number"
+    grep -q "^version = \"$version\"\$" bindings/python/pyproject.toml || die "bindings/python/pyproject.toml has another version than include/spindle.h, $version"
+    grep -q "^__version__ = \"$version\"\$" bindings/python/spindle/__init__.py || die "bindings/python/spindle has another version than include/spindle.h, $version"
+    for page in man/*; do grep -q "^\.TH .* \"Obolspindle $version\"" "$page" || die "$page has another version than include/spindle.h, $version"; done
+    grep -q "^## $version" CHANGELOG.md || die "CHANGELOG.md has no heading for version $version of include/spindle.h"
 
-say "no file names a path of a machine"
-roots='opt|tmp|root|home|mnt|srv|work|Users'
-if git rev-parse --git-dir >/dev/null 2>&1; then
-    found=$(git grep --untracked -nIE "(^|[^A-Za-z0-9._/-])/($roots)/[A-Za-z]" -- . ':!docs/src' ':!test.sh' || true)
-else
-    found=$(grep -rnIE "(^|[^A-Za-z0-9._/-])/($roots)/[A-Za-z]" --exclude-dir=target --exclude=test.sh . | grep -v '^\./docs/src/' || true)
-fi
-[ -z "$found" ] || die "paths of a machine:
+    say "no file names a path of a machine"
+    roots='opt|tmp|root|home|mnt|srv|work|Users'
+    if git rev-parse --git-dir >/dev/null 2>&1; then
+        found=$(git grep --untracked -nIE "(^|[^A-Za-z0-9._/-])/($roots)/[A-Za-z]" -- . ':!docs/src' ':!test.sh' || true)
+    else
+        found=$(grep -rnIE "(^|[^A-Za-z0-9._/-])/($roots)/[A-Za-z]" --exclude-dir=target --exclude=test.sh . | grep -v '^\./docs/src/' || true)
+    fi
+    [ -z "$found" ] || die "paths of a machine:
 $found"
+    say "quick checks passed"
+}
 
-[ "${1:-}" != --quick ] || { say "quick checks passed"; exit 0; }
+if [ "${1:-}" = --quick ]; then
+    quick
+    exit 0
+fi
 
 [ "$(rt version)" = "$(cat KIT-ID)" ] || say "note: the kit here is '$(rt version)'; the file KIT-ID names the one that this repository was proved with, '$(cat KIT-ID)'"
 
-# rt ci proves everything from nothing. As soon as it has proved the library, two more run beside the rest of it, each in a copy of the files and
-# over the proofs just made: what needs the archive (rt staticlib takes a crate's proof only where the copy has the very files that were proved),
-# and the edits that rt ci does not try. Each of the three is a session of its own, so that this one, which waits for them, ends them when it is
-# told to end.
-copy=$(mktemp -d)
+# Each part that runs beside this shell is a session of its own, so that this one, which waits for them, ends them when it is told to end.
+logs=$(mktemp -d)
+# rt runs proved programs as nobody, who has to reach them below this folder
+chmod 711 "$logs"
 started=
 end() {
     for group in $started; do kill -- "-$group" 2>/dev/null || true; done
     for group in $started; do wait "$group" 2>/dev/null || true; done
-    rm -rf "$copy"
+    rm -rf "$logs"
 }
 trap end EXIT
 trap 'exit 1' HUP INT PIPE TERM
-mkdir -p "$copy/files/target/rlib" "$copy/files/target/stamp"
-tar -cf - --exclude=./target --exclude=./.git . | tar -xf - -C "$copy/files"
-rm -rf target
 
-say "what runs over the archive, and tools/edits, start when rt ci has proved the library; they are shown after it"
+say "proofs, must-fail edits, tests and programs (rt ci)"
+# The last line is held back until all else has ended.
 # shellcheck disable=SC2016
-setsid sh -eu -c '
-    until [ -s target/stamp/spindle ]; do
-        [ ! -f "$1/status" ] || [ -s target/stamp/spindle ] || { echo "test: rt ci did not prove the library, so nothing ran over the archive"; exit 1; }
-        sleep 1
-    done
-    # a stamp is written when its library is whole; programs have stamps, too, and no library
-    for stamp in target/stamp/*; do
-        name=${stamp##*/}
-        [ -e "target/rlib/$name.rlib" ] || continue
-        cp -R "target/rlib/$name.rlib" "$1/files/target/rlib/"
-        cp "$stamp" "$1/files/target/stamp/"
-    done
-    exec sh "$1/files/test.sh" --outside' sh "$copy" >"$copy/outside.txt" 2>&1 &
-beside=$!
-started=$beside
-# shellcheck disable=SC2016
-TMPDIR=$copy setsid sh -eu -c '
-    until [ -s target/stamp/spindle ]; do
-        [ ! -f "$1/status" ] || [ -s target/stamp/spindle ] || { echo "test: rt ci did not prove the library, so tools/edits tried nothing"; exit 1; }
-        sleep 1
-    done
-    exec tools/edits --rest' sh "$copy" >"$copy/edits.txt" 2>&1 &
-edits=$!
-started="$started $edits"
-
-say "proofs, must-fail edits and programs, from nothing (rt ci)"
-# The last line is held back until the runs beside have ended, too.
-# shellcheck disable=SC2016
-RT_JOBS=$(tools/jobs) setsid sh -c '
+setsid sh -c '
     { rt ci 2>&1; echo $? >"$1/status"; } | tee "$1/ci.txt" | {
         IFS= read -r held && while IFS= read -r line; do
             printf "%s\n" "$held"
             held=$line
         done
-    }' sh "$copy" &
-ci=$!
-started="$started $ci"
-wait "$ci" || true
-[ -f "$copy/status" ] || echo 1 >"$copy/status"
-passed=0 tried=0
-wait "$beside" || passed=1
-wait "$edits" || tried=1
+    }' sh "$logs" &
+started=$!
+wait "$started" || true
 started=
-cat "$copy/outside.txt" "$copy/edits.txt"
-[ "$(cat "$copy/status")" = 0 ] || { tail -n 1 "$copy/ci.txt"; die "rt ci failed"; }
-tools/edits --logs || die "an edit that rt ci tried was not refused at a fact"
+[ "$(cat "$logs/status" 2>/dev/null)" = 0 ] || { tail -n 1 "$logs/ci.txt"; die "rt ci failed"; }
+# An edit that rt ci could not apply or read fails nothing there.
+ok=$(grep '^rt: ok' "$logs/ci.txt") || die "rt ci has no line 'rt: ok'"
+case $ok in *', '[1-9]*' bad'*) die "rt ci tells of must-fail edits that are bad: $ok" ;; esac
+tools/edits --logs "$logs/ci.txt" || die "an edit that rt ci tried was not refused at a fact"
+
+quick
+
+say "the edits that rt ci does not try (tools/edits --rest) run beside what runs over the archive, and are shown after it"
+TMPDIR=$logs setsid tools/edits --rest >"$logs/edits.txt" 2>&1 &
+started=$!
+passed=0 tried=0
+# what rt ci has just proved stands in crates/*/out, and is not proved once more where all of it is there
+SPINDLE_PROVED=1 setsid sh test.sh --outside &
+outside=$!
+started="$started $outside"
+wait "$outside" || passed=1
+wait "${started% *}" || tried=1
+started=
+cat "$logs/edits.txt"
 [ $passed = 0 ] || die "a run over the archive failed"
 [ $tried = 0 ] || die "tools/edits failed"
-tail -n 1 "$copy/ci.txt"
+tail -n 1 "$logs/ci.txt"

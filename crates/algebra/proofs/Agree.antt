@@ -10,7 +10,6 @@ use Rattle.algebra.proofs.sym3.scaled_from.Reads as scaled_from
 use Rattle.algebra.proofs.sym3.outer.Reads as outer
 use Rattle.algebra.proofs.sym3.cholesky_3x3_explicit_factor.Reads as cholesky_3x3_explicit_factor
 use Rattle.algebra.proofs.sym3.cholesky_3x3_explicit_solve.Reads as cholesky_3x3_explicit_solve
-use Rattle.algebra.proofs.vector.shorter.Reads as shorter
 use Rattle.algebra.proofs.vector.dot.Reads as dot
 use Rattle.algebra.proofs.vector.sum.Reads as sum
 use Rattle.algebra.proofs.vector.sumsq.Reads as sumsq
@@ -41,9 +40,6 @@ cholesky_3x3_explicit_factor_agrees κs a x y s t p q = p ∙ sym q
 
 pub cholesky_3x3_explicit_solve_agrees : OneAnswer cholesky_3x3_explicit_solve.Post
 cholesky_3x3_explicit_solve_agrees κs a x y s t p q = p ∙ sym q
-
-pub shorter_agrees : OneAnswer shorter.Post
-shorter_agrees κs a x y s t p q = p ∙ sym q
 
 pub dot_agrees : OneAnswer dot.Post
 dot_agrees κs a x y s t p q = p ∙ sym q

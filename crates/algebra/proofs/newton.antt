@@ -1,4 +1,5 @@
 pub mod Ratios
+pub mod Heads
 pub mod RoundsLeft
 pub mod Counts
 pub mod Agree

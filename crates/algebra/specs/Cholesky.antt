@@ -1,20 +1,16 @@
 -- The Cholesky factor of a packed block, and the solution of H·x = b by it. Definitions only.
-use Rattle.std.specs.Prelude.{true, false, cond, List, [], ◌∷◌, Float}
+use Rattle.std.specs.Prelude.{cond, List, [], ◌∷◌, Option, Some, None, Float}
 use Rattle.double.specs.Operators.{◌⊖◌, ◌⊗◌, ◌⊘◌, ◌≺◌, at}
 use Rattle.double.specs.Numbers.{#0}
 use Rattle.kernels.specs.Door.{sqrt_of}
-use Rattle.algebra.specs.declared.sym3.Factor.{Factor}
-
-abbrev pub no_factor : Factor
-no_factor = record { ok = false; l = #0 ∷ #0 ∷ #0 ∷ #0 ∷ #0 ∷ #0 ∷ [] }
 
 -- 01: "a pivot not above 0 fails". A NaN is not above 0
-abbrev pub if_above : Float → Factor → Factor
-if_above pivot f = cond (#0 ≺ pivot) f no_factor
+abbrev pub if_above : Float → Option (List Float) → Option (List Float)
+if_above pivot f = cond (#0 ≺ pivot) f None
 
 -- 01: "pivots h00, h11-l10², h22-l20²-l21²", "the diagonal holds the pivots' roots", and
 -- "l21 = (h12-l10·l20)/l11; l10 = h01/l00, l20 = h02/l00"
-unfoldable pub factor_of : List Float → Factor
+unfoldable pub factor_of : List Float → Option (List Float)
 factor_of h =
     let p0 = at h 0 in
     let l00 = sqrt_of p0 in
@@ -25,7 +21,7 @@ factor_of h =
     let l21 = (at h 4 ⊖ l10 ⊗ l20) ⊘ l11 in
     let p2 = at h 5 ⊖ l20 ⊗ l20 ⊖ l21 ⊗ l21 in
     let l22 = sqrt_of p2 in
-    if_above p0 (if_above p1 (if_above p2 (record { ok = true; l = l00 ∷ l10 ∷ l11 ∷ l20 ∷ l21 ∷ l22 ∷ [] })))
+    if_above p0 (if_above p1 (if_above p2 (Some (l00 ∷ l10 ∷ l11 ∷ l20 ∷ l21 ∷ l22 ∷ []))))
 
 -- 01: "forward then backward substitution, subtracting known products in rising index order, with division by the diagonal"
 unfoldable pub solve_of : List Float → List Float → List Float

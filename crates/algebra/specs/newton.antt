@@ -1,2 +1,3 @@
+pub mod Ratios
 pub mod Equations
 pub mod Rounds

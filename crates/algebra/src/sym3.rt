@@ -62,15 +62,8 @@ pub fn outer(x: [f64; 3], y: [f64; 3]) -> [[f64; 3]; 3]
     ]
 }
 
-// A lower triangle in the block's packed order, and whether there is one.
-#[derive(Clone, Copy)]
-pub struct Factor {
-    pub ok: bool,
-    pub l: [f64; 6],
-}
-
-// "a pivot not above 0 fails", and so does one that is a NaN.
-pub fn cholesky_3x3_explicit_factor(h: [f64; 6]) -> Factor
+// A lower triangle in the block's packed order. "a pivot not above 0 fails", and so does one that is a NaN.
+pub fn cholesky_3x3_explicit_factor(h: [f64; 6]) -> Option<[f64; 6]>
     ensures { result ≡ factor_of h }
 {
     let p0 = h[0];
@@ -85,17 +78,11 @@ pub fn cholesky_3x3_explicit_factor(h: [f64; 6]) -> Factor
             let p2 = h[5] - l20 * l20 - l21 * l21;
             if p2 > 0.0 {
                 let l22 = sqrt(p2);
-                return Factor {
-                    ok: true,
-                    l: [l00, l10, l11, l20, l21, l22],
-                };
+                return Some([l00, l10, l11, l20, l21, l22]);
             }
         }
     }
-    Factor {
-        ok: false,
-        l: [0.0; 6],
-    }
+    None
 }
 
 pub fn cholesky_3x3_explicit_solve(l: [f64; 6], b: [f64; 3]) -> [f64; 3]

@@ -1,6 +1,6 @@
 // Vectors as slices of any length, and as three numbers by value.
 
-ghost use Rattle.std.specs.Prelude.{◌≡◌, min, take, drop};
+ghost use Rattle.std.specs.Prelude.{◌≡◌, take, drop};
 ghost use Rattle.algebra.specs.Vectors.{dot_of, sum_of, sumsq_of, norm_of, mean_of, moved_of, shift_of, normalize_of};
 
 use kernels::sqrt;
@@ -20,21 +20,13 @@ pub fn tail(xs: &[f64], n: usize) -> &[f64]
     if n <= xs.len() { &xs[n..] } else { &xs[..0] }
 }
 
-// As many turns as a zip of the Rust takes.
-pub fn shorter(n: usize, m: usize) -> usize
-    ensures { result ≡ min n m }
-{
-    if n < m { n } else { m }
-}
-
 // Over the shorter of the two.
 pub fn dot(xs: &[f64], ys: &[f64]) -> f64
     ensures { result ≡ dot_of xs.now ys.now }
 {
-    let n = shorter(xs.len(), ys.len());
     let mut t = 0.0;
-    for i in 0..n {
-        t = t + xs[i] * ys[i];
+    for (x, y) in xs.iter().zip(ys) {
+        t = t + x * y;
     }
     t
 }
@@ -43,8 +35,8 @@ pub fn sum(xs: &[f64]) -> f64
     ensures { result ≡ sum_of xs.now }
 {
     let mut t = 0.0;
-    for i in 0..xs.len() {
-        t = t + xs[i];
+    for x in xs {
+        t = t + x;
     }
     t
 }
@@ -53,8 +45,8 @@ pub fn sumsq(xs: &[f64]) -> f64
     ensures { result ≡ sumsq_of xs.now }
 {
     let mut t = 0.0;
-    for i in 0..xs.len() {
-        t = t + xs[i] * xs[i];
+    for x in xs {
+        t = t + x * x;
     }
     t
 }

@@ -1,18 +1,19 @@
 // The entries that ask whether a point is feasible, and the rows of the table that judge an entry which reads a cone and a point. Where an
 // entry takes no settings, there is nothing wrong with them.
 ghost use Rattle.std.specs.Prelude.{◌≡◌};
+ghost use Rattle.cone.specs.table.Table.{code_of};
 ghost use Rattle.call_cone.specs.feasibility.Rows.{read_rows};
-ghost use Rattle.call_cone.specs.feasibility.Entries.{is_primal_feasible_of, is_dual_feasible_of};
+ghost use Rattle.call_cone.specs.feasibility.Entries.{feasible_of, is_primal_feasible_of, is_dual_feasible_of};
 
 use cone::Cone;
-use cone::table::{first_row, no_faults};
+use cone::table::{Refusal, first_row, no_faults};
 use cone::verdict::{Verdict, number};
 use judges::{all_finite, cone_ok, numel};
 use kinds::answer;
 
 // is_primal_feasible, is_dual_feasible, barrier_dual, dual_grad_h.
-pub(crate) fn read_rows(cone: Cone, s: &[f64]) -> u32
-    ensures { result ≡ read_rows cone s.now }
+pub(crate) fn read_rows(cone: Cone, s: &[f64]) -> Result<(), Refusal>
+    ensures { code_of result ≡ read_rows cone s.now }
 {
     let n = numel(cone);
     let mut faults = no_faults();
@@ -22,30 +23,28 @@ pub(crate) fn read_rows(cone: Cone, s: &[f64]) -> u32
     first_row(faults)
 }
 
+// Either test: that of the cone where `primal`, that of its dual otherwise.
+fn feasible(cone: Cone, primal: bool, s: &[f64]) -> Verdict
+    ensures { result ≡ feasible_of cone primal s.now }
+{
+    if let Err(refusal) = read_rows(cone, s) {
+        return Verdict::refused(refusal);
+    }
+    let told = answer(&cone, primal, s);
+    Verdict {
+        code: 0,
+        answer: number(told),
+    }
+}
+
 pub fn is_primal_feasible(cone: Cone, s: &[f64]) -> Verdict
     ensures { result ≡ is_primal_feasible_of cone s.now }
 {
-    let code = read_rows(cone, s);
-    if code != 0 {
-        return Verdict { code, answer: 0 };
-    }
-    let primal = answer(cone.kind, cone.dim1, &cone.exps, true, s);
-    Verdict {
-        code: 0,
-        answer: number(primal),
-    }
+    feasible(cone, true, s)
 }
 
 pub fn is_dual_feasible(cone: Cone, z: &[f64]) -> Verdict
     ensures { result ≡ is_dual_feasible_of cone z.now }
 {
-    let code = read_rows(cone, z);
-    if code != 0 {
-        return Verdict { code, answer: 0 };
-    }
-    let dual = answer(cone.kind, cone.dim1, &cone.exps, false, z);
-    Verdict {
-        code: 0,
-        answer: number(dual),
-    }
+    feasible(cone, false, z)
 }

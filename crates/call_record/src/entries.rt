@@ -1,9 +1,12 @@
 // The public entries that take a scaling record by value, but for update_scaling. A call takes its cone from the record, so no second cone
-// can disagree. Each lends its record's parts to `in_place`.
+// can disagree. Each lends its record to the call of its name in `in_place`.
 ghost use Rattle.std.specs.Prelude.{◌≡◌};
+ghost use Rattle.cone.specs.table.Table.{code_of};
 ghost use Rattle.call_record.specs.entries.Entries.{gradient_primal_of, barrier_primal_of, compute_barrier_of, get_hs_of, mul_hs_of};
 ghost use Rattle.call_record.specs.entries.Entries.{higher_correction_of, combined_ds_shift_of};
 
+use cone::lent::LentScaling;
+use cone::table::Refusal;
 use cone::{Number, Rounds, Scaling};
 
 // ---- the primal side
@@ -12,56 +15,13 @@ use cone::{Number, Rounds, Scaling};
 pub fn gradient_primal(scaling: Scaling, g: &mut [f64], s: &[f64]) -> Rounds
     ensures { record { answer = result; slice = g.new } ≡ gradient_primal_of scaling g.old s.now }
 {
-    crate::in_place::gradient_primal(
-        scaling.cone.kind,
-        scaling.cone.dim1,
-        scaling.cone.dim2,
-        scaling.cone.rule,
-        &scaling.cone.exps,
-        scaling.scaled,
-        scaling.serial,
-        &scaling.three.z,
-        &scaling.three.grad,
-        &scaling.three.hdual,
-        &scaling.three.hs,
-        &scaling.wide.z,
-        scaling.wide.mu,
-        &scaling.wide.grad,
-        &scaling.wide.p,
-        &scaling.wide.q,
-        &scaling.wide.r,
-        &scaling.wide.d1,
-        scaling.wide.d2,
-        g,
-        s,
-    )
+    crate::in_place::gradient_primal(&LentScaling::of(&scaling), g, s)
 }
 
 pub fn barrier_primal(scaling: Scaling, s: &[f64]) -> Number
     ensures { result ≡ barrier_primal_of scaling s.now }
 {
-    crate::in_place::barrier_primal(
-        scaling.cone.kind,
-        scaling.cone.dim1,
-        scaling.cone.dim2,
-        scaling.cone.rule,
-        &scaling.cone.exps,
-        scaling.scaled,
-        scaling.serial,
-        &scaling.three.z,
-        &scaling.three.grad,
-        &scaling.three.hdual,
-        &scaling.three.hs,
-        &scaling.wide.z,
-        scaling.wide.mu,
-        &scaling.wide.grad,
-        &scaling.wide.p,
-        &scaling.wide.q,
-        &scaling.wide.r,
-        &scaling.wide.d1,
-        scaling.wide.d2,
-        s,
-    )
+    crate::in_place::barrier_primal(&LentScaling::of(&scaling), s)
 }
 
 pub fn compute_barrier(
@@ -74,91 +34,21 @@ pub fn compute_barrier(
 ) -> Number
     ensures { result ≡ compute_barrier_of scaling z.now s.now dz.now ds.now alpha }
 {
-    crate::in_place::compute_barrier(
-        scaling.cone.kind,
-        scaling.cone.dim1,
-        scaling.cone.dim2,
-        scaling.cone.rule,
-        &scaling.cone.exps,
-        scaling.scaled,
-        scaling.serial,
-        &scaling.three.z,
-        &scaling.three.grad,
-        &scaling.three.hdual,
-        &scaling.three.hs,
-        &scaling.wide.z,
-        scaling.wide.mu,
-        &scaling.wide.grad,
-        &scaling.wide.p,
-        &scaling.wide.q,
-        &scaling.wide.r,
-        &scaling.wide.d1,
-        scaling.wide.d2,
-        z,
-        s,
-        dz,
-        ds,
-        alpha,
-    )
+    crate::in_place::compute_barrier(&LentScaling::of(&scaling), z, s, dz, ds, alpha)
 }
 
 // ---- the scaling matrix. This call and the three below name the serial that they expect of the record
 
-pub fn get_hs(scaling: Scaling, serial: u32, block: &mut [f64]) -> u32
-    ensures { record { answer = result; slice = block.new } ≡ get_hs_of scaling serial block.old }
+pub fn get_hs(scaling: Scaling, serial: u32, block: &mut [f64]) -> Result<(), Refusal>
+    ensures { record { answer = code_of result; slice = block.new } ≡ get_hs_of scaling serial block.old }
 {
-    crate::in_place::get_hs(
-        scaling.cone.kind,
-        scaling.cone.dim1,
-        scaling.cone.dim2,
-        scaling.cone.rule,
-        &scaling.cone.exps,
-        scaling.scaled,
-        scaling.serial,
-        &scaling.three.z,
-        &scaling.three.grad,
-        &scaling.three.hdual,
-        &scaling.three.hs,
-        &scaling.wide.z,
-        scaling.wide.mu,
-        &scaling.wide.grad,
-        &scaling.wide.p,
-        &scaling.wide.q,
-        &scaling.wide.r,
-        &scaling.wide.d1,
-        scaling.wide.d2,
-        serial,
-        block,
-    )
+    crate::in_place::get_hs(&LentScaling::of(&scaling), serial, block)
 }
 
-pub fn mul_hs(scaling: Scaling, serial: u32, y: &mut [f64], x: &[f64]) -> u32
-    ensures { record { answer = result; slice = y.new } ≡ mul_hs_of scaling serial y.old x.now }
+pub fn mul_hs(scaling: Scaling, serial: u32, y: &mut [f64], x: &[f64]) -> Result<(), Refusal>
+    ensures { record { answer = code_of result; slice = y.new } ≡ mul_hs_of scaling serial y.old x.now }
 {
-    crate::in_place::mul_hs(
-        scaling.cone.kind,
-        scaling.cone.dim1,
-        scaling.cone.dim2,
-        scaling.cone.rule,
-        &scaling.cone.exps,
-        scaling.scaled,
-        scaling.serial,
-        &scaling.three.z,
-        &scaling.three.grad,
-        &scaling.three.hdual,
-        &scaling.three.hs,
-        &scaling.wide.z,
-        scaling.wide.mu,
-        &scaling.wide.grad,
-        &scaling.wide.p,
-        &scaling.wide.q,
-        &scaling.wide.r,
-        &scaling.wide.d1,
-        scaling.wide.d2,
-        serial,
-        y,
-        x,
-    )
+    crate::in_place::mul_hs(&LentScaling::of(&scaling), serial, y, x)
 }
 
 // ---- kinds 1 and 2 alone: `three` refuses any other
@@ -169,35 +59,11 @@ pub fn higher_correction(
     eta: &mut [f64],
     ds: &[f64],
     v: &[f64],
-) -> u32
-    ensures { record { answer = result; slice = eta.new }
+) -> Result<(), Refusal>
+    ensures { record { answer = code_of result; slice = eta.new }
         ≡ higher_correction_of scaling serial eta.old ds.now v.now }
 {
-    crate::in_place::higher_correction(
-        scaling.cone.kind,
-        scaling.cone.dim1,
-        scaling.cone.dim2,
-        scaling.cone.rule,
-        &scaling.cone.exps,
-        scaling.scaled,
-        scaling.serial,
-        &scaling.three.z,
-        &scaling.three.grad,
-        &scaling.three.hdual,
-        &scaling.three.hs,
-        &scaling.wide.z,
-        scaling.wide.mu,
-        &scaling.wide.grad,
-        &scaling.wide.p,
-        &scaling.wide.q,
-        &scaling.wide.r,
-        &scaling.wide.d1,
-        scaling.wide.d2,
-        serial,
-        eta,
-        ds,
-        v,
-    )
+    crate::in_place::higher_correction(&LentScaling::of(&scaling), serial, eta, ds, v)
 }
 
 pub fn combined_ds_shift(
@@ -207,30 +73,12 @@ pub fn combined_ds_shift(
     stepz: &[f64],
     steps: &[f64],
     sigmamu: f64,
-) -> u32
-    ensures { record { answer = result; slice = shifted.new }
+) -> Result<(), Refusal>
+    ensures { record { answer = code_of result; slice = shifted.new }
         ≡ combined_ds_shift_of scaling serial shifted.old stepz.now steps.now sigmamu }
 {
     crate::in_place::combined_ds_shift(
-        scaling.cone.kind,
-        scaling.cone.dim1,
-        scaling.cone.dim2,
-        scaling.cone.rule,
-        &scaling.cone.exps,
-        scaling.scaled,
-        scaling.serial,
-        &scaling.three.z,
-        &scaling.three.grad,
-        &scaling.three.hdual,
-        &scaling.three.hs,
-        &scaling.wide.z,
-        scaling.wide.mu,
-        &scaling.wide.grad,
-        &scaling.wide.p,
-        &scaling.wide.q,
-        &scaling.wide.r,
-        &scaling.wide.d1,
-        scaling.wide.d2,
+        &LentScaling::of(&scaling),
         serial,
         shifted,
         stepz,

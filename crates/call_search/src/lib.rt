@@ -2,4 +2,5 @@
 #![tactic(auto)]
 
 pub mod plans;
+mod rows;
 pub mod single;

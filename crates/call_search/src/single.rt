@@ -19,22 +19,11 @@ pub fn backtrack_search(
     ensures { record { answer = result; slice = point.new }
         ≡ backtrack_search_of cone primal dq.now q.now point.old settings }
 {
-    let code = search_rows(cone, dq, q, point.len(), settings);
-    if code != 0 {
-        return Found {
-            code,
-            count: 0,
-            step: 0.0,
-        };
+    if let Err(refusal) = search_rows(cone, dq, q, point.len(), settings) {
+        return Found::refused(refusal);
     }
-    let searched = search::backtrack_search(
-        cone.kind, cone.dim1, &cone.exps, primal, dq, q, settings, point,
-    );
-    Found {
-        code: 0,
-        count: searched.count,
-        step: searched.step,
-    }
+    let searched = search::backtrack_search(&cone, primal, dq, q, settings, point);
+    Found::from(searched)
 }
 
 // Both searches of 000, 001 and 002: the dual side with dz and z, then the primal side with ds and s. What is wrong on one side refuses
@@ -53,7 +42,7 @@ pub fn step_length(
         ≡ step_length_of cone dz.now ds.now z.now s.now dualpoint.old
         primalpoint.old settings }
 {
-    let code = step_rows(
+    let judged = step_rows(
         cone,
         dz,
         ds,
@@ -63,28 +52,11 @@ pub fn step_length(
         primalpoint.len(),
         settings,
     );
-    if code != 0 {
-        return Steps {
-            code,
-            dualcount: 0,
-            primalcount: 0,
-            dualstep: 0.0,
-            primalstep: 0.0,
-        };
+    if let Err(refusal) = judged {
+        return Steps::refused(refusal);
     }
-    let kind = cone.kind;
-    let dim1 = cone.dim1;
-    let dual = search::backtrack_search(kind, dim1, &cone.exps, false, dz, z, settings, dualpoint);
-    let primal = search::backtrack_search(
-        kind,
-        dim1,
-        &cone.exps,
-        true,
-        ds,
-        s,
-        settings,
-        primalpoint,
-    );
+    let dual = search::backtrack_search(&cone, false, dz, z, settings, dualpoint);
+    let primal = search::backtrack_search(&cone, true, ds, s, settings, primalpoint);
     Steps {
         code: 0,
         dualcount: dual.count,

@@ -8,6 +8,10 @@ use Rattle.cone.proofs.fresh.Reads as fresh
 use Rattle.cone.proofs.attempted.Reads as attempted
 use Rattle.cone.proofs.house_settings.Reads as house_settings
 use Rattle.cone.proofs.house_strategy.Reads as house_strategy
+use Rattle.cone.proofs.Number.refused.Reads as refused_number
+use Rattle.cone.proofs.Rounds.refused.Reads as refused_rounds
+use Rattle.cone.proofs.Found.refused.Reads as refused_found
+use Rattle.cone.proofs.Steps.refused.Reads as refused_steps
 use Rattle.cone.proofs.three_of.Reads as three_of
 use Rattle.cone.proofs.wide_of.Reads as wide_of
 
@@ -37,3 +41,15 @@ three_of_agrees κs a x y s t p q = p ∙ sym q
 
 pub wide_of_agrees : OneAnswer wide_of.Post
 wide_of_agrees κs a x y s t p q = p ∙ sym q
+
+pub refused_number_agrees : OneAnswer refused_number.Post
+refused_number_agrees κs a x y s t p q = p ∙ sym q
+
+pub refused_rounds_agrees : OneAnswer refused_rounds.Post
+refused_rounds_agrees κs a x y s t p q = p ∙ sym q
+
+pub refused_found_agrees : OneAnswer refused_found.Post
+refused_found_agrees κs a x y s t p q = p ∙ sym q
+
+pub refused_steps_agrees : OneAnswer refused_steps.Post
+refused_steps_agrees κs a x y s t p q = p ∙ sym q

@@ -1,5 +1,5 @@
 -- A record that was never scaled, one in the making, and the house defaults. Definitions only.
-use Rattle.std.specs.Prelude.{Bool, ℕ, Float, replicate}
+use Rattle.std.specs.Prelude.{ℕ, Float, replicate}
 use Rattle.double.specs.Numbers.{#0, #house_step, #house_smallest}
 use Rattle.cone.specs.Codes.{primal_dual}
 use Rattle.cone.specs.declared.Cone.{Cone}
@@ -7,7 +7,6 @@ use Rattle.cone.specs.declared.Settings.{Settings}
 use Rattle.cone.specs.declared.Three.{Three}
 use Rattle.cone.specs.declared.Wide.{Wide}
 use Rattle.cone.specs.declared.Scaling.{Scaling}
-use Rattle.cone.specs.declared.Attempt.{Attempt}
 
 -- 01: "A cone is kind, dim1, dim2" and its 32 exponent places; 02, Order 9: "The cone carries its rule number". The cone with nothing in
 -- it: no kind is 0, and no rule
@@ -37,9 +36,8 @@ unfoldable pub fresh_of : Cone → Scaling
 fresh_of c = record { cone = c; scaled = 0; serial = 0; three = no_three; wide = no_wide }
 
 -- a record in the making: it keeps the cone, and it was scaled; the update that completes it gives it its serial
-abbrev pub attempt_of : Cone → Bool → Three → Wide → Attempt
-attempt_of c panics three wide =
-    record { panics = panics; scaling = record { cone = c; scaled = 1; serial = 0; three = three; wide = wide } }
+abbrev pub attempt_of : Cone → Three → Wide → Scaling
+attempt_of c three wide = record { cone = c; scaled = 1; serial = 0; three = three; wide = wide }
 
 -- 01: "House defaults: step 0.5, smallest step 0.0001, strategy primal-dual"
 abbrev pub house_settings : Float → Settings

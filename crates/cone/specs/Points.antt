@@ -12,3 +12,10 @@ three_of s = at s 0 ∷ at s 1 ∷ at s 2 ∷ []
 -- 01: "Places that a kind does not use are neither read nor judged, and those of the record's numbers are +0 after an update"
 unfoldable pub padded : ℕ → List Float → List Float
 padded m xs = xs ++ replicate (m - length xs) #0
+
+-- h of each three numbers, up to the end of the shortest list
+abbrev pub zip_three : (Float → Float → Float → Float) → List Float → List Float → List Float → List Float
+zip_three h [] ys zs = []
+zip_three h (x ∷ xs) [] zs = []
+zip_three h (x ∷ xs) (y ∷ ys) [] = []
+zip_three h (x ∷ xs) (y ∷ ys) (z ∷ zs) = h x y z ∷ zip_three h xs ys zs

@@ -1,14 +1,21 @@
 // The types that the library's calls take and answer with, as include/spindle.h lays them out. Module `table` has the numbers of refusals
-// in their order, `verdict` yes, no and undecided, `words` a cone as it lies in memory.
+// in their order, `verdict` yes, no and undecided, `words` a cone as it lies in memory, `lent` a scaling record as it lies, `places` what fills
+// arrays from slices.
 #![tactic(auto)]
 
 ghost use Rattle.std.specs.Prelude.{◌≡◌, ◌≤◌, length};
 ghost use Rattle.cone.specs.Fresh.{fresh_of, empty_cone, no_three, no_wide, attempt_of, house_settings, house_strategy};
 ghost use Rattle.cone.specs.Points.{three_of, padded};
+ghost use Rattle.cone.specs.table.Table.{number_of};
+ghost use Rattle.double.specs.Numbers.{#0};
 ghost use Rattle.double.specs.Operators.{at};
 
+use crate::table::Refusal;
 use double::nan;
+use places::filled;
 
+pub mod lent;
+pub mod places;
 pub mod table;
 pub mod verdict;
 pub mod words;
@@ -111,6 +118,55 @@ pub struct Steps {
     pub primalstep: f64,
 }
 
+// 01: "A refusal returns zeros for all numbers and no for a yes or no". What each answer is then.
+impl Number {
+    pub fn refused(refusal: Refusal) -> Number
+        ensures { result ≡ record { code = number_of refusal; value = #0 } }
+    {
+        Number {
+            code: refusal.number(),
+            value: 0.0,
+        }
+    }
+}
+
+impl Rounds {
+    pub fn refused(refusal: Refusal) -> Rounds
+        ensures { result ≡ record { code = number_of refusal; rounds = 0 } }
+    {
+        Rounds {
+            code: refusal.number(),
+            rounds: 0,
+        }
+    }
+}
+
+impl Found {
+    pub fn refused(refusal: Refusal) -> Found
+        ensures { result ≡ record { code = number_of refusal; count = 0; step = #0 } }
+    {
+        Found {
+            code: refusal.number(),
+            count: 0,
+            step: 0.0,
+        }
+    }
+}
+
+impl Steps {
+    pub fn refused(refusal: Refusal) -> Steps
+        ensures { result ≡ record { code = number_of refusal; dualcount = 0; primalcount = 0; dualstep = #0; primalstep = #0 } }
+    {
+        Steps {
+            code: refusal.number(),
+            dualcount: 0,
+            primalcount: 0,
+            dualstep: 0.0,
+            primalstep: 0.0,
+        }
+    }
+}
+
 #[repr(C)]
 #[derive(Clone, Copy)]
 pub struct DualGrad {
@@ -123,13 +179,6 @@ pub struct DualGrad {
 #[derive(Clone, Copy)]
 pub struct Updated {
     pub code: u32,
-    pub scaling: Scaling,
-}
-
-// A record in the making, and whether the Rust would panic on the way to it.
-#[derive(Clone, Copy)]
-pub struct Attempt {
-    pub panics: bool,
     pub scaling: Scaling,
 }
 
@@ -196,17 +245,16 @@ pub fn fresh(cone: Cone) -> Scaling
 }
 
 // A record that was scaled, in the making: it has no serial yet.
-pub fn attempted(cone: Cone, panics: bool, three: Three, wide: Wide) -> Attempt
-    ensures { result ≡ attempt_of cone panics three wide }
+pub fn attempted(cone: Cone, three: Three, wide: Wide) -> Scaling
+    ensures { result ≡ attempt_of cone three wide }
 {
-    let scaling = Scaling {
+    Scaling {
         cone,
         scaled: 1,
         serial: 0,
         three,
         wide,
-    };
-    Attempt { panics, scaling }
+    }
 }
 
 // The settings of callers who pass only a start.
@@ -231,7 +279,7 @@ pub fn house_strategy() -> u32
 fn place(xs: &[f64], i: usize) -> f64
     ensures { result ≡ at xs.now i }
 {
-    if i < xs.len() { xs[i] } else { nan() }
+    xs.get(i).copied().unwrap_or(nan())
 }
 
 // A lent slice as a point of kind 1 or 2.
@@ -249,9 +297,5 @@ pub fn wide_of(xs: &[f64]) -> [f64; 64]
     requires { length xs.now ≤ 64 }
     ensures { result ≡ padded 64 xs.now }
 {
-    let mut a = [0.0; 64];
-    for i in 0..xs.len() {
-        a[i] = xs[i];
-    }
-    a
+    filled(xs, |x| x)
 }

@@ -1,6 +1,41 @@
 // The table of document 01: the number with which a call is refused. The judges say what is wrong; here stands which of it is given.
 ghost use Rattle.std.specs.Prelude.{◌≡◌};
-ghost use Rattle.cone.specs.table.Table.{no_faults, first_row, trace_row};
+ghost use Rattle.cone.specs.table.Table.{number_of, code_of, no_faults, first_row, trace_row};
+
+// Why a call is refused: a row of the table each, with its number.
+#[derive(Clone, Copy, Debug, PartialEq, Eq)]
+pub enum Refusal {
+    BadCone = 1,
+    WrongLength = 2,
+    NotFinite = 3,
+    BadSettings = 4,
+    NeverScaled = 5,
+    WouldPanic = 6,
+    AnswerNotFinite = 7,
+    NoRoom = 8,
+    BrokenTrace = 9,
+    OtherSerial = 10,
+    LastSerial = 11,
+}
+
+impl Refusal {
+    // The number that C is told.
+    pub fn number(self) -> u32
+        ensures { result ≡ number_of self }
+    {
+        self as u32
+    }
+}
+
+// What C is told of a call that is refused or done: 0 is "done".
+pub fn code(done: Result<(), Refusal>) -> u32
+    ensures { result ≡ code_of done }
+{
+    match done {
+        Ok(()) => 0,
+        Err(refusal) => refusal.number(),
+    }
+}
 
 // What is wrong with a call's arguments, a row of the table each: the cone, a slice's length, a number, the settings or the strategy, a
 // record that has no further serial, one that was never scaled, one of another serial than the caller's.
@@ -30,43 +65,43 @@ pub fn no_faults() -> Faults
     }
 }
 
-// The table: the number of the first row that applies, and 0 where none does.
-pub fn first_row(faults: Faults) -> u32
-    ensures { result ≡ first_row faults }
+// The table: the first row that applies refuses the call.
+pub fn first_row(faults: Faults) -> Result<(), Refusal>
+    ensures { code_of result ≡ first_row faults }
 {
     if faults.cone {
-        return 1;
+        return Err(Refusal::BadCone);
     }
     if faults.length {
-        return 2;
+        return Err(Refusal::WrongLength);
     }
     if faults.number {
-        return 3;
+        return Err(Refusal::NotFinite);
     }
     if faults.setting {
-        return 4;
+        return Err(Refusal::BadSettings);
     }
     if faults.spent {
-        return 11;
+        return Err(Refusal::LastSerial);
     }
     if faults.unscaled {
-        return 5;
+        return Err(Refusal::NeverScaled);
     }
     if faults.serial {
-        return 10;
+        return Err(Refusal::OtherSerial);
     }
-    0
+    Ok(())
 }
 
 // The table for a call on a trace, which these two rows alone can refuse: what breaks the layout, and then what has no room.
-pub fn trace_row(broken: bool, full: bool) -> u32
-    ensures { result ≡ trace_row broken full }
+pub fn trace_row(broken: bool, full: bool) -> Result<(), Refusal>
+    ensures { code_of result ≡ trace_row broken full }
 {
     if broken {
-        return 9;
+        return Err(Refusal::BrokenTrace);
     }
     if full {
-        return 8;
+        return Err(Refusal::NoRoom);
     }
-    0
+    Ok(())
 }

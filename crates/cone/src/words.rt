@@ -24,9 +24,10 @@ pub fn places(w: [u64; 34], n: usize) -> [f64; 32]
     requires { n ≤ 32 }
     ensures { result ≡ places_of w n }
 {
+    // a loop, as the words are numbers of 64 bits, and `places` of this crate fills from doubles alone
     let mut exps = [0.0; 32];
-    for i in 0..n {
-        exps[i] = of_bits(w[i + 2]);
+    for (i, word) in w[2..n + 2].iter().enumerate() {
+        exps[i] = of_bits(*word);
     }
     exps
 }

@@ -1,18 +1,18 @@
--- When a double is finite, by comparisons. Assumes nothing.
+-- When a double is finite, in std's word and by comparisons. Assumes nothing.
 use mathlib.Core.Path.{◌≡◌, refl, sym, subst, ◌∙◌}
-use mathlib.Core.Bool.{true, false, ◌&&◌}
+use mathlib.Core.Bool.{true, false}
 use lib.Dec.{T}
 use lib.Ieee.{Float, nan, inf, fin, lt, ne}
 use lib.Ieee.Compare.{nan_differs}
 use lib.Ieee.Scale.{finite}
+use Rattle.std.specs.Float.{float_is_finite}
 
--- above minus infinity and below infinity
-pub between_infinities : (x : Float) → (lt (inf true) x && lt x (inf false)) ≡ finite x
-unfolding lt
-between_infinities nan = refl
-between_infinities (inf true) = refl
-between_infinities (inf false) = refl
-between_infinities (fin s m e) = refl
+-- std's word for it
+pub finite_as_std : (x : Float) → float_is_finite x ≡ finite x
+unfolding float_is_finite
+finite_as_std nan = refl
+finite_as_std (inf s) = refl
+finite_as_std (fin s m e) = refl
 
 -- not NaN, not above a finite number and not below one
 pub finite_between : (x lo hi : Float) → T (finite lo) → T (finite hi) → ne x x ≡ false → lt hi x ≡ false → lt x lo ≡ false → T (finite x)

@@ -1,5 +1,5 @@
 -- NaN and the test `x != x`, which only NaN passes. Assumes nothing.
-use mathlib.Core.Path.{◌≡◌, refl, sym, subst, ◌∙◌}
+use mathlib.Core.Path.{◌≡◌, refl, sym, ap, subst, ◌∙◌}
 use mathlib.Core.Bool.{Bool, true, false, not}
 use Prim.Native.Nat.{ℕ}
 use lib.Dec.{T}
@@ -25,3 +25,17 @@ unfolding is_nan
 no_nan_of_value nan s a c h = absurd h
 no_nan_of_value (inf r) s a c h = refl
 no_nan_of_value (fin r m e) s a c h = refl
+
+pub is_nan-only : (x : Float) → is_nan x ≡ true → x ≡ nan
+unfolding is_nan
+is_nan-only nan h = refl
+is_nan-only (inf s) h = cc
+is_nan-only (fin s m e) h = cc
+
+pub differs-is : (x : Float) → ne x x ≡ is_nan x
+unfolding is_nan
+differs-is x = go (ne x x) refl
+  where
+    go : (b : Bool) → ne x x ≡ b → ne x x ≡ is_nan x
+    go true e = e ∙ sym (ap is_nan (nan_of x e))
+    go false e = e ∙ sym (no_nan_of x e)

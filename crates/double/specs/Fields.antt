@@ -1,7 +1,7 @@
 -- The three fields of a double's bit pattern, and the number that they stand for, in units of the smallest double, 2^-1074. Definitions
 -- only. In these units every finite double is a whole number, a subnormal too, so that statements about doubles become statements about
 -- whole numbers.
-use Rattle.std.specs.Prelude.{ℕ, zero, suc, ◌+◌, ◌-◌, ◌*◌, ◌/◌, ◌%◌, ◌^◌, Bool, false, leb, Float}
+use Rattle.std.specs.Prelude.{ℕ, zero, suc, ◌+◌, ◌-◌, ◌*◌, ◌/◌, ◌%◌, ◌^◌, ◌≤◌, ◌<◌, Bool, false, leb, Float}
 use Rattle.std.specs.Int.Count.{count_leading_zeros}
 use Rattle.std.specs.Float.Ieee.Exact.{HasValue}
 use Rattle.double.specs.declared.Normal.{Normal}
@@ -43,3 +43,7 @@ unfoldable pub normal_of : ℕ → ℕ → Normal
 unfolding shift
 normal_of zero t = record { m = t * 2 ^ shift t; k = 52 - shift t }
 normal_of (suc j) t = record { m = 2 ^ 52 + t; k = suc j + 51 }
+
+-- n has 53 digits, and its exponent is one of a finite double's
+abbrev pub InNormalForm : Normal → Type 0
+InNormalForm n = (2 ^ 52 ≤ n.m) × (n.m < 2 ^ 53) × (n.k < 2098)

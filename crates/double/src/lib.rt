@@ -22,25 +22,20 @@ pub fn nan() -> f64
     0.0 / 0.0
 }
 
-// Neither NaN nor an infinity. A NaN fails both tests.
+// Neither NaN nor an infinity.
+#[tactic(auto, using(crate::proofs::Finite::finite_as_std))]
 pub fn is_finite(x: f64) -> bool
     ensures { result ≡ finite x }
 {
-    let inf = 1.0 / 0.0;
-    (-inf < x) & (x < inf)
+    x.is_finite()
 }
 
-// Rust's abs. -0 is not below 0, so it is asked for by itself; NaN passes no test and is answered as it is.
+// Rust's abs: of -0 it is 0, and NaN is answered as it is.
+#[tactic(auto, using(crate::proofs::Sizes::without_sign))]
 pub fn abs(x: f64) -> f64
     ensures { result ≡ abs_of x }
 {
-    if x < 0.0 {
-        return -x;
-    }
-    if x == 0.0 {
-        return 0.0;
-    }
-    x
+    x.abs()
 }
 
 // The double of a bit pattern, each pattern of a NaN included: those are the patterns above an infinity's, the sign left out.
@@ -57,13 +52,14 @@ pub fn of_bits(b: u64) -> f64
 pub fn to_bits(x: f64) -> u64
     ensures { result ≡ to_bits binary64 x }
 {
-    if x != x {
+    if x.is_nan() {
         return 0x7ff8_0000_0000_0000;
     }
     f64::to_bits(x)
 }
 
-// A positive number m * 2^(k - 1126), with m from 2^52 up to 2^53.
+// A positive number m * 2^(k - 1126), with m from 2^52 up to 2^53. That it is so, `InNormalForm`, is no ghost field: `normal_of` of specs/
+// is a Normal at any field and digits.
 #[derive(Clone, Copy)]
 pub struct Normal {
     pub m: u64,

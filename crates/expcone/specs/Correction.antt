@@ -1,5 +1,5 @@
 -- The third-order correction and the combined shift of the exponential cone, as 000 computes them. Definitions only.
-use Rattle.std.specs.Prelude.{cond, List, [], ◌∷◌, Float}
+use Rattle.std.specs.Prelude.{List, [], ◌∷◌, option_map, unwrap_or, Float}
 use Rattle.std.specs.Float.Ieee.{neg}
 use Rattle.double.specs.Operators.{◌⊕◌, ◌⊖◌, ◌⊗◌, ◌⊘◌, at}
 use Rattle.double.specs.Numbers.{#0, #½, #1, #2}
@@ -7,12 +7,11 @@ use Rattle.kernels.specs.Door.{log_of}
 use Rattle.algebra.specs.Vectors.{dot_of, shift_of}
 use Rattle.algebra.specs.Cholesky.{factor_of, solve_of}
 
--- 000 higher_correction at z, with h the dual Hessian there. 01: "a pivot not above 0 fails and makes the correction zero". The Rust keeps
+-- 000 higher_correction at z, with l the factor of the dual Hessian h there. 01: "a pivot not above 0 fails and makes the correction zero". The Rust keeps
 -- the gradient of ψ in η, here gψ, and writes the correction over it
-unfoldable pub higher_correction_of : List Float → List Float → List Float → List Float → List Float
-higher_correction_of h z ds v =
-    let chol_h = factor_of h in
-    let u = solve_of chol_h.l ds in
+abbrev pub correction_by : List Float → List Float → List Float → List Float → List Float
+correction_by z ds v l =
+    let u = solve_of l ds in
     let z0 = at z 0 in
     let z1 = at z 1 in
     let z2 = at z 2 in
@@ -40,7 +39,10 @@ higher_correction_of h z ds v =
     ⊕ (#2 ⊗ (z0 ⊘ ψ ⊖ #1) ⊗ u2 ⊗ v2 ⊘ (z2 ⊗ z2 ⊗ z2) ⊖ (u2 ⊗ v0 ⊕ u0 ⊗ v2) ⊘ (z2 ⊗ z2) ⊘ ψ
     ⊕ dotψu ⊗ inv-ψ2 ⊗ (z0 ⊗ v2 ⊘ (z2 ⊗ z2) ⊖ v0 ⊘ z2)
     ⊕ dotψv ⊗ inv-ψ2 ⊗ (z0 ⊗ u2 ⊘ (z2 ⊗ z2) ⊖ u0 ⊘ z2)) in
-    cond chol_h.ok (η0 ⊗ #½ ∷ η1 ⊗ #½ ∷ η2 ⊗ #½ ∷ []) (#0 ∷ #0 ∷ #0 ∷ [])
+    η0 ⊗ #½ ∷ η1 ⊗ #½ ∷ η2 ⊗ #½ ∷ []
+
+unfoldable pub higher_correction_of : List Float → List Float → List Float → List Float → List Float
+higher_correction_of h z ds v = unwrap_or (option_map (correction_by z ds v) (factor_of h)) (#0 ∷ #0 ∷ #0 ∷ [])
 
 -- 000 combined_ds_shift
 unfoldable pub combined_ds_shift_of : List Float → List Float → List Float → List Float → List Float → Float → List Float

@@ -18,20 +18,6 @@ use kernels::log;
 pub mod feasible;
 pub mod wright;
 
-// A primal barrier, and whether the Rust would panic on the way to it; then the value is 0.
-#[derive(Clone, Copy)]
-pub struct Barrier {
-    pub panics: bool,
-    pub value: f64,
-}
-
-// A primal gradient, and whether the Rust would panic on the way to it; then it is 0.
-#[derive(Clone, Copy)]
-pub struct ExponentialGradient {
-    pub panics: bool,
-    pub g: [f64; 3],
-}
-
 // The start of both s and z.
 pub fn unit_initialization() -> [f64; 3]
     ensures { result ≡ unit_initialization_of }
@@ -58,21 +44,22 @@ pub fn combined_ds_shift(
     shift3(grad, sigmamu, eta)
 }
 
-pub fn compute_barrier(z: [f64; 3], s: [f64; 3], dz: [f64; 3], ds: [f64; 3], alpha: f64) -> Barrier
+// None where the Rust panics, as of barrier_primal and gradient_primal.
+pub fn compute_barrier(
+    z: [f64; 3],
+    s: [f64; 3],
+    dz: [f64; 3],
+    ds: [f64; 3],
+    alpha: f64,
+) -> Option<f64>
     ensures { result ≡ compute_barrier_of z s dz ds alpha }
 {
     let cur_z = moved3(z, alpha, dz);
     let cur_s = moved3(s, alpha, ds);
 
     let dual = barrier_dual(cur_z);
-    let primal = barrier_primal(cur_s);
-    if primal.panics {
-        return primal;
-    }
-    Barrier {
-        panics: false,
-        value: 0.0 + dual + primal.value,
-    }
+    let primal = barrier_primal(cur_s)?;
+    Some(0.0 + dual + primal)
 }
 
 // Primal barrier:
@@ -80,26 +67,16 @@ pub fn compute_barrier(z: [f64; 3], s: [f64; 3], dz: [f64; 3], ds: [f64; 3], alp
 //      = -2*log(s2) - log(s3) - log((1-barω)^2/barω) - 3,
 // where barω = ω(1 - s1/s2 - log(s2) - log(s3))
 // NB: ⟨s,g(s)⟩ = -3 = - ν
-pub fn barrier_primal(s: [f64; 3]) -> Barrier
+pub fn barrier_primal(s: [f64; 3]) -> Option<f64>
     ensures { result ≡ barrier_primal_of s }
 {
     let s1 = s[1];
     let s2 = s[2];
-    let o = omega_at(s);
-    if o.panics {
-        return Barrier {
-            panics: true,
-            value: 0.0,
-        };
-    }
-    let w = o.w;
+    let w = omega_at(s)?;
 
     let w = (w - 1.0) * (w - 1.0) / w;
 
-    Barrier {
-        panics: false,
-        value: -log(w) - log(s1) * 2.0 - log(s2) - 3.0,
-    }
+    Some(-log(w) - log(s1) * 2.0 - log(s2) - 3.0)
 }
 
 // Dual barrier:
@@ -137,11 +114,9 @@ pub fn higher_correction(h: [f64; 6], z: [f64; 3], ds: [f64; 3], v: [f64; 3]) ->
     ensures { result ≡ higher_correction_of h z ds v }
 {
     // solve H*u = ds
-    let chol = cholesky_3x3_explicit_factor(h);
-    if !chol.ok {
+    let Some(l) = cholesky_3x3_explicit_factor(h) else {
         return [0.0; 3];
-    }
-    let l = chol.l;
+    };
     let u = cholesky_3x3_explicit_solve(l, ds);
 
     let z0 = z[0];
@@ -212,25 +187,15 @@ pub fn update_dual_grad_h(z: [f64; 3]) -> GradH
 }
 
 // Compute the primal gradient of f(s) at s
-pub fn gradient_primal(s: [f64; 3]) -> ExponentialGradient
+pub fn gradient_primal(s: [f64; 3]) -> Option<[f64; 3]>
     ensures { result ≡ gradient_primal_of s }
 {
     let s1 = s[1];
     let s2 = s[2];
-    let o = omega_at(s);
-    if o.panics {
-        return ExponentialGradient {
-            panics: true,
-            g: [0.0; 3],
-        };
-    }
-    let w = o.w;
+    let w = omega_at(s)?;
 
     let g0 = 1.0 / ((w - 1.0) * s1);
     let g1 = g0 + g0 * log(w * s1 / s2) - 1.0 / s1;
     let g2 = w / ((1.0 - w) * s2);
-    ExponentialGradient {
-        panics: false,
-        g: [g0, g1, g2],
-    }
+    Some([g0, g1, g2])
 }

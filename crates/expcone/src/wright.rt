@@ -14,13 +14,6 @@ use kernels::log;
 
 const PI: f64 = 3.141592653589793;
 
-// A value of ω, and whether the Rust would panic: the argument is below 0. Then the value is 0.
-#[derive(Clone, Copy)]
-pub struct Omega {
-    pub panics: bool,
-    pub w: f64,
-}
-
 // An approximation w and its residual r.
 #[derive(Clone, Copy)]
 pub struct Approx {
@@ -106,30 +99,25 @@ fn refined(z: f64, w: f64) -> f64
     };
 
     // Santiago suggests two refinement iterations only
-    for i in 0..2usize {
+    for _ in 0..2u32 {
         a = refine(a);
     }
 
     a.w
 }
 
-fn wright_omega(z: f64) -> Omega
+// None where the Rust panics: the argument is below 0.
+fn wright_omega(z: f64) -> Option<f64>
     ensures { result ≡ omega_of z }
 {
     if z < 0.0 {
-        return Omega {
-            panics: true,
-            w: 0.0,
-        };
+        return None;
     }
-    Omega {
-        panics: false,
-        w: refined(z, start(z)),
-    }
+    Some(refined(z, start(z)))
 }
 
 // The omega of 000 barrier_primal and gradient_primal at the point s.
-pub(crate) fn omega_at(s: [f64; 3]) -> Omega
+pub(crate) fn omega_at(s: [f64; 3]) -> Option<f64>
     ensures { result ≡ omega_at s }
 {
     wright_omega(1.0 - s[0] / s[1] - log(s[1] / s[2]))

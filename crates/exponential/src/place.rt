@@ -25,10 +25,7 @@ pub struct Point {
 fn shifted(m: u64, n: u64) -> u64
     ensures { result ≡ m / 2 ^ n }
 {
-    if n < 64 {
-        return m >> n;
-    }
-    0
+    if n < 64 { m >> n } else { 0 }
 }
 
 // Where the number with these fields is raised to, rounded down: a negative one away from 0. From ½ on it is a whole number of units.

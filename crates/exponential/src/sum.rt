@@ -42,9 +42,7 @@ fn sum(r: u64) -> u64
     ensures { result ≡ horner r 39 }
 {
     let mut v = 0u64;
-    let mut i = 21usize;
-    while 0 < i {
-        i -= 1;
+    for i in (0..21).rev() {
         v = coefficient(i) + high(r, v);
     }
     v

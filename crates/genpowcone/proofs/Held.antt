@@ -1,6 +1,7 @@
 -- The places of the dual gradient and Hessian that no number stands in: each array is a list with +0 behind it, and the list is no longer than
 -- the places in use. Assumes nothing.
-use Rattle.std.proofs.Common.{◌≡◌, ℕ, ◌+◌, ◌<◌, ◌≤◌, Bool, true, false, cond, List, length, drop, arith, length-append, length-drop, length-take}
+use Rattle.std.proofs.Common.{◌≡◌, ℕ, ◌+◌, ◌<◌, ◌≤◌, Bool, true, false, cond, Some, None, List, length, drop, subst, arith, length-append, length-drop, length-take}
+use Rattle.std.proofs.lemmas.Option.{none-some, same_Some}
 use lib.ListN.{length-map, get_or-replicate}
 use lib.Ieee.{Float, nan}
 use Rattle.double.specs.Operators.{◌⊖◌, ◌≺◌, at}
@@ -8,12 +9,11 @@ use Rattle.double.specs.Numbers.{#0}
 use Rattle.algebra.specs.Vectors.{sumsq_of}
 use Rattle.cone.specs.Fresh.{no_wide}
 use Rattle.cone.proofs.Points.{padded_behind}
+use Rattle.cone.proofs.Written.{zip_length}
 use Rattle.cone.specs.declared.Wide.{Wide}
 use Rattle.genpowcone.specs.loops.Folds.{dual_phi}
-use Rattle.genpowcone.proofs.loops.Arrays.{zip_length}
 use Rattle.genpowcone.specs.Rank3.{rank3_at}
 use Rattle.genpowcone.specs.DualGradient.{update_dual_grad_h_of}
-use Rattle.genpowcone.specs.declared.WideGradH.{WideGradH}
 
 -- dim1 + dim2 places of the gradient and p are in use, dim1 of q and d1, dim2 of r
 pub record UnusedZero (α z : List Float) (w : Wide) : Type 0 where
@@ -41,9 +41,10 @@ module _ (α z : List Float) (n : length α ≤ length z) where
         d1_unused = λ k h l. padded_behind 32 _ k (simp zip_length (omega arith)) l;
       }
 
-  none : UnusedZero α z no_wide
+  -- what a refused call keeps in its place
+  pub none-unused : UnusedZero α z no_wide
   unfolding no_wide
-  none =
+  none-unused =
       record {
         grad_unused = λ k h l. get_or-replicate 64 k #0 nan l;
         p_unused = λ k h l. get_or-replicate 64 k #0 nan l;
@@ -52,16 +53,13 @@ module _ (α z : List Float) (n : length α ≤ length z) where
         d1_unused = λ k h l. get_or-replicate 32 k #0 nan l;
       }
 
-  pub unused-zero : UnusedZero α z (update_dual_grad_h_of α z).wide
+  pub unused-zero : (v : Wide) → update_dual_grad_h_of α z ≡ Some v → UnusedZero α z v
   unfolding update_dual_grad_h_of
   unused-zero = go (#0 ≺ (dual_phi α z ⊖ sumsq_of w))
     where
-      made : WideGradH
-      made = record { panics = false; wide = rank3_at α z (dual_phi α z) (sumsq_of w) }
+      made : Wide
+      made = rank3_at α z (dual_phi α z) (sumsq_of w)
 
-      refused : WideGradH
-      refused = record { panics = true; wide = no_wide }
-
-      go : (b : Bool) → UnusedZero α z (cond b made refused).wide
-      go true = computed (dual_phi α z) (sumsq_of w)
-      go false = none
+      go : (b : Bool) (v : Wide) → cond b (Some made) None ≡ Some v → UnusedZero α z v
+      go true v e = subst (UnusedZero α z) (same_Some _ _ e) (computed (dual_phi α z) (sumsq_of w))
+      go false v e = absurd (none-some v e)

@@ -11,7 +11,7 @@ ghost use Rattle.std.specs.Prelude.{◌≡◌, ◌+◌, ◌≤◌, ◌++◌, len
 ghost use Rattle.algebra.specs.newton.Equations.{gen_f0_at, gen_f1};
 ghost use Rattle.algebra.specs.newton.Rounds.{newton_of};
 ghost use Rattle.cone.specs.Points.{padded};
-ghost use Rattle.genpowcone.specs.Feasible.{residue_at, primal_residue, dual_residue, primal_feasible, dual_feasible};
+ghost use Rattle.genpowcone.specs.Feasible.{primal_residue, dual_residue, primal_feasible, dual_feasible};
 ghost use Rattle.genpowcone.specs.PrimalGradient.{unit_initialization_of, x0_of, gradient_primal_of};
 ghost use Rattle.genpowcone.specs.Barriers.{barrier_dual_of, barrier_primal_of, compute_barrier_of};
 ghost use Rattle.genpowcone.specs.DualGradient.{update_dual_grad_h_of};
@@ -26,35 +26,20 @@ use crate::loops::places::{
     product_head, product_tail, ratios, scale32, set_tail, tau_and_grad, times_from, times32,
     unit_head,
 };
-use algebra::newton::{Equation, Solved, newton_raphson_onesided};
-use algebra::vector::{dot, head, norm, shorter, sumsq, tail};
-use cone::verdict::{Answer, power_margin, told};
-use cone::{Wide, no_wide};
+use algebra::newton::{Equation, Generalized, Solved, newton_raphson_onesided};
+use algebra::vector::{dot, head, norm, sumsq, tail};
+use cone::Wide;
+use cone::verdict::{Answer, Residue};
 use double::EPSILON;
 use kernels::{exp, log, sqrt};
 
 pub mod loops;
-
-// What a cone test compares, with the two numbers that it is the difference of: res = power - square.
-#[derive(Clone, Copy)]
-pub struct WideResidue {
-    pub res: f64,
-    pub power: f64,
-    pub square: f64,
-}
 
 // The primal gradient, and how many Newton rounds it took; 0 where Newton was not entered.
 #[derive(Clone, Copy)]
 pub struct WideGradient {
     pub g: [f64; 64],
     pub rounds: u32,
-}
-
-// What update_dual_grad_h computes. Where the Rust panics, since ζ is not above 0, all its numbers are +0.
-#[derive(Clone, Copy)]
-pub struct WideGradH {
-    pub panics: bool,
-    pub wide: Wide,
 }
 
 // p0, p1, q0 and r1 of update_dual_grad_h.
@@ -123,42 +108,32 @@ pub fn compute_barrier(
         dz.now ds.now step }
 {
     let cur_s = moved(s, step, ds);
-    let ns = shorter(s.len(), ds.len());
+    let ns = s.len().min(ds.len());
     let primal = barrier_primal(alpha, head(&cur_s, ns));
 
     let cur_z = moved(z, step, dz);
-    let nz = shorter(z.len(), dz.len());
+    let nz = z.len().min(dz.len());
     let dual = barrier_dual(alpha, head(&cur_z, nz));
 
     0.0 + primal + dual
 }
 
-fn residue_at(power: f64, square: f64) -> WideResidue
-    ensures { result ≡ residue_at power square }
-{
-    WideResidue {
-        res: power - square,
-        power,
-        square,
-    }
-}
-
 // `res` of is_primal_feasible.
-pub(crate) fn primal_residue(alpha: &[f64], s: &[f64]) -> WideResidue
+pub(crate) fn primal_residue(alpha: &[f64], s: &[f64]) -> Residue
     ensures { result ≡ primal_residue alpha.now s.now }
 {
     let power = exp(primal_log_sum(alpha, s));
     let square = sumsq(tail(s, alpha.len()));
-    residue_at(power, square)
+    Residue::of(power, square)
 }
 
 // `res` of is_dual_feasible, and what barrier_dual begins with.
-pub(crate) fn dual_residue(alpha: &[f64], z: &[f64]) -> WideResidue
+pub(crate) fn dual_residue(alpha: &[f64], z: &[f64]) -> Residue
     ensures { result ≡ dual_residue alpha.now z.now }
 {
     let power = exp(dual_log_sum(alpha, z));
     let square = sumsq(tail(z, alpha.len()));
-    residue_at(power, square)
+    Residue::of(power, square)
 }
 
 // Whether s is primal feasible: where the Rust compares res with 0, Order 5 compares it with a margin
@@ -166,8 +141,7 @@ pub fn is_primal_feasible(alpha: &[f64], s: &[f64]) -> Answer
     ensures { result ≡ primal_feasible alpha.now s.now }
 {
     if all_above_zero(head(s, alpha.len())) {
-        let primal = primal_residue(alpha, s);
-        return told(primal.res, power_margin(primal.power, primal.square));
+        return primal_residue(alpha, s).answer();
     }
     Answer::No
 }
@@ -177,8 +151,7 @@ pub fn is_dual_feasible(alpha: &[f64], z: &[f64]) -> Answer
     ensures { result ≡ dual_feasible alpha.now z.now }
 {
     if all_above_zero(head(z, alpha.len())) {
-        let dual = dual_residue(alpha, z);
-        return told(dual.res, power_margin(dual.power, dual.square));
+        return dual_residue(alpha, z).answer();
     }
     Answer::No
 }
@@ -205,7 +178,8 @@ pub fn barrier_dual(alpha: &[f64], z: &[f64]) -> f64
     less_logs(-log(r.res), alpha, z)
 }
 
-pub fn update_dual_grad_h(alpha: &[f64], z: &[f64]) -> WideGradH
+// None where the Rust panics, since ζ is not above 0.
+pub fn update_dual_grad_h(alpha: &[f64], z: &[f64]) -> Option<Wide>
     requires { (length alpha.now ≤ 32) × (length z.now ≤ length alpha.now + 32) }
     ensures { result ≡ update_dual_grad_h_of alpha.now z.now }
 {
@@ -215,14 +189,9 @@ pub fn update_dual_grad_h(alpha: &[f64], z: &[f64]) -> WideGradH
     let zeta = phi - norm2w;
     // the Rust asserts this; a NaN is not above 0
     if zeta > 0.0 {
-        let wide = rank3(alpha, z, phi, norm2w);
-        WideGradH {
-            panics: false,
-            wide,
-        }
+        Some(rank3(alpha, z, phi, norm2w))
     } else {
-        let wide = no_wide();
-        WideGradH { panics: true, wide }
+        None
     }
 }
 
@@ -343,11 +312,11 @@ fn newton_raphson_genpowcone(normr: f64, logs: &[f64], phi: f64, alpha: &[f64], 
             / (phi - normr * normr);
 
     let ratios_of_alpha = ratios(alpha);
-    newton_raphson_onesided(
-        x0,
-        Equation::Generalized(normr),
+    let g = Generalized {
+        normr,
         alpha,
-        head(&ratios_of_alpha, alpha.len()),
+        ratios: head(&ratios_of_alpha, alpha.len()),
         logs,
-    )
+    };
+    newton_raphson_onesided(x0, Equation::Generalized(g))
 }

@@ -1,5 +1,5 @@
 -- The tests of the table's rows, and what a refused call leaves. Definitions only.
-use Rattle.std.specs.Prelude.{ℕ, Bool, cond, not, ◌&&◌, ◌||◌, List, eqb, Float, length}
+use Rattle.std.specs.Prelude.{ℕ, Bool, Option, Some, None, cond, not, ◌&&◌, ◌||◌, List, eqb, Float, length}
 use Rattle.std.specs.Float.Ieee.Scale.{finite}
 use Rattle.double.specs.Numbers.{#0}
 use Rattle.cone.specs.Codes.{is_wide}
@@ -9,7 +9,7 @@ use Rattle.cone.specs.declared.Scaling.{Scaling}
 use Rattle.cone.specs.declared.Number.{Number}
 use Rattle.cone.specs.declared.Rounds.{Rounds}
 use Rattle.cone.specs.declared.Updated.{Updated}
-use Rattle.cone.specs.declared.Attempt.{Attempt}
+use Rattle.cone.specs.table.Table.{settle}
 use Rattle.judges.specs.Judges.{cone_ok, all_finite, record_finite, settings_ok, strategy_ok}
 
 -- ---- the rows' tests
@@ -86,8 +86,14 @@ refuse_update r k = record { code = k; scaling = r }
 -- ---- 7: "the finished answer holds a NaN or an infinity"
 
 -- 01: "In an update, 7 looks at all new record numbers"
-unfoldable pub last_rows : Attempt → ℕ
-last_rows a = cond a.panics 6 (cond (record_finite a.scaling) 0 7)
+unfoldable pub last_rows : Option Scaling → ℕ
+last_rows None = 6
+last_rows (Some new) = cond (record_finite new) 0 7
+
+-- a new record that rows 6 and 7 let through, or their refusal
+unfoldable pub settle_record : {A : Type 0} → Option Scaling → (Scaling → A) → (ℕ → A) → A
+settle_record None finish refuse = refuse 6
+settle_record (Some new) finish refuse = settle (last_rows (Some new)) (finish new) refuse
 
 unfoldable pub publish_of : List Float → List Float → Lent ℕ
 publish_of old ans = cond (all_finite ans) (record { answer = 0; slice = ans }) (refuse old 7)
@@ -99,8 +105,9 @@ unfoldable pub number_of : Float → Number
 number_of value = cond (finite value) (record { code = 0; value = value }) (refuse_number 7)
 
 -- a number that the Rust may panic before
-unfoldable pub judged_of : Bool → Float → Number
-judged_of panics value = cond panics (refuse_number 6) (number_of value)
+unfoldable pub judged_of : Option Float → Number
+judged_of None = refuse_number 6
+judged_of (Some value) = number_of value
 
 -- 01: "the round count (1 to 100) is handed back by it and by every primal gradient"; a refusal "returns zeros for all numbers"
 unfoldable pub counted_of : ℕ → ℕ → Rounds

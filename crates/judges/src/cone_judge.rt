@@ -27,11 +27,7 @@ fn exponent_ok(a: f64) -> bool
 fn all_exponents(xs: &[f64]) -> bool
     ensures { result ≡ all_of exponent_ok xs.now }
 {
-    let mut all = true;
-    for i in 0..xs.len() {
-        all = all & exponent_ok(xs[i]);
-    }
-    all
+    xs.iter().fold(true, |all, x| all & exponent_ok(*x))
 }
 
 pub fn rule_ok(rule: u32) -> bool

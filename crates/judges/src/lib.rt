@@ -5,12 +5,14 @@
 ghost use Rattle.std.specs.Prelude.{◌≡◌, take};
 ghost use Rattle.std.specs.Float.Ieee.Scale.{finite};
 ghost use Rattle.cone.specs.Codes.{is_wide, numel_of};
+ghost use Rattle.cone.specs.Lent.{wide_at, scaling_at};
 ghost use Rattle.cone.specs.words.Words.{cone_of_words};
 ghost use Rattle.judges.specs.Judges.{all_of, settings_ok, settings_finite, strategy_ok};
 ghost use Rattle.judges.specs.Judges.{sides_finite, three_finite, wide_finite, record_finite};
 
 pub use crate::cone_judge::{cone_ok, rule_ok, three_ok, tolerance_of, wide_ok};
 use algebra::vector::head;
+use cone::lent::{LentScaling, LentWide};
 use cone::words::{high_half, low_half};
 use cone::{Cone, DUAL, PRIMAL_DUAL, Scaling, Settings, Three};
 use double::is_finite;
@@ -22,11 +24,8 @@ pub mod refusal;
 pub fn all_finite(xs: &[f64]) -> bool
     ensures { result ≡ all_of finite xs.now }
 {
-    let mut all = true;
-    for i in 0..xs.len() {
-        all = all & is_finite(xs[i]);
-    }
-    all
+    // to the end, whatever it finds: with no early exit there is no branch
+    xs.iter().fold(true, |all, x| all & is_finite(*x))
 }
 
 // The same of the points and directions of both sides.
@@ -100,30 +99,20 @@ pub fn three_finite(t: Three) -> bool
     all_finite(&t.z) & all_finite(&t.grad) & all_finite(&t.hdual) & all_finite(&t.hs)
 }
 
-// The numbers are lent one by one, so that no record is copied to be judged.
-pub fn wide_finite<'a>(
-    z: &'a [f64; 64],
-    mu: f64,
-    grad: &'a [f64; 64],
-    p: &'a [f64; 64],
-    q: &'a [f64; 32],
-    r: &'a [f64; 32],
-    d1: &'a [f64; 32],
-    d2: f64,
-    dim1: u32,
-    dim2: u32,
-) -> bool
-    ensures { result ≡ wide_finite (record {
-      z = z.now;
-      mu = mu;
-      grad = grad.now;
-      p = p.now;
-      q = q.now;
-      r = r.now;
-      d1 = d1.now;
-      d2 = d2;
-    }) dim1 dim2 }
+// Lent, so that no record is copied to be judged.
+pub fn wide_finite(w: &LentWide<'_>, dim1: u32, dim2: u32) -> bool
+    ensures { result ≡ wide_finite (wide_at w.now) dim1 dim2 }
 {
+    let LentWide {
+        z,
+        mu,
+        grad,
+        p,
+        q,
+        r,
+        d1,
+        d2,
+    } = *w;
     let n1 = dim1 as usize;
     let n2 = dim2 as usize;
     head_finite(z, n1 + n2)
@@ -136,23 +125,18 @@ pub fn wide_finite<'a>(
         & is_finite(d2)
 }
 
+// The record's numbers that the kind uses.
+pub fn lent_finite(lent: &LentScaling<'_>) -> bool
+    ensures { result ≡ record_finite (scaling_at lent.now) }
+{
+    if is_wide(lent.cone.kind) {
+        return wide_finite(&lent.wide, lent.cone.dim1, lent.cone.dim2);
+    }
+    three_finite(lent.three.copied())
+}
+
 pub fn record_finite(scaling: Scaling) -> bool
     ensures { result ≡ record_finite scaling }
 {
-    let kind = scaling.cone.kind;
-    if is_wide(kind) {
-        return wide_finite(
-            &scaling.wide.z,
-            scaling.wide.mu,
-            &scaling.wide.grad,
-            &scaling.wide.p,
-            &scaling.wide.q,
-            &scaling.wide.r,
-            &scaling.wide.d1,
-            scaling.wide.d2,
-            scaling.cone.dim1,
-            scaling.cone.dim2,
-        );
-    }
-    three_finite(scaling.three)
+    lent_finite(&LentScaling::of(&scaling))
 }

@@ -8,8 +8,7 @@ ghost use Rattle.kernels.specs.Door.{sqrt_of, log_of, exp_of, power_at, powf_of}
 pub fn sqrt(x: f64) -> f64
     ensures { result ≡ sqrt_of x }
 {
-    let rooted = root::table_root::sqrt(x);
-    rooted.root
+    root::table_root::sqrt(x).root
 }
 
 // The natural logarithm; 000's `logsafe`.
@@ -41,7 +40,7 @@ pub fn power(x: f64, y: f64, logx: f64) -> f64
     if y == 0.0 {
         return 1.0;
     }
-    if x != x {
+    if x.is_nan() {
         return double::nan();
     }
     if y == 1.0 {

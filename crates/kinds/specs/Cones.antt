@@ -1,9 +1,9 @@
 -- The formulas that a cone of any kind has, chosen by kind. Definitions only; each has the name of the Rust function.
-use Rattle.std.specs.Prelude.{cond, false, List, Float, take}
+use Rattle.std.specs.Prelude.{Option, Some, option_map, cond, List, Float, take}
 use Rattle.double.specs.Operators.{at}
 use Rattle.double.specs.Numbers.{#0}
 use Rattle.cone.specs.declared.Cone.{Cone}
-use Rattle.cone.specs.declared.Attempt.{Attempt}
+use Rattle.cone.specs.declared.Scaling.{Scaling}
 use Rattle.cone.specs.Fresh.{no_three, no_wide, attempt_of}
 use Rattle.cone.specs.Codes.{is_wide, by_kind}
 use Rattle.cone.specs.Points.{three_of}
@@ -29,10 +29,9 @@ barrier_dual_of c z =
     (genBarriers.barrier_dual_of (alphas_of c) z)
     #0
 
--- 000, 001, 002 update_dual_grad_H, with the places of the other kinds +0
-unfoldable pub dual_grad_h_of : Cone → List Float → Attempt
+-- 000, 001, 002 update_dual_grad_H, with the places of the other kinds +0; that of 002 may panic
+unfoldable pub dual_grad_h_of : Cone → List Float → Option Scaling
 dual_grad_h_of c z =
-    let gen = genDual.update_dual_grad_h_of (alphas_of c) z in
     cond (is_wide c.kind)
-    (attempt_of c gen.panics no_three gen.wide)
-    (attempt_of c false (three.update_dual_grad_h_of c.kind (alpha_of c) (three_of z)) no_wide)
+    (option_map (attempt_of c no_three) (genDual.update_dual_grad_h_of (alphas_of c) z))
+    (Some (attempt_of c (three.update_dual_grad_h_of c.kind (alpha_of c) (three_of z)) no_wide))

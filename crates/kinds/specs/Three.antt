@@ -1,6 +1,7 @@
 -- The formulas of kinds 1 and 2, chosen by kind. Definitions only; each has the name of the Rust function, whose own definition stands in
 -- expcone, powcone or `powcone::correction`. α is the exponent of kind 2: kind 1 has none, and none of its formulas takes one.
-use Rattle.std.specs.Prelude.{ℕ, cond, false, List, eqb, Float, replicate}
+-- Where the Rust panics there is no answer; that of 001 does not.
+use Rattle.std.specs.Prelude.{ℕ, Option, Some, option_map, cond, List, eqb, Float, replicate}
 use Rattle.double.specs.Numbers.{#0}
 use Rattle.cone.specs.declared.Three.{Three}
 use Rattle.expcone.specs.Barriers as expBarriers
@@ -12,7 +13,6 @@ use Rattle.powcone.specs.Barriers as powBarriers
 use Rattle.powcone.specs.DualGradient as powDual
 use Rattle.powcone.specs.correction.Correction as powCorrection
 use Rattle.kinds.specs.declared.three.ThreeGradient.{ThreeGradient}
-use Rattle.kinds.specs.declared.three.Valued.{Valued}
 
 -- 000, 001 unit_initialization: z and s alike
 unfoldable pub unit_initialization_of : ℕ → Float → List Float
@@ -29,29 +29,22 @@ update_dual_grad_h_of kind α z =
     cond (eqb kind 2) (plain_three pow.grad pow.h) (plain_three exp.grad exp.h)
 
 -- 000, 001 gradient_primal. 01: "0 where Newton was not entered"
-unfoldable pub gradient_primal_of : ℕ → Float → List Float → ThreeGradient
+abbrev pub no_rounds : List Float → ThreeGradient
+no_rounds g = record { g = g; rounds = 0 }
+
+unfoldable pub gradient_primal_of : ℕ → Float → List Float → Option ThreeGradient
 gradient_primal_of kind α s =
     let pow = powPrimal.gradient_primal_of α s in
-    let exp = expPrimal.gradient_primal_of s in
-    cond (eqb kind 2)
-    (record { panics = false; g = pow.g; rounds = pow.rounds })
-    (record { panics = exp.panics; g = exp.g; rounds = 0 })
-
--- a number that no panic stands before
-abbrev pub safe : Float → Valued
-safe x = record { panics = false; value = x }
+    cond (eqb kind 2) (Some (record { g = pow.g; rounds = pow.rounds })) (option_map no_rounds (expPrimal.gradient_primal_of s))
 
 -- 000, 001 barrier_primal
-unfoldable pub barrier_primal_of : ℕ → Float → List Float → Valued
-barrier_primal_of kind α s =
-    let exp = expBarriers.barrier_primal_of s in
-    cond (eqb kind 2) (safe (powBarriers.barrier_primal_of α s)) (record { panics = exp.panics; value = exp.value })
+unfoldable pub barrier_primal_of : ℕ → Float → List Float → Option Float
+barrier_primal_of kind α s = cond (eqb kind 2) (Some (powBarriers.barrier_primal_of α s)) (expBarriers.barrier_primal_of s)
 
 -- 000, 001 compute_barrier; the step is the Rust's α
-unfoldable pub compute_barrier_of : ℕ → Float → List Float → List Float → List Float → List Float → Float → Valued
+unfoldable pub compute_barrier_of : ℕ → Float → List Float → List Float → List Float → List Float → Float → Option Float
 compute_barrier_of kind α z s dz ds step =
-    let exp = expBarriers.compute_barrier_of z s dz ds step in
-    cond (eqb kind 2) (safe (powBarriers.compute_barrier_of α z s dz ds step)) (record { panics = exp.panics; value = exp.value })
+    cond (eqb kind 2) (Some (powBarriers.compute_barrier_of α z s dz ds step)) (expBarriers.compute_barrier_of z s dz ds step)
 
 -- 000, 001 higher_correction
 unfoldable pub higher_correction_of : ℕ → Float → List Float → List Float → List Float → List Float → List Float

@@ -4,13 +4,13 @@
 
 ghost use Rattle.std.specs.Prelude.{◌≡◌};
 ghost use Rattle.cone.specs.Calls.{WideCall};
-ghost use Rattle.kinds.specs.Answers.{exp_answer, pow_answer, genpow_answer, used_of, answer_in};
+ghost use Rattle.kinds.specs.Answers.{exp_answer, pow_answer, genpow_answer, used_of, answer_of};
 ghost use Rattle.kinds.specs.Passes.{passes_in};
 ghost use Rattle.kinds.specs.Cones.{barrier_dual_of, dual_grad_h_of};
 
 use algebra::vector::head;
 use cone::verdict::{Answer, is_yes};
-use cone::{Attempt, Cone, attempted, no_three, no_wide, three_of};
+use cone::{Cone, Scaling, attempted, no_three, no_wide, three_of};
 
 pub mod three;
 pub mod wide_kind;
@@ -63,22 +63,22 @@ pub fn used(kind: u32, dim1: u32) -> usize
     0
 }
 
-// Whether the point lies in the cone, or in its dual. The cone comes in parts, so that a search copies none for a test.
-pub fn answer(kind: u32, dim1: u32, exps: &[f64; 32], primal: bool, point: &[f64]) -> Answer
-    ensures { result ≡ answer_in kind dim1 exps.now primal point.now }
+// Whether the point lies in the cone, or in its dual. The cone is lent, so that a search copies none for a test.
+pub fn answer(cone: &Cone, primal: bool, point: &[f64]) -> Answer
+    ensures { result ≡ answer_of cone.now primal point.now }
 {
-    match kind {
+    match cone.kind {
         1 => exp_answer(primal, three_of(point)),
-        2 => pow_answer(exps[0], primal, three_of(point)),
-        3 => genpow_answer(head(exps, dim1 as usize), primal, point),
+        2 => pow_answer(cone.exps[0], primal, three_of(point)),
+        3 => genpow_answer(head(&cone.exps, cone.dim1 as usize), primal, point),
         _ => Answer::No,
     }
 }
 
-pub fn passes(kind: u32, dim1: u32, exps: &[f64; 32], primal: bool, point: &[f64]) -> bool
-    ensures { result ≡ passes_in kind dim1 exps.now primal point.now }
+pub fn passes(cone: &Cone, primal: bool, point: &[f64]) -> bool
+    ensures { result ≡ passes_in cone.now.kind cone.now.dim1 cone.now.exps primal point.now }
 {
-    is_yes(answer(kind, dim1, exps, primal, point))
+    is_yes(answer(cone, primal, point))
 }
 
 pub fn barrier_dual(cone: Cone, z: &[f64]) -> f64
@@ -94,20 +94,17 @@ pub fn barrier_dual(cone: Cone, z: &[f64]) -> f64
     }
 }
 
-// update_dual_grad_H, in a record whose z, hs and mu are +0.
-pub fn dual_grad_h(cone: Cone, z: &[f64]) -> Attempt
+// update_dual_grad_H, in a record whose z, hs and mu are +0. There is none where the Rust would panic.
+pub fn dual_grad_h(cone: Cone, z: &[f64]) -> Option<Scaling>
     requires { WideCall cone z.now }
     ensures { result ≡ dual_grad_h_of cone z.now }
 {
     let kind = cone.kind;
     let exps = cone.exps;
     if kind == 3 {
-        let generalized = genpowcone::update_dual_grad_h(head(&exps, cone.dim1 as usize), z);
-        let three = no_three();
-        let wide = generalized.wide;
-        return attempted(cone, generalized.panics, three, wide);
+        let wide = genpowcone::update_dual_grad_h(head(&exps, cone.dim1 as usize), z)?;
+        return Some(attempted(cone, no_three(), wide));
     }
     let three = three::update_dual_grad_h(kind, exps[0], three_of(z));
-    let wide = no_wide();
-    attempted(cone, false, three, wide)
+    Some(attempted(cone, three, no_wide()))
 }

@@ -1,23 +1,16 @@
 // Kinds 1 and 2, whose points have three numbers: the exponential cone, and the power cone with exponent alpha, which kind 1 does not use.
+// There is no answer where the Rust would panic on the way to it, which kind 2 never does.
 ghost use Rattle.std.specs.Prelude.{◌≡◌};
 ghost use Rattle.kinds.specs.Three.{plain_three, update_dual_grad_h_of, gradient_primal_of, unit_initialization_of};
 ghost use Rattle.kinds.specs.Three.{barrier_primal_of, compute_barrier_of, higher_correction_of, combined_ds_shift_of};
 
 use cone::Three;
 
-// A primal gradient, whether the Rust would panic on the way to it, and its Newton rounds.
+// A primal gradient and its Newton rounds: powcone's PowerGradient, for crates that know kinds and not powcone.
 #[derive(Clone, Copy)]
 pub struct ThreeGradient {
-    pub panics: bool,
     pub g: [f64; 3],
     pub rounds: u32,
-}
-
-// A number, and whether the Rust would panic on the way to it.
-#[derive(Clone, Copy)]
-pub struct Valued {
-    pub panics: bool,
-    pub value: f64,
 }
 
 pub fn unit_initialization(kind: u32, alpha: f64) -> [f64; 3]
@@ -55,42 +48,28 @@ pub fn update_dual_grad_h(kind: u32, alpha: f64, z: [f64; 3]) -> Three
     plain_three(grad, h)
 }
 
-pub fn gradient_primal(kind: u32, alpha: f64, s: [f64; 3]) -> ThreeGradient
+pub fn gradient_primal(kind: u32, alpha: f64, s: [f64; 3]) -> Option<ThreeGradient>
     ensures { result ≡ gradient_primal_of kind alpha s }
 {
     if kind == 2 {
         let power = powcone::gradient_primal(alpha, s);
         let g = power.g;
-        return ThreeGradient {
-            panics: false,
+        return Some(ThreeGradient {
             g,
             rounds: power.rounds,
-        };
+        });
     }
-    let exponential = expcone::gradient_primal(s);
-    let g = exponential.g;
-    ThreeGradient {
-        panics: exponential.panics,
-        g,
-        rounds: 0,
-    }
+    let g = expcone::gradient_primal(s)?;
+    Some(ThreeGradient { g, rounds: 0 })
 }
 
-pub fn barrier_primal(kind: u32, alpha: f64, s: [f64; 3]) -> Valued
+pub fn barrier_primal(kind: u32, alpha: f64, s: [f64; 3]) -> Option<f64>
     ensures { result ≡ barrier_primal_of kind alpha s }
 {
     if kind == 2 {
-        let value = powcone::barrier_primal(alpha, s);
-        return Valued {
-            panics: false,
-            value,
-        };
+        return Some(powcone::barrier_primal(alpha, s));
     }
-    let exponential = expcone::barrier_primal(s);
-    Valued {
-        panics: exponential.panics,
-        value: exponential.value,
-    }
+    expcone::barrier_primal(s)
 }
 
 // step is the Rust's α, the length of the step from z and s.
@@ -102,21 +81,13 @@ pub fn compute_barrier(
     dz: [f64; 3],
     ds: [f64; 3],
     step: f64,
-) -> Valued
+) -> Option<f64>
     ensures { result ≡ compute_barrier_of kind alpha z s dz ds step }
 {
     if kind == 2 {
-        let value = powcone::compute_barrier(alpha, z, s, dz, ds, step);
-        return Valued {
-            panics: false,
-            value,
-        };
+        return Some(powcone::compute_barrier(alpha, z, s, dz, ds, step));
     }
-    let exponential = expcone::compute_barrier(z, s, dz, ds, step);
-    Valued {
-        panics: exponential.panics,
-        value: exponential.value,
-    }
+    expcone::compute_barrier(z, s, dz, ds, step)
 }
 
 // h and z are the record's dual Hessian and the point that it was taken at.

@@ -8,10 +8,12 @@
 #![tactic(auto)]
 
 ghost use Rattle.std.specs.Prelude.{◌≡◌, ◌+◌, ◌*◌, ◌/◌, ◌^◌, ◌<◌, ◌≤◌};
+ghost use Rattle.double.specs.Fields.{InNormalForm};
 ghost use Rattle.logarithm.specs.Steps.{short_series_of, mantissa_of, scaled_of, positive_of, log_of};
 ghost use Rattle.logarithm.specs.Estimates.{Near, Summands};
 
 use crate::table::entry;
+use double::Normal;
 
 pub mod table;
 
@@ -125,17 +127,17 @@ fn scaled(n: u64) -> f64
 // S(1/3) in units of 2^-53: S(1/3)·2^53 is 6243314768165359.2089..
 const LN2: u64 = 6243314768165359;
 
-// The logarithm of m·2^(k-1126). Below 1 the turns of S(1/3) outweigh the mantissa's part by at least a unit, so that the answer is never
+// The logarithm of n. Below 1 the turns of S(1/3) outweigh the mantissa's part by at least a unit, so that the answer is never
 // -0.
-fn positive(m: u64, k: u64) -> f64
-    requires { (2 ^ 52 ≤ m) × (m < 2 ^ 53) × (k < 2098) }
-    ensures { result ≡ positive_of m k }
+fn positive(n: Normal) -> f64
+    requires { InNormalForm n }
+    ensures { result ≡ positive_of n.m n.k }
 {
-    let q = mantissa(m);
-    if k < 1074 {
-        -scaled((1074 - k) * LN2 - q)
+    let q = mantissa(n.m);
+    if n.k < 1074 {
+        -scaled((1074 - n.k) * LN2 - q)
     } else {
-        scaled((k - 1074) * LN2 + q)
+        scaled((n.k - 1074) * LN2 + q)
     }
 }
 
@@ -144,7 +146,7 @@ fn positive(m: u64, k: u64) -> f64
 pub fn log(x: f64) -> f64
     ensures { result ≡ log_of x }
 {
-    if x != x {
+    if x.is_nan() {
         return double::nan();
     }
     let b = f64::to_bits(x);
@@ -158,10 +160,12 @@ pub fn log(x: f64) -> f64
             if digits == 0 {
                 return -1.0 / 0.0;
             }
-            let n = double::normal_of_low(digits);
-            positive(n.m, n.k)
+            positive(double::normal_of_low(digits))
         }
-        1..=2046 => positive(0x10_0000_0000_0000 + digits, field + 51),
+        1..=2046 => positive(Normal {
+            m: 0x10_0000_0000_0000 + digits,
+            k: field + 51,
+        }),
         _ => 1.0 / 0.0,
     }
 }

@@ -10,23 +10,16 @@ pub fn number_of(bytes: &[u8]) -> u64
     ensures { result ≡ number_of bytes.now }
 {
     let mut number: u64 = 0;
-    for i in 0..bytes.len() {
-        number = (number * 257 + bytes[i] as u64) % PRIME;
+    for b in bytes {
+        number = (number * 257 + *b as u64) % PRIME;
     }
     number
 }
 
-// Whether two rows are equal: their lengths first, then their bytes.
+// Whether two rows are equal.
+#[tactic(auto, using(crate::proofs::equal_bytes::Equality::compared))]
 pub fn same(a: &[u8], b: &[u8]) -> bool
     ensures { result ≡ equal_bytes a.now b.now }
 {
-    if a.len() != b.len() {
-        return false;
-    }
-    for i in 0..a.len() {
-        if a[i] != b[i] {
-            return false;
-        }
-    }
-    true
+    a == b
 }

@@ -4,26 +4,27 @@ use Rattle.double.specs.Operators.{◌⊕◌, ◌⊖◌, ◌⊗◌, ◌⊘◌, �
 use Rattle.double.specs.Numbers.{#0, #1, #2}
 use Rattle.kernels.specs.Door.{log_of, exp_of}
 use Rattle.cone.specs.declared.verdict.Answer.{Answer}
+use Rattle.cone.specs.declared.verdict.Residue.{Residue}
 use Rattle.cone.specs.verdict.Answers.{judged}
 use Rattle.cone.specs.verdict.Margins.{power_margin}
-use Rattle.powcone.specs.declared.PowerResidue.{PowerResidue}
+use Rattle.cone.specs.verdict.Residues.{residue_of}
 
 -- the residue p - w², beside the two numbers that it is made of
-unfoldable pub residue_at : Float → Float → PowerResidue
-residue_at p w = record { res = p ⊖ w ⊗ w; power = p; square = w ⊗ w }
+unfoldable pub residue_at : Float → Float → Residue
+residue_at p w = residue_of p (w ⊗ w)
 
 -- 001 is_primal_feasible, res: exp(2α·log s1 + 2(1-α)·log s2) - s3², counting from 1
 abbrev pub primal_exponent : Float → Float → Float → Float
 primal_exponent α s1 s2 = #2 ⊗ α ⊗ log_of s1 ⊕ #2 ⊗ (#1 ⊖ α) ⊗ log_of s2
 
-unfoldable pub primal_residue : Float → List Float → PowerResidue
+unfoldable pub primal_residue : Float → List Float → Residue
 primal_residue α s = residue_at (exp_of (primal_exponent α (at s 0) (at s 1))) (at s 2)
 
 -- 001 is_dual_feasible, res: exp(2α·log(z1/α) + (1-α)·log(z2/(1-α))·2) - z3²
 abbrev pub dual_exponent : Float → Float → Float → Float
 dual_exponent α z1 z2 = α ⊗ #2 ⊗ log_of (z1 ⊘ α) ⊕ (#1 ⊖ α) ⊗ log_of (z2 ⊘ (#1 ⊖ α)) ⊗ #2
 
-unfoldable pub dual_residue : Float → List Float → PowerResidue
+unfoldable pub dual_residue : Float → List Float → Residue
 dual_residue α z = residue_at (exp_of (dual_exponent α (at z 0) (at z 1))) (at z 2)
 
 -- 02, Order 5: "2^-30·(the exponential plus the sumsq)", of the two numbers that the residue is made of

@@ -6,7 +6,7 @@ use crate::dual_phi;
 use algebra::sym3::{cholesky_3x3_explicit_factor, cholesky_3x3_explicit_solve, mul};
 use algebra::vector::{dot3, shift3};
 
-// h, z and grad are the scaling record's.
+// h, z and grad are the scaling record's. expcone has the same steps around its own correction, as 000 has them beside 001.
 pub fn combined_ds_shift(
     alpha: f64,
     h: [f64; 6],
@@ -43,11 +43,9 @@ pub fn higher_correction(
     ensures { result ≡ higher_correction_of alpha h z ds v }
 {
     // solve H*u = ds
-    let chol = cholesky_3x3_explicit_factor(h);
-    if !chol.ok {
+    let Some(l) = cholesky_3x3_explicit_factor(h) else {
         return [0.0; 3];
-    }
-    let l = chol.l;
+    };
     let u = cholesky_3x3_explicit_solve(l, ds);
 
     let z0 = z[0];

@@ -7,29 +7,22 @@
 #![tactic(auto)]
 
 ghost use Rattle.std.specs.Prelude.{◌≡◌};
-ghost use Rattle.powcone.specs.Feasible.{residue_at, primal_residue, dual_residue, primal_feasible, dual_feasible};
+ghost use Rattle.powcone.specs.Feasible.{primal_residue, dual_residue, primal_feasible, dual_feasible};
 ghost use Rattle.powcone.specs.Barriers.{dual_phi, barrier_dual_of, barrier_primal_of, compute_barrier_of};
 ghost use Rattle.powcone.specs.PrimalGradient.{unit_initialization_of, newton_raphson_powcone_of, signed_of, gradient_primal_of};
 ghost use Rattle.powcone.specs.DualGradient.{update_dual_grad_h_of};
 
 use algebra::newton::{Equation, Solved, newton_raphson_onesided};
 use algebra::sym3::GradH;
-use algebra::vector::{head, moved3};
-use cone::verdict::{Answer, power_margin, told};
+use algebra::vector::moved3;
+use cone::verdict::{Answer, Residue};
 use double::{EPSILON, abs};
 use kernels::{exp, log, powf, sqrt};
 
 pub mod correction;
 
-// What a cone test compares, with the two numbers that it is the difference of: res = power - square.
-#[derive(Clone, Copy)]
-pub struct PowerResidue {
-    pub res: f64,
-    pub power: f64,
-    pub square: f64,
-}
-
-// The primal gradient, and how many Newton rounds it took; 0 where Newton was not entered.
+// The primal gradient, and how many Newton rounds it took; 0 where Newton was not entered. Not one type with genpowcone's WideGradient, of
+// 64 places: kinds/specs/Wide names that one.
 #[derive(Clone, Copy)]
 pub struct PowerGradient {
     pub g: [f64; 3],
@@ -61,33 +54,22 @@ pub fn compute_barrier(
     0.0 + barrier_dual(alpha, cur_z) + barrier_primal(alpha, cur_s)
 }
 
-fn residue_at(power: f64, s2: f64) -> PowerResidue
-    ensures { result ≡ residue_at power s2 }
-{
-    let square = s2 * s2;
-    PowerResidue {
-        res: power - square,
-        power,
-        square,
-    }
-}
-
 // `res` of is_primal_feasible.
-pub(crate) fn primal_residue(alpha: f64, s: [f64; 3]) -> PowerResidue
+pub(crate) fn primal_residue(alpha: f64, s: [f64; 3]) -> Residue
     ensures { result ≡ primal_residue alpha s }
 {
     let power = exp(2.0 * alpha * log(s[0]) + 2.0 * (1.0 - alpha) * log(s[1]));
-    residue_at(power, s[2])
+    Residue::of(power, s[2] * s[2])
 }
 
 // `res` of is_dual_feasible.
-pub(crate) fn dual_residue(alpha: f64, z: [f64; 3]) -> PowerResidue
+pub(crate) fn dual_residue(alpha: f64, z: [f64; 3]) -> Residue
     ensures { result ≡ dual_residue alpha z }
 {
     let power = exp(
         (alpha * 2.0) * log(z[0] / alpha) + (1.0 - alpha) * log(z[1] / (1.0 - alpha)) * 2.0,
     );
-    residue_at(power, z[2])
+    Residue::of(power, z[2] * z[2])
 }
 
 // Whether s is primal feasible: where the Rust compares res with 0, Order 5 compares it with a margin
@@ -95,8 +77,7 @@ pub fn is_primal_feasible(alpha: f64, s: [f64; 3]) -> Answer
     ensures { result ≡ primal_feasible alpha s }
 {
     if s[0] > 0.0 && s[1] > 0.0 {
-        let primal = primal_residue(alpha, s);
-        return told(primal.res, power_margin(primal.power, primal.square));
+        return primal_residue(alpha, s).answer();
     }
     Answer::No
 }
@@ -106,8 +87,7 @@ pub fn is_dual_feasible(alpha: f64, z: [f64; 3]) -> Answer
     ensures { result ≡ dual_feasible alpha z }
 {
     if z[0] > 0.0 && z[1] > 0.0 {
-        let dual = dual_residue(alpha, z);
-        return told(dual.res, power_margin(dual.power, dual.square));
+        return dual_residue(alpha, z).answer();
     }
     Answer::No
 }
@@ -245,14 +225,14 @@ fn newton_raphson_powcone(s3: f64, phi: f64, alpha: f64) -> Solved
     // additional shift due to the choice of dual barrier
     let t0 = -2.0 * alpha * log(alpha) - 2.0 * (1.0 - alpha) * log(1.0 - alpha);
 
-    // the equation of this kind reads no list
-    let unread = [alpha];
-    let none = head(&unread, 0);
+    let logphi = log(phi);
     newton_raphson_onesided(
         x0,
-        Equation::Power(s3, log(phi), alpha, t0),
-        none,
-        none,
-        none,
+        Equation::Power {
+            s3,
+            logphi,
+            alpha,
+            t0,
+        },
     )
 }

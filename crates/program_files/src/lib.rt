@@ -5,7 +5,7 @@
 
 mod said;
 
-ghost use Rattle.std.specs.Prelude.{◌≡◌, ◌-◌, ◌<◌, length};
+ghost use Rattle.std.specs.Prelude.{◌≡◌, ◌-◌, ◌≤◌, length, IfOk, IfSome};
 ghost use Rattle.io.specs.Counts.{IsPrefixLen};
 ghost use Rattle.program_files.specs.Reads.{turn_of, Within};
 
@@ -45,28 +45,6 @@ const REGULAR: u32 = 0o100000;
 // How many names are tried for the file beside a path.
 const TRIES: u8 = 100;
 
-// Whether a file was read to its end or to the slice's, and how many of its bytes stand at the slice's start.
-#[derive(Clone, Copy)]
-pub struct Got {
-    pub done: bool,
-    pub count: usize,
-}
-
-// What a read's answer says: whether bytes came, so that there may be more, whether it went well, and how many came.
-#[derive(Clone, Copy)]
-struct Turn {
-    more: bool,
-    good: bool,
-    count: usize,
-}
-
-// A file that is read, and why a read of it failed.
-#[derive(Drop)]
-struct Source {
-    file: File,
-    why: Error,
-}
-
 // How many arguments the program was started with, its own name among them.
 pub fn argument_count(rt: &HostRuntime) -> usize {
     let mut nothing = [0u8; 0];
@@ -78,7 +56,8 @@ pub fn argument_count(rt: &HostRuntime) -> usize {
     usize::MAX
 }
 
-// Puts argument i at the start of buf, and answers its length; 0 where it is missing or longer than buf.
+// Puts argument i at the start of buf, and answers its length; 0 where it is missing or longer than buf. No Option: both callers take it as
+// empty then.
 pub fn argument(rt: &HostRuntime, i: usize, buf: &mut [u8]) -> usize
     ensures { IsPrefixLen result buf.new }
 {
@@ -95,114 +74,81 @@ fn reason(e: FillError) -> Error {
     }
 }
 
-// What POSIX's read answers: how many bytes came, or -1.
-fn answer_of(source: &mut Source, room: &mut [u8]) -> isize {
-    match source.file.read(room) {
-        Ok(n) => n as isize,
-        Err(e) => {
-            source.why = e;
-            -1
-        }
-    }
-}
-
-fn judge(answer: isize, room: &[u8]) -> Turn
+// What a read says: how many bytes came, none at the file's end. A read that fails is no end.
+#[tactic(auto, unfolding(crate::specs::Reads::turn_of))]
+fn judge(answer: Result<usize>, room: &[u8]) -> Result<usize>
     ensures { result ≡ turn_of answer (length room.now) }
 {
-    Turn {
-        more: 0 < answer,
-        good: 0 <= answer,
-        count: io::count(answer, room),
+    match answer {
+        Ok(n) => Ok(n.min(room.len())),
+        Err(e) => Err(e),
     }
-}
-
-fn read_once(source: &mut Source, room: &mut [u8]) -> Turn
-    requires { 0 < length room.old }
-    ensures { Within (length room.old) result }
-{
-    let answer = answer_of(source, room);
-    judge(answer, room)
 }
 
 // One read behind the bytes up to `at`.
-fn read_on(source: &mut Source, file: &mut [u8], at: usize) -> Turn
-    requires { at < length file.old }
-    ensures { Within (length file.old - at) result }
+#[tactic(auto, unfolding(crate::specs::Reads::turn_of))]
+fn read_on(file: &mut File, room: &mut [u8], at: usize) -> Result<usize>
+    requires { at ≤ length room.old }
+    ensures { Within (length room.old - at) result }
 {
-    read_once(source, &mut file[at..])
+    let rest = &mut room[at..];
+    let answer = file.read(rest);
+    judge(answer, rest)
 }
 
-// Reads until a read says that the file ends, until one fails, or until the slice is full.
-fn read_all(source: &mut Source, file: &mut [u8]) -> Got
-    ensures { IsPrefixLen result.count file.new }
+// Reads until a read says that the file ends, until one fails, or until the slice is full. The answer is how many of the file's bytes stand
+// at the slice's start.
+fn read_all(file: &mut File, room: &mut [u8]) -> Result<usize>
+    ensures { IfOk result (λ n. IsPrefixLen n room.new) }
 {
     let mut at = 0;
-    while at < file.len() {
-        let turn = read_on(source, file, at);
-        if !turn.more {
-            return Got {
-                done: turn.good,
-                count: at,
-            };
+    while at < room.len() {
+        let n = read_on(file, room, at)?;
+        if n == 0 {
+            return Ok(at);
         }
-        at += turn.count;
+        at += n;
     }
-    Got {
-        done: true,
-        count: at,
-    }
+    Ok(at)
 }
 
-fn opened(rt: &HostRuntime, path: &str) -> Result<Source> {
-    Ok(Source {
-        file: File::open(rt, path)?,
-        why: Error::from_raw_os_error(INVALID),
-    })
-}
-
-fn nothing() -> Got
-    ensures { result.count ≡ 0 }
+fn read_path(rt: &HostRuntime, path: &str, room: &mut [u8]) -> Result<usize>
+    ensures { IfOk result (λ n. IsPrefixLen n room.new) }
 {
-    Got {
-        done: false,
-        count: 0,
-    }
+    let mut file = File::open(rt, path)?;
+    read_all(&mut file, room)
 }
 
-fn read_path(rt: &HostRuntime, path: &str, file: &mut [u8]) -> Got
-    ensures { IsPrefixLen result.count file.new }
-{
-    let mut source = match opened(rt, path) {
-        Ok(source) => source,
-        Err(e) => {
-            fail(rt, path.as_bytes(), e);
-            return nothing();
-        }
-    };
-    let got = read_all(&mut source, file);
-    if !got.done {
-        fail(rt, path.as_bytes(), source.why);
-    }
-    got
-}
-
-// Reads the file that argument i names, which the usage line calls `name`.
-pub fn read_argument(rt: &HostRuntime, i: usize, name: &[u8], file: &mut [u8]) -> Got
-    ensures { IsPrefixLen result.count file.new }
-{
-    let mut path = io::buffer();
-    let n = match rt.arg(i, &mut path) {
+// The path that argument i is, which the usage line calls `name`. None where it is none, which is said.
+fn path_at<'a>(rt: &HostRuntime, i: usize, name: &[u8], room: &'a mut [u8]) -> Option<&'a str> {
+    let n = match rt.arg(i, room) {
         Ok(n) => n,
         Err(e) => {
             fail(rt, name, reason(e));
-            return nothing();
+            return None;
         }
     };
-    match from_utf8(&path[..n]) {
-        Ok(path) => read_path(rt, path, file),
+    match from_utf8(&room[..n]) {
+        Ok(path) => Some(path),
         Err(_) => {
-            fail(rt, &path[..n], Error::from_raw_os_error(ILLEGAL_BYTES));
-            nothing()
+            fail(rt, &room[..n], Error::from_raw_os_error(ILLEGAL_BYTES));
+            None
+        }
+    }
+}
+
+// Reads the file that argument i names, which the usage line calls `name`, to its end or to the slice's: the answer is how many of its bytes
+// stand at the slice's start. None where it cannot be read, which is said.
+pub fn read_argument(rt: &HostRuntime, i: usize, name: &[u8], file: &mut [u8]) -> Option<usize>
+    ensures { IfSome result (λ n. IsPrefixLen n file.new) }
+{
+    let mut room = io::buffer();
+    let path = path_at(rt, i, name, &mut room)?;
+    match read_path(rt, path, file) {
+        Ok(n) => Some(n),
+        Err(e) => {
+            fail(rt, path.as_bytes(), e);
+            None
         }
     }
 }
@@ -216,14 +162,11 @@ fn same_room() -> [u8; 74917]
 
 // Whether a file holds these bytes and no more. What is not known counts as no.
 fn holds(rt: &HostRuntime, path: &str, bytes: &[u8]) -> bool {
-    let mut source = match opened(rt, path) {
-        Ok(source) => source,
-        Err(_) => return false,
-    };
     let mut old = same_room();
-    let got = read_all(&mut source, &mut old);
-    let n = got.count;
-    got.done && n < old.len() && same(front(&old, n), bytes)
+    match read_path(rt, path, &mut old) {
+        Ok(n) => n < old.len() && same(front(&old, n), bytes),
+        Err(_) => false,
+    }
 }
 
 fn is_link(rt: &HostRuntime, path: &str) -> bool {
@@ -233,24 +176,24 @@ fn is_link(rt: &HostRuntime, path: &str) -> bool {
     }
 }
 
-// What kind of file is open, and who may do what with it. 0, which no file has, where the system does not tell.
-fn mode_of(file: &File) -> u32 {
+// What kind of file is open, and who may do what with it, where the system tells.
+fn mode_of(file: &File) -> Option<u32> {
     match file.metadata() {
-        Ok(data) => data.mode(),
-        Err(_) => 0,
+        Ok(data) => Some(data.mode()),
+        Err(_) => None,
     }
 }
 
-// Gives a file a mode; 0 leaves it the one that it has.
-fn give_mode(file: &File, mode: u32) -> Result<()> {
-    if mode == 0 {
-        return Ok(());
+// Gives a file a mode, or leaves it the one that it has.
+fn give_mode(file: &File, mode: Option<u32>) -> Result<()> {
+    match mode {
+        Some(mode) => file.set_permissions(Permissions::from_mode(mode & 0o7777)),
+        None => Ok(()),
     }
-    file.set_permissions(Permissions::from_mode(mode & 0o7777))
 }
 
 // Writes all of a file, to the disk, with its mode, and closes it.
-fn fill(mut file: File, bytes: &[u8], mode: u32) -> Result<()> {
+fn fill(mut file: File, bytes: &[u8], mode: Option<u32>) -> Result<()> {
     file.write_all(bytes)?;
     give_mode(&file, mode)?;
     file.sync_all()
@@ -287,18 +230,18 @@ fn put_letters(rt: &HostRuntime, name: &mut [u8], n: usize, turn: u8) {
         drawn[5] = turn;
     }
     put(name, n, b'.');
-    for k in 0..6 {
-        put(name, n.saturating_add(1 + k), letter(drawn[k]));
+    for (k, x) in drawn.iter().enumerate() {
+        put(name, n.saturating_add(1 + k), letter(*x));
     }
 }
 
 // The file by one name beside the path, which must be new. Where a mode is to be kept it is for its user alone until it has that.
-fn make_named(rt: &HostRuntime, beside: &[u8], mode: u32) -> Result<File> {
+fn make_named(rt: &HostRuntime, beside: &[u8], mode: Option<u32>) -> Result<File> {
     let name = match from_utf8(beside) {
         Ok(name) => name,
         Err(_) => return Err(Error::from_raw_os_error(ILLEGAL_BYTES)),
     };
-    let first = if mode == 0 { 0o666 } else { 0o600 };
+    let first = if mode.is_none() { 0o666 } else { 0o600 };
     OpenOptions::new()
         .write(true)
         .create_new(true)
@@ -307,7 +250,7 @@ fn make_named(rt: &HostRuntime, beside: &[u8], mode: u32) -> Result<File> {
 }
 
 // A new file beside the path, by a name that no other has: the first n bytes of `beside`, a dot and six letters.
-fn make_beside(rt: &HostRuntime, beside: &mut [u8], n: usize, mode: u32) -> Result<File> {
+fn make_beside(rt: &HostRuntime, beside: &mut [u8], n: usize, mode: Option<u32>) -> Result<File> {
     for turn in 0..TRIES {
         put_letters(rt, beside, n, turn);
         match make_named(rt, beside, mode) {
@@ -329,12 +272,9 @@ fn exchange(
     beside: &str,
     path: &str,
     bytes: &[u8],
-    mode: u32,
+    mode: Option<u32>,
 ) -> Result<()> {
-    let done = match fill(file, bytes, mode) {
-        Ok(()) => fs::rename(rt, beside, path),
-        Err(e) => Err(e),
-    };
+    let done = fill(file, bytes, mode).and_then(|()| fs::rename(rt, beside, path));
     if done.is_err() {
         let _ = fs::remove_file(rt, beside);
     }
@@ -342,15 +282,14 @@ fn exchange(
 }
 
 // Writes a new file and gives it the path's name, so that at every moment this names the old file or the new one, whole. `beside` has the
-// path's n bytes first, and room for what makes of it the name of a file in the same folder. `mode` is the old file's, or 0 where there is
-// none.
+// path's n bytes first, and room for what makes of it the name of a file in the same folder. `mode` is the old file's.
 fn replace(
     rt: &HostRuntime,
     path: &str,
     beside: &mut [u8],
     n: usize,
     bytes: &[u8],
-    mode: u32,
+    mode: Option<u32>,
 ) -> bool {
     let file = match make_beside(rt, beside, n, mode) {
         Ok(file) => file,
@@ -398,7 +337,7 @@ fn beside_room() -> [u8; 4096]
 }
 
 // Writes a new file by argument i, which is this path.
-fn write_anew(rt: &HostRuntime, i: usize, path: &str, bytes: &[u8], mode: u32) -> bool {
+fn write_anew(rt: &HostRuntime, i: usize, path: &str, bytes: &[u8], mode: Option<u32>) -> bool {
     if is_link(rt, path) {
         return refuse(rt, path, b": is a link: name the file that it leads to\n");
     }
@@ -412,7 +351,7 @@ fn write_anew(rt: &HostRuntime, i: usize, path: &str, bytes: &[u8], mode: u32) -
 // Writes over a file that is there, and open for writing.
 fn write_over(rt: &HostRuntime, i: usize, file: File, path: &str, bytes: &[u8]) -> bool {
     let mode = mode_of(&file);
-    let kind = mode & KIND;
+    let kind = mode.unwrap_or(0) & KIND;
     if kind == PIPE || kind == DEVICE {
         return write_through(rt, file, path, bytes);
     }
@@ -435,7 +374,7 @@ fn write_path(rt: &HostRuntime, i: usize, path: &str, bytes: &[u8]) -> bool {
                 fail(rt, path.as_bytes(), e);
                 return false;
             }
-            write_anew(rt, i, path, bytes, 0)
+            write_anew(rt, i, path, bytes, None)
         }
     }
 }
@@ -443,19 +382,9 @@ fn write_path(rt: &HostRuntime, i: usize, path: &str, bytes: &[u8]) -> bool {
 // Writes the file that argument i names, which the usage line calls `name`, and says whether it now holds these bytes. Where it does not,
 // it is as it was. One that holds them already is left alone.
 pub fn write_argument(rt: &HostRuntime, i: usize, name: &[u8], bytes: &[u8]) -> bool {
-    let mut path = io::buffer();
-    let n = match rt.arg(i, &mut path) {
-        Ok(n) => n,
-        Err(e) => {
-            fail(rt, name, reason(e));
-            return false;
-        }
-    };
-    match from_utf8(&path[..n]) {
-        Ok(path) => write_path(rt, i, path, bytes),
-        Err(_) => {
-            fail(rt, &path[..n], Error::from_raw_os_error(ILLEGAL_BYTES));
-            false
-        }
+    let mut room = io::buffer();
+    match path_at(rt, i, name, &mut room) {
+        Some(path) => write_path(rt, i, path, bytes),
+        None => false,
     }
 }

@@ -30,8 +30,7 @@ fn main(rt: HostRuntime) {
         return;
     }
     let mut file = file_room();
-    let got = read_argument(&rt, 1, b"FILE", &mut file);
-    if got.done {
-        print(&rt, &file[..got.count]);
+    if let Some(n) = read_argument(&rt, 1, b"FILE", &mut file) {
+        print(&rt, &file[..n]);
     }
 }

@@ -6,7 +6,7 @@
 
 ghost use Rattle.std.specs.Prelude.{◌≡◌, length};
 ghost use Rattle.trace_rescue.specs.call.Rescue.{kept_of, rescue_of};
-ghost use Rattle.rescue.specs.Deeds.{edition_named, deed_by, deed_of};
+ghost use Rattle.rescue.specs.Deeds.{edition_named, number_of, deed_by, deed_of};
 
 use octets::words::front;
 use program_files::{argument, argument_count, print_text, read_argument, say, write_argument};
@@ -17,11 +17,12 @@ use trace_rescue::call::{Rescued, rescue};
 use trace_rescue::file::{edition_of, put_rescue};
 
 // What is done: the trace is written or IN refused, an edition is asked for, or OUT is left alone.
-const WRITE: u32 = 0;
-
-const ASK: u32 = 1;
-
-const LEAVE: u32 = 2;
+#[derive(Clone, Copy)]
+enum Deed {
+    Write,
+    Ask,
+    Leave,
+}
 
 // Room for every text. The `ensures` gives the length alone, which lending the array needs.
 fn text_room() -> [u8; 63]
@@ -37,15 +38,23 @@ fn output_room() -> [u8; 74916]
     [0; 74916]
 }
 
-// The edition that the caller's word names. Without a word it is 0, which is none.
+// The edition that the caller's word names, where there is a word.
 #[tactic(auto, unfolding(crate::specs::Deeds::edition_named))]
-fn edition_named(named: bool, word: &[u8]) -> u32
+fn edition_named(named: bool, word: &[u8]) -> Option<u32>
     ensures { result ≡ edition_named named word.now }
 {
     if named {
-        return edition_of(word);
+        return Some(edition_of(word));
     }
-    0
+    None
+}
+
+// 0 is no edition.
+#[tactic(auto, unfolding(crate::specs::Deeds::number_of))]
+fn number_of(edition: Option<u32>) -> u32
+    ensures { result ≡ number_of edition }
+{
+    edition.unwrap_or(0)
 }
 
 // How many records of the file an edition's layout keeps.
@@ -58,33 +67,33 @@ fn kept_by(file: &[u8], edition: u32) -> usize
 }
 
 #[tactic(auto, unfolding(crate::specs::Deeds::deed_by))]
-fn deed_by(named: bool, answer: Rescued) -> u32
-    ensures { result ≡ deed_by named answer }
+fn deed_by(edition: Option<u32>, answer: Rescued) -> Deed
+    ensures { result ≡ deed_by edition answer }
 {
     if answer.code == 9 {
-        if named {
-            return WRITE;
+        if edition.is_some() {
+            return Deed::Write;
         }
-        return ASK;
+        return Deed::Ask;
     }
     if answer.kept != 0 {
-        return WRITE;
+        return Deed::Write;
     }
     if 0 < answer.dropped {
-        return LEAVE;
+        return Deed::Leave;
     }
-    WRITE
+    Deed::Write
 }
 
 // What is to be done with OUT. The rescue is tried in the output's room.
 #[tactic(auto, using(trace_layout::proofs::Limits::is_large, trace_layout::proofs::Limits::is_small), unfolding(crate::specs::Deeds::deed_of))]
-fn deed(file: &[u8], output: &mut [u8], named: bool, edition: u32) -> u32
-    ensures { result ≡ deed_of named file.now (rescue_of file.now output.old edition).answer }
+fn deed_for(file: &[u8], output: &mut [u8], edition: Option<u32>) -> Deed
+    ensures { result ≡ deed_of edition file.now (rescue_of file.now output.old (number_of edition)).answer }
 {
     if MOST_BYTES < file.len() {
-        return WRITE;
+        return Deed::Write;
     }
-    deed_by(named, rescue(file, output, edition))
+    deed_by(edition, rescue(file, output, number_of(edition)))
 }
 
 fn say_number(rt: &HostRuntime, n: usize) {
@@ -110,29 +119,31 @@ fn ask(rt: &HostRuntime, file: &[u8]) {
     say(rt, b"\n");
 }
 
-fn save(rt: &HostRuntime, file: &[u8], named: bool, edition: u32) {
+// The text is printed, and the trace written where there is one.
+fn write(rt: &HostRuntime, file: &[u8], output: &mut [u8], edition: u32)
+    requires { length output.old ≡ 74916 }
+{
     let mut text = text_room();
-    let mut output = output_room();
-    let what = deed(file, &mut output, named, edition);
-    if what == ASK {
-        ask(rt, file);
-        return;
-    }
-    if what == LEAVE {
-        say(
-            rt,
-            b"rescue: no record would be kept: OUT is left as it was\n",
-        );
-        return;
-    }
-    let n = put_rescue(file, &mut text, &mut output, edition);
+    let n = put_rescue(file, &mut text, output, edition);
     // a trace has at least 20 bytes: none is a refusal
     if n.output == 0 {
         print_text(rt, front(&text, n.text));
         return;
     }
-    if write_argument(rt, 2, b"OUT", front(&output, n.output)) {
+    if write_argument(rt, 2, b"OUT", front(output, n.output)) {
         print_text(rt, front(&text, n.text));
+    }
+}
+
+fn save(rt: &HostRuntime, file: &[u8], edition: Option<u32>) {
+    let mut output = output_room();
+    match deed_for(file, &mut output, edition) {
+        Deed::Write => write(rt, file, &mut output, number_of(edition)),
+        Deed::Ask => ask(rt, file),
+        Deed::Leave => say(
+            rt,
+            b"rescue: no record would be kept: OUT is left as it was\n",
+        ),
     }
 }
 
@@ -143,18 +154,12 @@ fn main(rt: HostRuntime) {
         return;
     }
     let mut file = file_room();
-    let got = read_argument(&rt, 1, b"IN", &mut file);
-    if !got.done {
+    let Some(length) = read_argument(&rt, 1, b"IN", &mut file) else {
         return;
-    }
+    };
     // a word that is too long to be taken is empty here, and names no edition
     let mut word = io::buffer();
     let n = argument(&rt, 3, &mut word);
-    let named = count == 4;
-    save(
-        &rt,
-        &file[..got.count],
-        named,
-        edition_named(named, &word[..n]),
-    );
+    let edition = edition_named(count == 4, &word[..n]);
+    save(&rt, &file[..length], edition);
 }

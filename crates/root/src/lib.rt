@@ -3,8 +3,10 @@
 // of `reciprocal_table`, and is what the cones call.
 #![tactic(auto)]
 
-ghost use Rattle.std.specs.Prelude.{◌≡◌, ◌*◌, ◌^◌, ◌<◌, ◌≤◌};
+ghost use Rattle.std.specs.Prelude.{◌≡◌, ◌*◌, ◌^◌, ◌<◌, MatchResult};
+ghost use Rattle.double.specs.Fields.{InNormalForm};
 ghost use Rattle.root.specs.Steps.{near_root, root_of, sqrt_of};
+ghost use Rattle.root.specs.table_root.Steps.{table_root_of, table_sqrt_of, unstepped};
 
 use double::Normal;
 use wide::Halves;
@@ -21,8 +23,7 @@ fn digit_by_digit(m: u64) -> u64
     let mut root: u64 = 0;
     let mut rem: u64 = 0;
     let mut rest: u64 = m << 10;
-    let mut i: u64 = 0;
-    while i < 53 {
+    for _ in 0..53_u64 {
         let have = rem * 4 + (rest >> 62);
         let trial = root * 4 + 1;
         if trial <= have {
@@ -33,7 +34,6 @@ fn digit_by_digit(m: u64) -> u64
             root = root * 2;
         }
         rest = rest << 2;
-        i += 1;
     }
     if root < rem { root + 1 } else { root }
 }
@@ -78,40 +78,53 @@ fn near_root(m: u64) -> u64
 
 // The root of n. The root's leading one is left in the digits and adds one to the field.
 fn root_of(n: Normal) -> f64
-    requires { (2 ^ 52 ≤ n.m) × (n.m < 2 ^ 53) × (n.k < 2098) }
+    requires { InNormalForm n }
     ensures { result ≡ root_of n }
 {
     let q = near_root(n.m << (n.k % 2));
     f64::from_bits((n.k / 2 + 485) * 0x10_0000_0000_0000 + q)
 }
 
-// The square root, for every double.
-pub fn sqrt(x: f64) -> f64
-    ensures { result ≡ sqrt_of x }
+// The number whose root is to be found, or the root where it is known. A negative number's is NaN.
+#[inline]
+pub(crate) fn under_root(x: f64) -> Result<Normal, f64>
+    ensures { MatchResult result
+        (λ n. InNormalForm n × (sqrt_of x ≡ root_of n) × (table_sqrt_of x ≡ table_root_of n))
+        (λ r. (sqrt_of x ≡ r) × (table_sqrt_of x ≡ unstepped r)) }
 {
-    if x != x {
-        return double::nan();
+    if x.is_nan() {
+        return Err(double::nan());
     }
     let b = f64::to_bits(x);
     if b >= 0x8000_0000_0000_0000 {
         if b == 0x8000_0000_0000_0000 {
-            return x;
+            return Err(x);
         }
-        return double::nan();
+        return Err(double::nan());
     }
     let f = b / 0x10_0000_0000_0000 % 2048;
     let t = b % 0x10_0000_0000_0000;
     match f {
         0 => {
             if t == 0 {
-                return x;
+                return Err(x);
             }
-            root_of(double::normal_of_low(t))
+            Ok(double::normal_of_low(t))
         }
-        1..=2046 => root_of(Normal {
+        1..=2046 => Ok(Normal {
             m: 0x10_0000_0000_0000 + t,
             k: f + 51,
         }),
-        _ => x,
+        _ => Err(x),
+    }
+}
+
+// The square root, for every double.
+pub fn sqrt(x: f64) -> f64
+    ensures { result ≡ sqrt_of x }
+{
+    match under_root(x) {
+        Ok(n) => root_of(n),
+        Err(root) => root,
     }
 }

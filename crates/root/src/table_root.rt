@@ -5,9 +5,11 @@
 // Times m it is a first root, never above either. Each further step adds the rest, times that number, halved: the rest falls by 2^14 and is
 // never below zero, so that no number here has a sign and none is above 64 bits.
 ghost use Rattle.std.specs.Prelude.{◌≡◌, ◌*◌, ◌^◌, ◌<◌, ◌≤◌};
+ghost use Rattle.double.specs.Fields.{InNormalForm};
 ghost use Rattle.root.specs.table_root.Steps.{reciprocal_of, first_of, step_of, whole_root_of, table_root_of, table_sqrt_of};
 ghost use Rattle.root.specs.table_root.Room.{Started, StepFits};
 
+use crate::under_root;
 use double::Normal;
 
 // A root so far, and what the number has over its square.
@@ -92,7 +94,7 @@ fn near_root(m: u64) -> WholeRoot
 
 // The root of n. The root's leading one is left in the digits and adds one to the field.
 fn root_of(n: Normal) -> Root
-    requires { (2 ^ 52 ≤ n.m) × (n.m < 2 ^ 53) × (n.k < 2098) }
+    requires { InNormalForm n }
     ensures { result ≡ table_root_of n }
 {
     let found = near_root(n.m << (n.k % 2));
@@ -106,35 +108,8 @@ fn root_of(n: Normal) -> Root
 pub fn sqrt(x: f64) -> Root
     ensures { result ≡ table_sqrt_of x }
 {
-    if x != x {
-        return Root {
-            root: double::nan(),
-            steps: 0,
-        };
-    }
-    let b = f64::to_bits(x);
-    if b >= 0x8000_0000_0000_0000 {
-        if b == 0x8000_0000_0000_0000 {
-            return Root { root: x, steps: 0 };
-        }
-        return Root {
-            root: double::nan(),
-            steps: 0,
-        };
-    }
-    let f = b / 0x10_0000_0000_0000 % 2048;
-    let t = b % 0x10_0000_0000_0000;
-    match f {
-        0 => {
-            if t == 0 {
-                return Root { root: x, steps: 0 };
-            }
-            root_of(double::normal_of_low(t))
-        }
-        1..=2046 => root_of(Normal {
-            m: 0x10_0000_0000_0000 + t,
-            k: f + 51,
-        }),
-        _ => Root { root: x, steps: 0 },
+    match under_root(x) {
+        Ok(n) => root_of(n),
+        Err(root) => Root { root, steps: 0 },
     }
 }

@@ -2,6 +2,7 @@
 use crate::answer::{no_record, numbers_of, reply, same_places, same_record, told};
 use crate::input::{count, numbers};
 use algebra::vector::head;
+use cone::table::code;
 use cone::{Cone, Scaling, Settings};
 use std::io::Stdin;
 
@@ -89,8 +90,8 @@ pub fn unit_initialization(list: Stdin, cone: Cone) -> bool {
     let mut z = numbers(list, nz);
     let ns = count(list);
     let mut s = numbers(list, ns);
-    let code = call_cone::formulas::unit_initialization(cone, &mut z[..nz], &mut s[..ns]);
-    let answer = told(list, code);
+    let done = call_cone::formulas::unit_initialization(cone, &mut z[..nz], &mut s[..ns]);
+    let answer = told(list, code(done));
     let first = same_places(list, z, nz);
     let second = same_places(list, s, ns);
     answer & first & second
@@ -112,8 +113,8 @@ pub fn affine_ds(list: Stdin, cone: Cone) -> bool {
     let mut ds = numbers(list, nds);
     let ns = count(list);
     let s = numbers(list, ns);
-    let code = call_cone::formulas::affine_ds(cone, &mut ds[..nds], head(&s, ns));
-    let answer = told(list, code);
+    let done = call_cone::formulas::affine_ds(cone, &mut ds[..nds], head(&s, ns));
+    let answer = told(list, code(done));
     let slice = same_places(list, ds, nds);
     answer & slice
 }
@@ -125,13 +126,13 @@ pub fn ds_from_dz_offset(list: Stdin, cone: Cone) -> bool {
     let ds = numbers(list, nds);
     let nz = count(list);
     let z = numbers(list, nz);
-    let code = call_cone::formulas::ds_from_dz_offset(
+    let done = call_cone::formulas::ds_from_dz_offset(
         cone,
         &mut out[..no],
         head(&ds, nds),
         head(&z, nz),
     );
-    let answer = told(list, code);
+    let answer = told(list, code(done));
     let slice = same_places(list, out, no);
     answer & slice
 }
@@ -264,8 +265,8 @@ pub fn compute_barrier(list: Stdin, record: Scaling, given: [f64; 64]) -> bool {
 pub fn get_hs(list: Stdin, record: Scaling, serial: u32) -> bool {
     let n = count(list);
     let mut block = numbers(list, n);
-    let code = call_record::entries::get_hs(record, serial, &mut block[..n]);
-    let answer = told(list, code);
+    let done = call_record::entries::get_hs(record, serial, &mut block[..n]);
+    let answer = told(list, code(done));
     let slice = same_places(list, block, n);
     answer & slice
 }
@@ -275,8 +276,8 @@ pub fn mul_hs(list: Stdin, record: Scaling, serial: u32) -> bool {
     let mut y = numbers(list, ny);
     let nx = count(list);
     let x = numbers(list, nx);
-    let code = call_record::entries::mul_hs(record, serial, &mut y[..ny], head(&x, nx));
-    let answer = told(list, code);
+    let done = call_record::entries::mul_hs(record, serial, &mut y[..ny], head(&x, nx));
+    let answer = told(list, code(done));
     let slice = same_places(list, y, ny);
     answer & slice
 }
@@ -288,14 +289,14 @@ pub fn higher_correction(list: Stdin, record: Scaling, serial: u32) -> bool {
     let ds = numbers(list, nds);
     let nv = count(list);
     let v = numbers(list, nv);
-    let code = call_record::entries::higher_correction(
+    let done = call_record::entries::higher_correction(
         record,
         serial,
         &mut eta[..ne],
         head(&ds, nds),
         head(&v, nv),
     );
-    let answer = told(list, code);
+    let answer = told(list, code(done));
     let slice = same_places(list, eta, ne);
     answer & slice
 }
@@ -307,7 +308,7 @@ pub fn combined_ds_shift(list: Stdin, record: Scaling, serial: u32, given: [f64;
     let stepz = numbers(list, nsz);
     let nss = count(list);
     let steps = numbers(list, nss);
-    let code = call_record::entries::combined_ds_shift(
+    let done = call_record::entries::combined_ds_shift(
         record,
         serial,
         &mut shift[..nsh],
@@ -315,7 +316,7 @@ pub fn combined_ds_shift(list: Stdin, record: Scaling, serial: u32, given: [f64;
         head(&steps, nss),
         given[0],
     );
-    let answer = told(list, code);
+    let answer = told(list, code(done));
     let slice = same_places(list, shift, nsh);
     answer & slice
 }

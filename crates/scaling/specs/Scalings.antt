@@ -1,5 +1,5 @@
 -- Both scalings of the exponential and the power cone, as 003 computes them. Definitions only.
-use Rattle.std.specs.Prelude.{ℕ, Bool, true, false, cond, ◌&&◌, List, [], ◌∷◌, eqb, Float}
+use Rattle.std.specs.Prelude.{ℕ, Bool, Option, Some, option_map, cond, ◌&&◌, List, eqb, Float}
 use Rattle.double.specs.Operators.{◌⊖◌, ◌⊗◌, ◌⊘◌, ◌≺◌}
 use Rattle.double.specs.Numbers.{#0, #1, #3, #ε, #√ε}
 use Rattle.double.specs.Sizes.{abs_of}
@@ -9,7 +9,7 @@ use Rattle.scaling.specs.declared.primal_dual.Measures.{Measures}
 use Rattle.scaling.specs.primal_dual.Block.{primal_dual_block}
 use Rattle.cone.specs.Codes.{dual}
 use Rattle.kinds.specs.Three.{gradient_primal_of}
-use Rattle.scaling.specs.declared.Scaled.{Scaled}
+use Rattle.kinds.specs.declared.three.ThreeGradient.{ThreeGradient}
 
 -- 003 use_primal_dual_scaling, what it computes before it chooses: h and st are the dual Hessian and gradient, zt the primal gradient
 unfoldable pub measure_of : List Float → List Float → List Float → List Float → List Float → Measures
@@ -33,17 +33,16 @@ measure_of h st zt s z =
 unfoldable pub apart : Measures → Bool
 apart m = (#√ε ≺ abs_of m.de1) && (#ε ≺ abs_of m.de2) && (#0 ≺ m.dotsz) && (#0 ≺ m.dotdsz)
 
-abbrev pub scaled_by : List Float → Scaled
-scaled_by hs = record { panics = false; hs = hs }
-
--- 003 update_Hs, with use_dual_scaling and use_primal_dual_scaling. 01: "strategy 1 uses the caller's", and
--- "Fallback uses μ = ⟨s,z⟩/3, not the caller's μ"; the primal gradient's round count stays behind
-unfoldable pub update_hs_of : ℕ → Float → ℕ → Float → List Float → List Float → List Float → List Float → Scaled
-update_hs_of kind α strategy μ grad h s z =
-    let primal = gradient_primal_of kind α s in
-    let refused : Scaled = record { panics = true; hs = #0 ∷ #0 ∷ #0 ∷ #0 ∷ #0 ∷ #0 ∷ [] } in
+-- 003 use_primal_dual_scaling: the choice. 01: "Fallback uses μ = ⟨s,z⟩/3, not the caller's μ"; the primal gradient's round count stays
+-- behind
+unfoldable pub chosen : List Float → List Float → List Float → List Float → ThreeGradient → List Float
+chosen h st s z primal =
     let zt = primal.g in
-    let m = measure_of h grad zt s z in
-    cond (eqb strategy dual) (scaled_by (scaled_of μ h))
-    (cond primal.panics refused
-    (cond (apart m) (scaled_by (primal_dual_block h grad zt s z m)) (scaled_by (scaled_of m.mu h))))
+    let m = measure_of h st zt s z in
+    cond (apart m) (primal_dual_block h st zt s z m) (scaled_of m.mu h)
+
+-- 003 update_Hs, with use_dual_scaling and use_primal_dual_scaling. 01: "strategy 1 uses the caller's". There is none where the primal
+-- gradient panics
+unfoldable pub update_hs_of : ℕ → Float → ℕ → Float → List Float → List Float → List Float → List Float → Option (List Float)
+update_hs_of kind α strategy μ grad h s z =
+    cond (eqb strategy dual) (Some (scaled_of μ h)) (option_map (chosen h grad s z) (gradient_primal_of kind α s))

@@ -10,24 +10,14 @@ use crate::primal_dual::{Measures, use_primal_dual_scaling};
 use algebra::sym3::{quad_form, scaled_from};
 use algebra::vector::{dot3, moved3};
 use cone::DUAL;
-use double::abs;
+use double::{EPSILON, SQRT_EPSILON, abs};
 use kinds::three::gradient_primal;
 
 pub mod primal_dual;
 pub mod update;
 
-const EPSILON: f64 = 2.220446049250313e-16;
-
-const SQRT_EPSILON: f64 = 1.4901161193847656e-8;
-
-// The scaling matrix Hs; all +0 where the primal gradient panics.
-#[derive(Clone, Copy)]
-pub struct Scaled {
-    pub panics: bool,
-    pub hs: [f64; 6],
-}
-
-// Choose the scaling strategy: dual, or else primal-dual. grad and h are the dual gradient and Hessian at z.
+// The scaling matrix Hs: choose the scaling strategy, dual, or else primal-dual. grad and h are the dual gradient and Hessian at z. There
+// is none where the primal gradient panics.
 pub(crate) fn update_hs(
     kind: u32,
     alpha: f64,
@@ -37,32 +27,23 @@ pub(crate) fn update_hs(
     h: [f64; 6],
     s: [f64; 3],
     z: [f64; 3],
-) -> Scaled
+) -> Option<[f64; 6]>
     ensures { result ≡ update_hs_of kind alpha strategy mu grad h s z }
 {
     if strategy == DUAL {
         // Dual scaling: Hs = μ*H
-        let hs = use_dual_scaling(mu, h);
-        return Scaled { panics: false, hs };
+        return Some(use_dual_scaling(mu, h));
     }
 
-    let primal = gradient_primal(kind, alpha, s);
-    if primal.panics {
-        return Scaled {
-            panics: true,
-            hs: [0.0; 6],
-        };
-    }
+    let primal = gradient_primal(kind, alpha, s)?;
     let zt = primal.g;
     let m = measure(h, grad, zt, s, z);
     if is_apart(m) {
         // use the primal-dual scaling
-        let hs = use_primal_dual_scaling(h, grad, zt, s, z, m);
-        return Scaled { panics: false, hs };
+        return Some(use_primal_dual_scaling(h, grad, zt, s, z, m));
     }
     // use the dual scaling: Hs = μH when s,z are on the central path, with μ = ⟨s,z⟩/3 and not the caller's
-    let hs = use_dual_scaling(m.mu, h);
-    Scaled { panics: false, hs }
+    Some(use_dual_scaling(m.mu, h))
 }
 
 // implements dual only scaling

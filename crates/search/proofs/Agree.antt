@@ -11,6 +11,6 @@ use Rattle.search.proofs.backtrack_search.Reads as backtrack_search
 pub searched : {x y : Searched} {p q : List Float} → outcome x.step x.count p ≡ outcome y.step y.count q → (x ≡ y) × (p ≡ q)
 searched e = (ap (λ (o : Outcome). record { step = o.step; count = o.count }) e, ap (λ (o : Outcome). o.point) e)
 
--- the point is the eighth argument
-pub backtrack_search_agrees : OneOutcome backtrack_search.Post {A = List Float} (λ κs s. s.1.1.1.1.1.1.1.0.now)
+-- the point is the sixth argument
+pub backtrack_search_agrees : OneOutcome backtrack_search.Post {A = List Float} (λ κs s. s.1.1.1.1.1.0.now)
 backtrack_search_agrees κs a x y s t p q = searched (p ∙ sym q)

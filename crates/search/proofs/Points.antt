@@ -1,5 +1,5 @@
 -- The length of a trial's point and its parts, and the loops that write a list into a lent slice from the front. Assumes nothing.
-use mathlib.Core.Path.{◌≡◌, refl, ap}
+use mathlib.Core.Path.{◌≡◌, refl, ap, ◌∙◌}
 use mathlib.Core.List.{List, [], ◌∷◌}
 use Prim.Native.Nat.{ℕ, zero, suc, ◌+◌, ◌≤◌, ◌<◌}
 use native.Mathlib.Omega.{arith}
@@ -36,8 +36,8 @@ pub record Filled (l p₀ p : List Float) (i : ℕ) : Type 0 where
   pub upto : i ≤ length l
   pub same : take i p ≡ take i l
 
-pub filled_none : (l p : List Float) → Filled l p p 0
-filled_none l p = record { long = refl; upto = omega arith; same = refl }
+pub filled_none : (l p : List Float) (i : ℕ) → i ≡ 0 → Filled l p p i
+filled_none l p i e = rw e (record { long = refl; upto = omega arith; same = refl })
 
 pub filled_more : (l p₀ p : List Float) (i : ℕ) (a z : Float) → length p₀ ≡ length l → Filled l p₀ p i → i < length l → a ≡ get_or l i z
     → Filled l p₀ (set p i a) (i + 1)
@@ -49,3 +49,14 @@ filled_more l p₀ p i a z e f h g = record {
 
 pub filled_all : (l p₀ p : List Float) (i : ℕ) → length p₀ ≡ length l → Filled l p₀ p i → length l ≤ i → p ≡ l
 filled_all l p₀ p i e f h = fill_end p l i (omega arith) (omega arith) f.same
+
+-- what is left of a list from place i on begins with the number there
+pub left-next : (xs : List Float) (i : ℕ) (z : Float) {x : Float} {rest : List Float} → drop i xs ≡ x ∷ rest
+    → (rest ≡ drop (i + 1) xs) × (i < length xs) × (x ≡ get_or xs i z)
+left-next [] zero z e = absurd (grind arith)
+left-next [] (suc i) z e = absurd (grind arith)
+left-next (y ∷ ys) zero z e = (grind arith, omega arith, grind arith)
+left-next (y ∷ ys) (suc i) z e =
+    let more = left-next ys i z e in
+    let k : suc (i + 1) ≡ suc i + 1 = omega arith in
+    (more.0 ∙ ap (λ (n : ℕ). drop n (y ∷ ys)) k, omega (arith, more.1), more.2)

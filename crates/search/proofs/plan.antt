@@ -4,5 +4,6 @@ pub mod Plans
 pub mod EachCone
 pub mod OneCone
 pub mod Sides
+pub mod Costs
 pub mod EachSide
 pub mod Agree

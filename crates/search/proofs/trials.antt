@@ -8,3 +8,4 @@ pub mod SameTests
 pub mod TwoTests
 pub mod Costed
 pub mod LargestPassing
+pub mod OneMore

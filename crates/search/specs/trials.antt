@@ -4,3 +4,4 @@ pub mod TwoTests
 pub mod FirstPassing
 pub mod Costed
 pub mod LargestPassing
+pub mod Asked

@@ -1,10 +1,10 @@
 -- No file, and one file more, of those that were read and added one by one; and the text of their sheet. Assumes nothing.
 use mathlib.Core.Path.{◌≡◌, refl, sym, ap, ◌∙◌}
-use mathlib.Core.Bool.{Bool, true, false}
 use mathlib.Core.List.{List, [], ◌∷◌, ◌++◌}
 use Prim.Native.Nat.{ℕ, ◌+◌, ◌≤◌}
 use native.Mathlib.Omega.{arith}
 use lib.ListN.{length, length-append}
+use Rattle.std.specs.Prelude.{Some}
 use Rattle.octets.specs.words.Words.{AllBelow}
 use Rattle.trace_layout.specs.Traces.{most_files}
 use Rattle.trace_sheet.specs.counts.Laws.{AllBytes}
@@ -45,21 +45,19 @@ one_more n before mid after bs so_far bytes e = record {
   held = e ∙ ap (λ (h : Held). add_of h bs) so_far.held ∙ sym (add_last before so_far.files bs);
 }
 
--- where a file was not read, nothing is said of their number
-pub unread : (m n : ℕ) → false ≡ true → m ≡ n
-unread m n e = let z : ◌≡◌ {A = ℕ} 0 1 = cc in absurd (omega arith)
-
 -- every file was read: what is printed is the text of their sheet
-module _ (asked : ℕ) (old new : List ℕ) (before after : Held) (few : asked ≤ most_files) (room : text_room ≤ length old)
-    (begun : Begun before) (flags : length before.skipped ≡ most_files) where
-  pub sheet_printed : (done : Bool) → done ≡ true → FilesCounted asked done before after → (answer : Printed)
-      → record { answer = answer; text = new } ≡ print_of old after → SheetPrinted asked answer.length old new
-  sheet_printed done is counted answer told =
+module _ (asked : ℕ) (old new : List ℕ) (before : Held) (dual primal skipped : List ℕ) (few : asked ≤ most_files)
+    (room : text_room ≤ length old) (begun : Begun before) (flags : length before.skipped ≡ most_files) where
+  pub sheet_printed : (t : Totals) → FilesCounted asked (Some t) before dual primal skipped → (answer : Printed)
+      → record { answer = answer; text = new } ≡ print_of old (record { totals = t; dual = dual; primal = primal; skipped = skipped })
+      → SheetPrinted asked answer.length old new
+  sheet_printed t counted answer told =
       let files = counted.added.files in
-      let all : length files ≡ asked = counted.added.all ∙ counted.all is in
+      let all : length files ≡ asked = counted.added.all ∙ counted.all.1 in
       let fit : Countable (length before.skipped) files =
       record { bytes = counted.added.bytes; few = omega arith; flags = omega arith } in
-      let whole = told ∙ ap (print_of old) counted.added.held ∙ files_printed.one_by_one old before files room begun fit in
+      let held : Totals → Held = λ u. record { totals = u; dual = dual; primal = primal; skipped = skipped } in
+      let whole = told ∙ ap (λ (u : Totals). print_of old (held u)) counted.all.0 ∙ ap (print_of old) counted.added.held ∙ files_printed.one_by_one old before files room begun fit in
       record {
         files = files;
         bytes = counted.added.bytes;

@@ -1,9 +1,10 @@
 -- What the program leaves of the files that it is given. What stands in them is no argument of a function: a contract can say that there are
 -- files of which this is the sheet, and not that they are those that the system hands over. 02, Order 14. Definitions only.
-use Rattle.std.specs.Prelude.{ℕ, ◌≤◌, ◌≡◌, Bool, true, ◌⊎◌, List, length}
+use Rattle.std.specs.Prelude.{ℕ, ◌≤◌, ◌≡◌, Option, ◌⊎◌, List, length, IfSome}
 use Rattle.std.proofs.lemmas.List.Edits.{sets}
 use Rattle.trace_sheet.specs.counts.Laws.{AllBytes}
 use Rattle.trace_sheet.specs.counts.Sheet.{sheet_of}
+use Rattle.trace_sheet.specs.declared.rows.Totals.{Totals}
 use Rattle.trace_sheet.specs.rows.Rows.{Held}
 use Rattle.trace_sheet.specs.rows.Sums.{add_all}
 use Rattle.trace_sheet.specs.text.Printed.{sheet_text}
@@ -15,12 +16,13 @@ pub record Added (n : ℕ) (before after : Held) : Type 0 where
   pub all : length files ≡ n
   pub held : after ≡ add_all before files
 
--- .. as many as asked for, where every one could be read
-pub record FilesCounted (asked : ℕ) (done : Bool) (before after : Held) : Type 0 where
+-- .. as many as asked for, where every one could be read: what is counted is their totals
+pub record FilesCounted (asked : ℕ) (counted : Option Totals) (before : Held) (dual primal skipped : List ℕ) : Type 0 where
   pub n : ℕ
   pub few : n ≤ asked
-  pub all : done ≡ true → n ≡ asked
-  pub added : Added n before after
+  pub totals : Totals
+  pub all : IfSome counted (λ t. (t ≡ totals) × (n ≡ asked))
+  pub added : Added n before (record { totals = totals; dual = dual; primal = primal; skipped = skipped })
 
 -- the text of the sheet of as many files as asked for: n bytes, from the first on
 pub record SheetPrinted (asked n : ℕ) (old new : List ℕ) : Type 0 where

@@ -57,15 +57,8 @@ fn nothing() -> Totals
     }
 }
 
-// What was counted, and whether every file was read.
-#[derive(Clone, Copy)]
-struct Counted {
-    done: bool,
-    totals: Totals,
-}
-
-// The files one after the other, each into the same room. What stands in them is no argument, so that the contract says of some files what
-// the rows hold.
+// The files one after the other, each into the same room; None where one could not be read. What stands in them is no argument, so that the
+// contract says of some files what the rows hold.
 fn count_files(
     rt: &HostRuntime,
     files: usize,
@@ -73,23 +66,17 @@ fn count_files(
     dual: &mut [u64],
     primal: &mut [u64],
     skipped: &mut [u8],
-) -> Counted
-    ensures { FilesCounted files result.done
+) -> Option<Totals>
+    ensures { FilesCounted files result
         (record { totals = totals_of (sheet_of []); dual = dual.old; primal = primal.old; skipped = skipped.old })
-        (record { totals = result.totals; dual = dual.new; primal = primal.new; skipped = skipped.new }) }
+        dual.new primal.new skipped.new }
 {
     let mut totals = nothing();
     for i in 0..files {
-        let got = read_argument(rt, i + 1, b"FILE", file);
-        if !got.done {
-            return Counted {
-                done: false,
-                totals,
-            };
-        }
-        totals = add(totals, dual, primal, skipped, front(file, got.count));
+        let n = read_argument(rt, i + 1, b"FILE", file)?;
+        totals = add(totals, dual, primal, skipped, front(file, n));
     }
-    Counted { done: true, totals }
+    Some(totals)
 }
 
 // The text of their sheet, and its length; 0 where one could not be read.
@@ -101,11 +88,9 @@ fn put_files(rt: &HostRuntime, files: usize, text: &mut [u8]) -> usize
     let mut dual = count_room();
     let mut primal = count_room();
     let mut skipped = flag_room();
-    let counted = count_files(rt, files, &mut file, &mut dual, &mut primal, &mut skipped);
-    if !counted.done {
+    let Some(sheet) = count_files(rt, files, &mut file, &mut dual, &mut primal, &mut skipped) else {
         return 0;
-    }
-    let sheet = counted.totals;
+    };
     let printed = put_sheet(text, sheet, &dual, &primal, &skipped);
     printed.length as usize
 }

@@ -217,7 +217,7 @@ pub extern "C" fn spindle_unit_initialization(cone: Cone, z: &mut [f64], s: &mut
     ensures { record { answer = result; first = z.new; second = s.new }
         ≡ unit_initialization_of cone z.old s.old }
 {
-    call_cone::formulas::unit_initialization(cone, z, s)
+    cone::table::code(call_cone::formulas::unit_initialization(cone, z, s))
 }
 
 #[unsafe(no_mangle)]
@@ -232,7 +232,7 @@ pub extern "C" fn spindle_rectify_equilibration(cone: Cone, delta: &mut [f64], e
 pub extern "C" fn spindle_affine_ds(cone: Cone, ds: &mut [f64], s: &[f64]) -> u32
     ensures { record { answer = result; slice = ds.new } ≡ affine_ds_of cone ds.old s.now }
 {
-    call_cone::formulas::affine_ds(cone, ds, s)
+    cone::table::code(call_cone::formulas::affine_ds(cone, ds, s))
 }
 
 #[unsafe(no_mangle)]
@@ -245,7 +245,7 @@ pub extern "C" fn spindle_ds_from_dz_offset(
     ensures { record { answer = result; slice = out.new }
         ≡ ds_from_dz_offset_of cone out.old ds.now z.now }
 {
-    call_cone::formulas::ds_from_dz_offset(cone, out, ds, z)
+    cone::table::code(call_cone::formulas::ds_from_dz_offset(cone, out, ds, z))
 }
 
 // ---- entries that take a scaling record
@@ -295,14 +295,14 @@ pub extern "C" fn spindle_compute_barrier(
 pub extern "C" fn spindle_get_hs(scaling: Scaling, serial: u32, block: &mut [f64]) -> u32
     ensures { record { answer = result; slice = block.new } ≡ get_hs_of scaling serial block.old }
 {
-    call_record::entries::get_hs(scaling, serial, block)
+    cone::table::code(call_record::entries::get_hs(scaling, serial, block))
 }
 
 #[unsafe(no_mangle)]
 pub extern "C" fn spindle_mul_hs(scaling: Scaling, serial: u32, y: &mut [f64], x: &[f64]) -> u32
     ensures { record { answer = result; slice = y.new } ≡ mul_hs_of scaling serial y.old x.now }
 {
-    call_record::entries::mul_hs(scaling, serial, y, x)
+    cone::table::code(call_record::entries::mul_hs(scaling, serial, y, x))
 }
 
 #[unsafe(no_mangle)]
@@ -316,7 +316,7 @@ pub extern "C" fn spindle_higher_correction(
     ensures { record { answer = result; slice = eta.new }
         ≡ higher_correction_of scaling serial eta.old ds.now v.now }
 {
-    call_record::entries::higher_correction(scaling, serial, eta, ds, v)
+    cone::table::code(call_record::entries::higher_correction(scaling, serial, eta, ds, v))
 }
 
 #[unsafe(no_mangle)]
@@ -331,7 +331,9 @@ pub extern "C" fn spindle_combined_ds_shift(
     ensures { record { answer = result; slice = shifted.new }
         ≡ combined_ds_shift_of scaling serial shifted.old stepz.now steps.now sigmamu }
 {
-    call_record::entries::combined_ds_shift(scaling, serial, shifted, stepz, steps, sigmamu)
+    cone::table::code(call_record::entries::combined_ds_shift(
+        scaling, serial, shifted, stepz, steps, sigmamu,
+    ))
 }
 
 // ---- the same entries with a record where it lies: a number by its value, an array by its address, in the header's order. The header has
@@ -369,10 +371,11 @@ pub extern "C" fn spindle_lent_update_scaling<'a>(
         (wide_of keptz.now keptmu grad.now p.now q.now r.now d1.now d2))
         s.now z.now mu strategy }
 {
-    call_record::update::update_in_place(
+    let lent = call_record::parts::lent(
         kind, dim1, dim2, rule, exps, scaled, own, z3, grad3, hdual, hs, keptz, keptmu, grad, p, q,
-        r, d1, d2, s, z, mu, strategy,
-    )
+        r, d1, d2,
+    );
+    call_record::update::update_in_place(&lent, s, z, mu, strategy)
 }
 
 #[unsafe(no_mangle)]
@@ -405,10 +408,11 @@ pub extern "C" fn spindle_lent_gradient_primal<'a>(
         (wide_of keptz.now keptmu grad.now p.now q.now r.now d1.now d2))
         g.old s.now }
 {
-    call_record::in_place::gradient_primal(
+    let lent = call_record::parts::lent(
         kind, dim1, dim2, rule, exps, scaled, own, z3, grad3, hdual, hs, keptz, keptmu, grad, p, q,
-        r, d1, d2, g, s,
-    )
+        r, d1, d2,
+    );
+    call_record::in_place::gradient_primal(&lent, g, s)
 }
 
 #[unsafe(no_mangle)]
@@ -440,10 +444,11 @@ pub extern "C" fn spindle_lent_barrier_primal<'a>(
         (wide_of keptz.now keptmu grad.now p.now q.now r.now d1.now d2))
         s.now }
 {
-    call_record::in_place::barrier_primal(
+    let lent = call_record::parts::lent(
         kind, dim1, dim2, rule, exps, scaled, own, z3, grad3, hdual, hs, keptz, keptmu, grad, p, q,
-        r, d1, d2, s,
-    )
+        r, d1, d2,
+    );
+    call_record::in_place::barrier_primal(&lent, s)
 }
 
 #[unsafe(no_mangle)]
@@ -479,10 +484,11 @@ pub extern "C" fn spindle_lent_compute_barrier<'a>(
         (wide_of keptz.now keptmu grad.now p.now q.now r.now d1.now d2))
         z.now s.now dz.now ds.now alpha }
 {
-    call_record::in_place::compute_barrier(
+    let lent = call_record::parts::lent(
         kind, dim1, dim2, rule, exps, scaled, own, z3, grad3, hdual, hs, keptz, keptmu, grad, p, q,
-        r, d1, d2, z, s, dz, ds, alpha,
-    )
+        r, d1, d2,
+    );
+    call_record::in_place::compute_barrier(&lent, z, s, dz, ds, alpha)
 }
 
 #[unsafe(no_mangle)]
@@ -515,10 +521,11 @@ pub extern "C" fn spindle_lent_get_hs<'a>(
         (wide_of keptz.now keptmu grad.now p.now q.now r.now d1.now d2))
         serial block.old }
 {
-    call_record::in_place::get_hs(
+    let lent = call_record::parts::lent(
         kind, dim1, dim2, rule, exps, scaled, own, z3, grad3, hdual, hs, keptz, keptmu, grad, p, q,
-        r, d1, d2, serial, block,
-    )
+        r, d1, d2,
+    );
+    cone::table::code(call_record::in_place::get_hs(&lent, serial, block))
 }
 
 #[unsafe(no_mangle)]
@@ -552,10 +559,11 @@ pub extern "C" fn spindle_lent_mul_hs<'a>(
         (wide_of keptz.now keptmu grad.now p.now q.now r.now d1.now d2))
         serial y.old x.now }
 {
-    call_record::in_place::mul_hs(
+    let lent = call_record::parts::lent(
         kind, dim1, dim2, rule, exps, scaled, own, z3, grad3, hdual, hs, keptz, keptmu, grad, p, q,
-        r, d1, d2, serial, y, x,
-    )
+        r, d1, d2,
+    );
+    cone::table::code(call_record::in_place::mul_hs(&lent, serial, y, x))
 }
 
 #[unsafe(no_mangle)]
@@ -590,10 +598,11 @@ pub extern "C" fn spindle_lent_higher_correction<'a>(
         (wide_of keptz.now keptmu grad.now p.now q.now r.now d1.now d2))
         serial eta.old ds.now v.now }
 {
-    call_record::in_place::higher_correction(
+    let lent = call_record::parts::lent(
         kind, dim1, dim2, rule, exps, scaled, own, z3, grad3, hdual, hs, keptz, keptmu, grad, p, q,
-        r, d1, d2, serial, eta, ds, v,
-    )
+        r, d1, d2,
+    );
+    cone::table::code(call_record::in_place::higher_correction(&lent, serial, eta, ds, v))
 }
 
 #[unsafe(no_mangle)]
@@ -629,10 +638,13 @@ pub extern "C" fn spindle_lent_combined_ds_shift<'a>(
         (wide_of keptz.now keptmu grad.now p.now q.now r.now d1.now d2))
         serial shifted.old stepz.now steps.now sigmamu }
 {
-    call_record::in_place::combined_ds_shift(
+    let lent = call_record::parts::lent(
         kind, dim1, dim2, rule, exps, scaled, own, z3, grad3, hdual, hs, keptz, keptmu, grad, p, q,
-        r, d1, d2, serial, shifted, stepz, steps, sigmamu,
-    )
+        r, d1, d2,
+    );
+    cone::table::code(call_record::in_place::combined_ds_shift(
+        &lent, serial, shifted, stepz, steps, sigmamu,
+    ))
 }
 
 // ---- 02, Order 1: traces of step searches

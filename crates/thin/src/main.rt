@@ -46,8 +46,7 @@ fn main(rt: HostRuntime) {
         return;
     }
     let mut file = file_room();
-    let got = read_argument(&rt, 1, b"IN", &mut file);
-    if got.done {
-        save(&rt, &file[..got.count]);
+    if let Some(n) = read_argument(&rt, 1, b"IN", &mut file) {
+        save(&rt, &file[..n]);
     }
 }

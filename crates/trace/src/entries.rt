@@ -2,6 +2,7 @@
 // "Refusals, the only ones here: 9 a trace or record that breaks the layout; then 8 no room for record plus list plus trailer, or 4,096
 // records already"
 ghost use Rattle.std.specs.Prelude.{◌≡◌};
+ghost use Rattle.cone.specs.table.Table.{number_of};
 ghost use Rattle.octets.specs.words.Words.{AllBelow};
 ghost use Rattle.trace.specs.entries.Values.{Passed};
 ghost use Rattle.trace.specs.entries.Opened.{opened_of};
@@ -10,6 +11,7 @@ ghost use Rattle.trace.specs.entries.Writing.{create_of, append_of};
 use crate::places::{entry_of, place_for};
 use crate::writer::write::{insert, put_trailer};
 use algebra::vector::head;
+use cone::table::Refusal;
 use cone::{Cone, Settings, Steps};
 use trace_layout::pieces::layout::exponents;
 use trace_layout::pieces::{NEWEST_EDITION, TRAILER_SIZE};
@@ -20,6 +22,17 @@ use trace_layout::pieces::{NEWEST_EDITION, TRAILER_SIZE};
 pub struct Written {
     pub code: u32,
     pub length: u64,
+}
+
+impl Written {
+    pub(crate) fn refused(refusal: Refusal) -> Written
+        ensures { result ≡ record { code = number_of refusal; length = 0 } }
+    {
+        Written {
+            code: refusal.number(),
+            length: 0,
+        }
+    }
 }
 
 // A trace that was judged: 0 or 9, its edition and its count of records.
@@ -47,7 +60,7 @@ pub fn create(trace: &mut [u8]) -> Written
     ensures { record { answer = result; bytes = trace.new } ≡ create_of trace.old }
 {
     if trace.len() < TRAILER_SIZE {
-        return Written { code: 8, length: 0 };
+        return Written::refused(Refusal::NoRoom);
     }
     put_trailer(trace, 0, 0, 0, NEWEST_EDITION);
     Written {

@@ -5,7 +5,7 @@ ghost use Rattle.trace.specs.judge.Opening.{trailer_at, trailer_ok_with, good_wi
 
 use crate::reader::current_in;
 use octets::words::{behind, front, u32_at, u64_at};
-use trace_layout::pieces::{BACK_MARK, MOST_RECORDS, NEWEST_EDITION, Piece, TRAILER_SIZE};
+use trace_layout::pieces::{BACK_MARK, MOST_RECORDS, NEWEST_EDITION, TRAILER_SIZE};
 
 // As many records as a trace may have, as its trailer counts them.
 pub(crate) const MOST_COUNT: u32 = MOST_RECORDS as u32;
@@ -85,8 +85,9 @@ fn walk(edition: u32, body: &[u8], entries: &[u8], count: usize) -> bool
     ensures { result ≡ walks edition count 0 body.now entries.now }
 {
     let mut at = 0;
+    // By number: the entries may be fewer than count.
     for i in 0..count {
-        let Piece::Record(shape) = current_in(body, at, edition) else {
+        let Some(shape) = current_in(body, at, edition) else {
             return false;
         };
         if u64_at(entries, 8 * i) as usize != at {

@@ -7,7 +7,7 @@ ghost use Rattle.trace.specs.places.Given.{entry_of};
 ghost use Rattle.trace.specs.places.Places.{open_front, entry_ok, place_for, has_room};
 
 use crate::judge::MOST_COUNT;
-use cone::table::trace_row;
+use cone::table::{code, trace_row};
 use cone::{Cone, Settings, Steps};
 use double::to_bits;
 use octets::words::front;
@@ -109,7 +109,7 @@ pub(crate) fn place_for(
     let size = size_for(opened.edition, x.kind, x.dim1, x.dim2, x.flag);
     let laid = entry_ok(opened.edition, x, ndz, nds, nz, ns);
     let room = has_room(trace.len(), used, opened.count, size);
-    let code = trace_row((opened.code != 0) | !laid, !room);
+    let code = code(trace_row((opened.code != 0) | !laid, !room));
     Place {
         code,
         edition: opened.edition,

@@ -15,8 +15,8 @@ fn put_row(bytes: &mut [u8], place: usize, row: &[f64])
     requires { place + 8 * length row.now ≤ length bytes.old }
     ensures { bytes.new ≡ sets bytes.old place (row_bytes 8 (bits_of row.now)) }
 {
-    for i in 0..row.len() {
-        put(bytes, place + 8 * i, 8, to_bits(row[i]));
+    for (i, x) in row.iter().enumerate() {
+        put(bytes, place + 8 * i, 8, to_bits(*x));
     }
 }
 

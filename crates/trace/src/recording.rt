@@ -8,16 +8,15 @@ ghost use Rattle.trace.specs.recording.Recording.{record_put_of, record_at_of, t
 use crate::entries::Written;
 use crate::judge::known;
 use crate::places::{entry_of, entry_ok};
-use crate::reader::current_in;
 use crate::record_writer::put_record;
-use crate::value::{Recorded, recorded_at, refused_record};
+use crate::value::{Found, Recorded, refused_record};
 use crate::whole::walk;
 use algebra::vector::head;
-use cone::table::trace_row;
+use cone::table::{Refusal, trace_row};
 use cone::{Cone, Settings, Steps};
-use octets::words::{behind, front};
+use octets::words::front;
+use trace_layout::pieces::TRAILER_SIZE;
 use trace_layout::pieces::layout::{exponents, size_for};
-use trace_layout::pieces::{Piece, TRAILER_SIZE};
 use trace_layout::rooms::row;
 
 // Whether n bytes from a place on do not lie in the slice. No sum is made that could wrap.
@@ -55,9 +54,8 @@ pub fn put(
     let size = size_for(edition, x.kind, x.dim1, x.dim2, x.flag);
     let laid = entry_ok(edition, x, dz.len(), ds.len(), z.len(), s.len());
     let good = known(edition) & laid & (at <= bytes.len());
-    let code = trace_row(!good, short(bytes.len(), at, size));
-    if code != 0 {
-        return Written { code, length: 0 };
+    if let Err(refusal) = trace_row(!good, short(bytes.len(), at, size)) {
+        return Written::refused(refusal);
     }
     let n = exponents(x.kind, x.dim1);
     put_record(bytes, at, edition, x, head(&cone.exps, n), dz, ds, z, s);
@@ -72,12 +70,12 @@ pub fn record_at(bytes: &[u8], edition: u32, at: usize) -> Recorded
     ensures { result ≡ record_at_of bytes.now edition at }
 {
     if !known(edition) {
-        return refused_record(9);
+        return refused_record(Refusal::BrokenTrace);
     }
-    let Piece::Record(shape) = current_in(bytes, at, edition) else {
-        return refused_record(9);
+    let Some(found) = Found::find(bytes, at, edition) else {
+        return refused_record(Refusal::BrokenTrace);
     };
-    recorded_at(edition, behind(bytes, at), shape, at as u64)
+    found.recorded(at as u64)
 }
 
 // List and trailer behind the whole records that the first `used` bytes are.
@@ -88,9 +86,8 @@ pub fn seal(bytes: &mut [u8], used: usize, edition: u32) -> Written
     let walked = walk(edition, front(bytes, used), &mut starts);
     let length = walked.end + 8 * walked.count + TRAILER_SIZE;
     let whole = (used <= bytes.len()) & (walked.end == used);
-    let code = trace_row(!(known(edition) & whole), bytes.len() < length);
-    if code != 0 {
-        return Written { code, length: 0 };
+    if let Err(refusal) = trace_row(!(known(edition) & whole), bytes.len() < length) {
+        return Written::refused(refusal);
     }
     crate::seal::seal(bytes, used, &starts[..walked.count], edition);
     Written {

@@ -1,21 +1,24 @@
 // A record of a trace by value, its numbers as doubles. 02, Order 1: "what one writes the other reads back the same".
-ghost use Rattle.std.specs.Prelude.{◌≡◌, true, ◌+◌, ◌*◌, ◌^◌, ◌≤◌, ◌<◌};
+ghost use Rattle.std.specs.Prelude.{◌≡◌, true, ◌+◌, ◌*◌, ◌^◌, ◌≤◌, ◌<◌, drop, IfSome, option_map};
+ghost use Rattle.cone.specs.table.Table.{number_of};
 ghost use Rattle.std.specs.Float.{binary64};
 ghost use Rattle.std.specs.Float.Ieee.{of_bits};
 ghost use Rattle.octets.specs.words.Words.{word_at};
-ghost use Rattle.trace_layout.specs.Records.{rule_at, laid_at, record_at};
+ghost use Rattle.trace_layout.specs.Records.{rule_at, flag_place, settings_in, laid_at, record_at};
 ghost use Rattle.trace_layout.specs.pieces.Shapes.{shape_at};
+ghost use Rattle.trace.specs.reader.Reading.{found_from};
 ghost use Rattle.trace.specs.value.Defaults.{default_step, default_of};
 ghost use Rattle.trace.specs.value.Recorded.{row_in, cone_of, settings_of, steps_of, recorded_of, refused_record, recorded_in};
 
 use crate::judge::open;
 use crate::reader::current_in;
+use cone::table::Refusal;
 use cone::{Cone, Settings, Steps, empty_cone};
 use double::of_bits;
 use octets::words::{behind, front, u32_at, u64_at};
 use trace_layout::pieces::layout::{exponents, flag_place, rules_in, settings_in};
 use trace_layout::pieces::{
-    DUAL_COUNT_BACK, DUAL_STEP_BACK, HEAD_SIZE, PRIMAL_COUNT_BACK, PRIMAL_STEP_BACK, Piece, Shape,
+    DUAL_COUNT_BACK, DUAL_STEP_BACK, HEAD_SIZE, PRIMAL_COUNT_BACK, PRIMAL_STEP_BACK, Shape,
 };
 
 // A record, or the number of a refusal: where it begins, and where the next one does. Of each vector the first dim1 + dim2 places are used,
@@ -36,62 +39,33 @@ pub struct Recorded {
     pub steps: Steps,
 }
 
+// A record that was found at the front of bytes.
+#[derive(Clone, Copy)]
+pub struct Found<'a> {
+    pub edition: u32,
+    pub bytes: &'a [u8],
+    pub shape: Shape,
+    ghost laid: { laid_at edition bytes.now ≡ true },
+    ghost read: { shape ≡ shape_at edition bytes.now },
+}
+
 fn f64_at(bytes: &[u8], place: usize) -> f64
     ensures { result ≡ of_bits binary64 (word_at 8 bytes.now place) }
 {
     of_bits(u64_at(bytes, place))
 }
 
-// The first n doubles of a row of bytes, in 64 places.
-fn row64(bytes: &[u8], n: usize) -> [f64; 64]
-    requires { n ≤ 64 }
-    ensures { result ≡ row_in 64 n bytes.now }
+// The first n doubles of a row of bytes, in N places: 64 of a vector, 32 of a cone's exponents.
+fn row<const N: usize>(bytes: &[u8], n: usize) -> [f64; N]
+    requires { n ≤ N }
+    ensures { result ≡ row_in N n bytes.now }
 {
-    let mut row = [0.0; 64];
+    let mut row = [0.0; N];
+    // By number: the bytes may be fewer, and those that are missing are read as 0.
     for i in 0..n {
         row[i] = f64_at(bytes, 8 * i);
     }
     row
-}
-
-// The same in the 32 exponent places of a cone.
-fn row32(bytes: &[u8], n: usize) -> [f64; 32]
-    requires { n ≤ 32 }
-    ensures { result ≡ row_in 32 n bytes.now }
-{
-    let mut row = [0.0; 32];
-    for i in 0..n {
-        row[i] = f64_at(bytes, 8 * i);
-    }
-    row
-}
-
-// The rule stands behind the dims, in an edition that has it.
-fn rule_at(edition: u32, t: &[u8]) -> u32
-    ensures { result ≡ rule_at edition t.now }
-{
-    if rules_in(edition) == 0 {
-        1
-    } else {
-        u32_at(t, HEAD_SIZE)
-    }
-}
-
-fn cone_at(edition: u32, t: &[u8], shape: Shape) -> Cone
-    requires { (laid_at edition t.now ≡ true) × (shape ≡ shape_at edition t.now) }
-    ensures { result ≡ cone_of (record_at edition t.now) }
-{
-    let n = exponents(shape.kind, shape.dim1);
-    let place = HEAD_SIZE + 4 * rules_in(edition);
-    let exps = row32(behind(t, place), n);
-    let rule = rule_at(edition, t);
-    Cone {
-        kind: shape.kind,
-        dim1: shape.dim1,
-        dim2: shape.dim2,
-        rule,
-        exps,
-    }
 }
 
 // 02, Order 8: "A trace of edition 1 means 0.8 by its flag; new traces are edition 2 and mean 0.5"; Order 9: edition 3 has "the default
@@ -114,72 +88,138 @@ fn default_settings(edition: u32, start: f64) -> Settings
     }
 }
 
-// Start, and the step and smallest step that follow a flag of 0 or are the edition's own.
-fn settings_at(edition: u32, t: &[u8], shape: Shape) -> Settings
-    requires { (laid_at edition t.now ≡ true) × (shape ≡ shape_at edition t.now) }
-    ensures { result ≡ settings_of edition (record_at edition t.now) }
-{
-    let place = flag_place(edition, shape.kind, shape.dim1);
-    let start = f64_at(t, place - 8);
-    if shape.flag == 0 {
-        return Settings {
-            start,
-            step: f64_at(t, place + 4),
-            smallest: f64_at(t, place + 12),
-        };
+impl<'a> Found<'a> {
+    // The record at a place, if one stands there.
+    pub fn find(bytes: &'a [u8], at: usize, edition: u32) -> Option<Found<'a>>
+        ensures shape { option_map (λ f. f.shape) result ≡ found_from bytes.now at edition }
+        ensures bytes { IfSome result (λ f. (f.edition ≡ edition) × (f.bytes.now ≡ drop at bytes.now)) }
+    {
+        let shape = current_in(bytes, at, edition)?;
+        let bytes = behind(bytes, at);
+        Some(Found {
+            edition,
+            bytes,
+            shape,
+        })
     }
-    default_settings(edition, start)
+
+    // The rule stands behind the dims, in an edition that has it.
+    fn rule(self) -> u32
+        ensures { result ≡ rule_at self.entry.edition self.entry.bytes.now }
+    {
+        if rules_in(self.edition) == 0 {
+            1
+        } else {
+            u32_at(self.bytes, HEAD_SIZE)
+        }
+    }
+
+    fn cone(self) -> Cone
+        ensures { result ≡ cone_of (record_at self.entry.edition self.entry.bytes.now) }
+    {
+        let shape = self.shape;
+        let n = exponents(shape.kind, shape.dim1);
+        let place = HEAD_SIZE + 4 * rules_in(self.edition);
+        let exps = row(behind(self.bytes, place), n);
+        let rule = self.rule();
+        Cone {
+            kind: shape.kind,
+            dim1: shape.dim1,
+            dim2: shape.dim2,
+            rule,
+            exps,
+        }
+    }
+
+    // Where the flag stands.
+    fn flag_place(self) -> usize
+        ensures { (result ≡ flag_place self.entry.edition self.entry.shape.kind self.entry.shape.dim1) × (28 ≤ result) × (result ≤ 288) }
+    {
+        flag_place(self.edition, self.shape.kind, self.shape.dim1)
+    }
+
+    // Start, and the step and smallest step that follow a flag of 0 or are the edition's own.
+    fn settings(self) -> Settings
+        ensures { result ≡ settings_of self.entry.edition (record_at self.entry.edition self.entry.bytes.now) }
+    {
+        let place = self.flag_place();
+        let start = f64_at(self.bytes, place - 8);
+        if self.shape.flag == 0 {
+            return Settings {
+                start,
+                step: f64_at(self.bytes, place + 4),
+                smallest: f64_at(self.bytes, place + 12),
+            };
+        }
+        default_settings(self.edition, start)
+    }
+
+    // How many numbers each vector has.
+    fn numbers(self) -> usize
+        ensures { (result ≡ self.entry.shape.dim1 + self.entry.shape.dim2) × (result ≤ 64) }
+    {
+        self.shape.dim1 as usize + self.shape.dim2 as usize
+    }
+
+    // Where the vectors stand.
+    fn vectors_place(self) -> usize
+        ensures { (result
+            ≡ flag_place self.entry.edition self.entry.shape.kind self.entry.shape.dim1 + 4 + 8 * settings_in self.entry.shape.flag)
+            × (result ≤ 308) }
+    {
+        self.flag_place() + 4 + 8 * settings_in(self.shape.flag)
+    }
+
+    fn steps(self) -> Steps
+        ensures { result ≡ steps_of (record_at self.entry.edition self.entry.bytes.now) }
+    {
+        let size = self.shape.size;
+        let dualstep = f64_at(self.bytes, size - DUAL_STEP_BACK);
+        let dualcount = u32_at(self.bytes, size - DUAL_COUNT_BACK);
+        let primalstep = f64_at(self.bytes, size - PRIMAL_STEP_BACK);
+        let primalcount = u32_at(self.bytes, size - PRIMAL_COUNT_BACK);
+        Steps {
+            code: 0,
+            dualcount,
+            primalcount,
+            dualstep,
+            primalstep,
+        }
+    }
+
+    // The record by value, at an offset.
+    pub fn recorded(self, at: u64) -> Recorded
+        requires { at + self.shape.size < 2 ^ 64 }
+        ensures { result ≡ recorded_of self.entry.edition at (record_at self.entry.edition self.entry.bytes.now) }
+    {
+        let t = self.bytes;
+        let cone = self.cone();
+        let settings = self.settings();
+        let steps = self.steps();
+        let n = self.numbers();
+        let place = self.vectors_place();
+        let dz = row(behind(t, place), n);
+        let ds = row(behind(t, place + 8 * n), n);
+        let z = row(behind(t, place + 16 * n), n);
+        let s = row(behind(t, place + 24 * n), n);
+        Recorded {
+            code: 0,
+            flag: self.shape.flag,
+            at,
+            next: at + self.shape.size as u64,
+            cone,
+            settings,
+            dz,
+            ds,
+            z,
+            s,
+            steps,
+        }
+    }
 }
 
-fn steps_at(edition: u32, t: &[u8], shape: Shape) -> Steps
-    requires { (laid_at edition t.now ≡ true) × (shape ≡ shape_at edition t.now) }
-    ensures { result ≡ steps_of (record_at edition t.now) }
-{
-    let size = shape.size;
-    let dualstep = f64_at(t, size - DUAL_STEP_BACK);
-    let dualcount = u32_at(t, size - DUAL_COUNT_BACK);
-    let primalstep = f64_at(t, size - PRIMAL_STEP_BACK);
-    let primalcount = u32_at(t, size - PRIMAL_COUNT_BACK);
-    Steps {
-        code: 0,
-        dualcount,
-        primalcount,
-        dualstep,
-        primalstep,
-    }
-}
-
-// The record at the front of a row of bytes, which was found there.
-pub fn recorded_at(edition: u32, t: &[u8], shape: Shape, at: u64) -> Recorded
-    requires { (laid_at edition t.now ≡ true) × (shape ≡ shape_at edition t.now) × (at + shape.size < 2 ^ 64) }
-    ensures { result ≡ recorded_of edition at (record_at edition t.now) }
-{
-    let cone = cone_at(edition, t, shape);
-    let settings = settings_at(edition, t, shape);
-    let steps = steps_at(edition, t, shape);
-    let n = shape.dim1 as usize + shape.dim2 as usize;
-    let place = flag_place(edition, shape.kind, shape.dim1) + 4 + 8 * settings_in(shape.flag);
-    let dz = row64(behind(t, place), n);
-    let ds = row64(behind(t, place + 8 * n), n);
-    let z = row64(behind(t, place + 16 * n), n);
-    let s = row64(behind(t, place + 24 * n), n);
-    Recorded {
-        code: 0,
-        flag: shape.flag,
-        at,
-        next: at + shape.size as u64,
-        cone,
-        settings,
-        dz,
-        ds,
-        z,
-        s,
-        steps,
-    }
-}
-
-pub(crate) fn refused_record(code: u32) -> Recorded
-    ensures { result ≡ refused_record code }
+pub(crate) fn refused_record(refusal: Refusal) -> Recorded
+    ensures { result ≡ refused_record (number_of refusal) }
 {
     let cone = empty_cone();
     let settings = Settings {
@@ -196,7 +236,7 @@ pub(crate) fn refused_record(code: u32) -> Recorded
         primalstep: 0.0,
     };
     Recorded {
-        code,
+        code: refusal.number(),
         flag: 0,
         at: 0,
         next: 0,
@@ -216,13 +256,13 @@ pub fn record(trace: &[u8], i: u32) -> Recorded
 {
     let opened = open(trace);
     if opened.count <= i {
-        return refused_record(9);
+        return refused_record(Refusal::BrokenTrace);
     }
     let list = opened.list as usize;
     let at = u64_at(trace, list + 8 * (i as usize));
     let body = front(trace, list);
-    let Piece::Record(shape) = current_in(body, at as usize, opened.edition) else {
-        return refused_record(9);
+    let Some(found) = Found::find(body, at as usize, opened.edition) else {
+        return refused_record(Refusal::BrokenTrace);
     };
-    recorded_at(opened.edition, behind(body, at as usize), shape, at)
+    found.recorded(at)
 }

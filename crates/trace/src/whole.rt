@@ -6,7 +6,7 @@ ghost use Rattle.trace_layout.specs.Traces.{most_records, offsets_from};
 ghost use Rattle.trace.specs.whole.Whole.{whole_records, walked_of};
 
 use crate::reader::current_in;
-use trace_layout::pieces::{MOST_RECORDS, Piece};
+use trace_layout::pieces::MOST_RECORDS;
 
 // How many whole records there are, and where the last of them ends.
 #[derive(Clone, Copy)]
@@ -23,8 +23,9 @@ pub fn walk(edition: u32, bytes: &[u8], starts: &mut [u64]) -> Walked
         × (starts.new ≡ sets starts.old 0 (offsets_from edition 0 (whole_records edition bytes.now))) }
 {
     let mut at = 0;
+    // By number: starts may be longer, and of what `iter_mut` wrote a proof knows the length alone.
     for i in 0..MOST_RECORDS {
-        let Piece::Record(shape) = current_in(bytes, at, edition) else {
+        let Some(shape) = current_in(bytes, at, edition) else {
             return Walked { count: i, end: at };
         };
         starts[i] = at as u64;

@@ -52,13 +52,6 @@ pub struct Shape {
     pub size: usize,
 }
 
-// What stands at a place.
-#[derive(Clone, Copy)]
-pub enum Piece {
-    Record(Shape),
-    Broken,
-}
-
 // The numbers of a record beside its vectors: of a double, its bits.
 #[derive(Clone, Copy)]
 pub struct Entry {

@@ -1,19 +1,18 @@
 // A trace replayed. 02, Order 2: "Take a trace, run every search again, compare steps and counts bit for bit".
-ghost use Rattle.std.specs.Prelude.{◌≡◌, true, ◌+◌, ◌≤◌, ◌<◌, length};
+ghost use Rattle.std.specs.Prelude.{◌≡◌, ◌+◌, ◌≤◌, ◌<◌, length};
+ghost use Rattle.cone.specs.table.Table.{number_of};
 ghost use Rattle.std.proofs.lemmas.List.Edits.{sets};
-ghost use Rattle.trace_layout.specs.Records.{laid_at, record_at};
+ghost use Rattle.trace_layout.specs.Records.{record_at};
 ghost use Rattle.trace_layout.specs.Traces.{most_records};
 ghost use Rattle.trace.specs.judge.Opening.{open_of};
-ghost use Rattle.trace_layout.specs.pieces.Shapes.{shape_at};
 ghost use Rattle.trace_replay.specs.call.Replay.{same_record, noted, differing_in, refused_with, replay_of};
 
 use crate::rerun::agrees;
-use cone::table::trace_row;
-use octets::words::{behind, front};
+use cone::table::{Refusal, trace_row};
+use octets::words::front;
 use trace::judge::{Judged, open};
-use trace::reader::{current_in, place_in};
-use trace::value::recorded_at;
-use trace_layout::pieces::{Piece, Shape};
+use trace::reader::place_in;
+use trace::value::Found;
 use trace_layout::rooms::row;
 
 // What a replay answers: its number, how many records there are, and how many of them are the same and differ.
@@ -27,11 +26,10 @@ pub struct Replayed {
 }
 
 // Whether the search of the record at the front gives what the record holds. Where it stands is no part of its search.
-fn same_at(edition: u32, t: &[u8], shape: Shape) -> bool
-    requires { (laid_at edition t.now ≡ true) × (shape ≡ shape_at edition t.now) }
-    ensures { result ≡ same_record edition (record_at edition t.now) }
+fn same_at(found: Found) -> bool
+    ensures { result ≡ same_record found.entry.edition (record_at found.entry.edition found.entry.bytes.now) }
 {
-    agrees(recorded_at(edition, t, shape, 0))
+    agrees(found.recorded(0))
 }
 
 // Writes the offset of a record that differs at place n. The answer is the place behind.
@@ -58,17 +56,17 @@ fn note_all(trace: &[u8], opened: Judged, offsets: &mut [u64]) -> usize
     for i in 0..opened.count {
         // a judged trace has a record here
         let body = front(trace, opened.list as usize);
-        let Piece::Record(shape) = current_in(body, at, opened.edition) else {
+        let Some(found) = Found::find(body, at, opened.edition) else {
             return n;
         };
-        let same = same_at(opened.edition, behind(body, at), shape);
+        let same = same_at(found);
         n = note(offsets, n, same, at as u64);
         at = place_in(body, at, opened.edition);
     }
     n
 }
 
-// The slice begins with the row.
+// The slice begins with the row. No `copy_from_slice`: by it the library would need memmove beside memcpy and memset.
 fn store(out: &mut [u64], row: &[u64])
     requires { length row.now ≤ length out.old }
     ensures { out.new ≡ sets out.old 0 row.now }
@@ -78,11 +76,11 @@ fn store(out: &mut [u64], row: &[u64])
     }
 }
 
-fn refused(code: u32) -> Replayed
-    ensures { result ≡ refused_with code }
+fn refused(refusal: Refusal) -> Replayed
+    ensures { result ≡ refused_with (number_of refusal) }
 {
     Replayed {
-        code,
+        code: refusal.number(),
         records: 0,
         same: 0,
         differ: 0,
@@ -96,9 +94,8 @@ pub fn replay(trace: &[u8], at: &mut [u64]) -> Replayed
     let opened = open(trace);
     let mut offsets = row();
     let n = note_all(trace, opened, &mut offsets);
-    let code = trace_row(opened.code != 0, at.len() < n);
-    if code != 0 {
-        return refused(code);
+    if let Err(refusal) = trace_row(opened.code != 0, at.len() < n) {
+        return refused(refusal);
     }
     store(at, &offsets[..n]);
     Replayed {

@@ -10,7 +10,7 @@ use double::to_bits;
 use judges::numel;
 use trace::value::Recorded;
 
-// Whether both answers are the same, bit for bit. A search that was refused gives none.
+// Whether both answers are the same, bit for bit: `==` takes two zeros for equal, and no NaN. A search that was refused gives none.
 fn same_answers(a: Steps, b: Steps) -> bool
     ensures { result ≡ same_answers a b }
 {

@@ -22,8 +22,8 @@ fn put_offsets(bytes: &mut [u8], place: usize, offsets: &[u64]) -> usize
         × (bytes.new ≡ sets bytes.old place (offset_lines offsets.now)) }
 {
     let mut at = place;
-    for i in 0..offsets.len() {
-        at = put_offset(bytes, at, offsets[i]);
+    for offset in offsets {
+        at = put_offset(bytes, at, *offset);
     }
     at
 }

@@ -2,10 +2,11 @@
 // and trailer, and report records kept, bytes dropped, and whether list and trailer were rebuilt or already right (the input was a good
 // trace)".
 ghost use Rattle.std.specs.Prelude.{◌≡◌, cond};
+ghost use Rattle.cone.specs.table.Table.{number_of};
 ghost use Rattle.octets.specs.words.Words.{AllBelow};
 ghost use Rattle.trace_rescue.specs.call.Rescue.{edition_for, refused_with, rescue_of};
 
-use cone::table::trace_row;
+use cone::table::{Refusal, trace_row};
 use octets::words::{copy, front};
 use trace::judge::{known, open, trailer_at};
 use trace::seal::seal;
@@ -24,11 +25,11 @@ pub struct Rescued {
     pub right: bool,
 }
 
-fn refused(code: u32) -> Rescued
-    ensures { result ≡ refused_with code }
+fn refused(refusal: Refusal) -> Rescued
+    ensures { result ≡ refused_with (number_of refusal) }
 {
     Rescued {
-        code,
+        code: refusal.number(),
         kept: 0,
         dropped: 0,
         length: 0,
@@ -65,9 +66,8 @@ pub fn rescue(input: &[u8], output: &mut [u8], edition: u32) -> Rescued
     let walked = walk(chosen, input, &mut starts);
     let end = walked.end;
     let length = end + 8 * walked.count + TRAILER_SIZE;
-    let code = trace_row(!known(chosen), output.len() < length);
-    if code != 0 {
-        return refused(code);
+    if let Err(refusal) = trace_row(!known(chosen), output.len() < length) {
+        return refused(refusal);
     }
     copy(output, 0, front(input, end));
     seal(output, end, &starts[..walked.count], chosen);

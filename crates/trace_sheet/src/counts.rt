@@ -11,6 +11,13 @@ pub struct Largest {
     pub at: u64,
 }
 
+// Of no records.
+pub const NONE: Largest = Largest {
+    size: 0,
+    file: 0,
+    at: 0,
+};
+
 // The place of a step in its row: 0 of zero, 1 of the subnormal ones, and f + 1 of the exponent field f.
 pub(crate) fn place_of(step: u64) -> usize
     ensures { result ≡ place_of step }
@@ -43,11 +50,7 @@ pub(crate) fn moved_up(files: u32, t: Largest) -> Largest
     ensures { result ≡ moved_up files t }
 {
     if t.size == 0 {
-        return Largest {
-            size: 0,
-            file: 0,
-            at: 0,
-        };
+        return NONE;
     }
     Largest {
         size: t.size,

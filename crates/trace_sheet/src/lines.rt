@@ -152,8 +152,8 @@ pub(crate) fn put_flags(text: &mut [u8], flags: &[u8]) -> usize
         × (text.new ≡ sets text.old 0 (skipped_lines 1 flags.now)) }
 {
     let mut at = 0;
-    for i in 0..flags.len() {
-        at = put_flag(text, at, i as u64 + 1, flags[i]);
+    for (i, flag) in flags.iter().enumerate() {
+        at = put_flag(text, at, i as u64 + 1, *flag);
     }
     at
 }

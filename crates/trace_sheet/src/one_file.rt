@@ -7,13 +7,12 @@ ghost use Rattle.trace_sheet.specs.counts.Counts.{Fresh, counts_of};
 ghost use Rattle.trace_sheet.specs.counts.Sheet.{entries_in, entries_of};
 ghost use Rattle.trace_sheet.specs.one_file.Part.{tally_of, part_of, nothing};
 
-use crate::counts::{Largest, count, larger_of};
+use crate::counts::{Largest, NONE, count, larger_of};
 use octets::words::{behind, u32_at, u64_at};
 use trace::judge::open;
 use trace::reader::current_in;
 use trace_layout::pieces::{
     DUAL_COUNT_BACK, DUAL_STEP_BACK, MOST_BYTES, MOST_RECORDS, PRIMAL_COUNT_BACK, PRIMAL_STEP_BACK,
-    Piece,
 };
 
 // How many searches of one side there are, and the largest of them.
@@ -23,10 +22,9 @@ pub struct Tally {
     pub largest: Largest,
 }
 
-// Whether a file is counted, how many records it has, and the largest of each side. Its own number is 1.
+// How many records a file has, and the largest of each side. Its own number is 1.
 #[derive(Clone, Copy)]
 pub struct Part {
-    pub taken: bool,
     pub records: u64,
     pub dual: Largest,
     pub primal: Largest,
@@ -63,14 +61,10 @@ pub(crate) fn tally_side(edition: u32, bytes: &[u8], primal: bool, row: &mut [u6
         × (row.new ≡ counts_of (entries_in primal 1 edition 0 (whole_records edition bytes.now))) }
 {
     let mut at = 0;
-    let mut largest = Largest {
-        size: 0,
-        file: 0,
-        at: 0,
-    };
+    let mut largest = NONE;
     for i in 0..MOST_RECORDS {
         let t = behind(bytes, at);
-        let Piece::Record(shape) = current_in(bytes, at, edition) else {
+        let Some(shape) = current_in(bytes, at, edition) else {
             return Tally {
                 records: i as u64,
                 largest,
@@ -95,45 +89,38 @@ pub(crate) fn tally_side(edition: u32, bytes: &[u8], primal: bool, row: &mut [u6
 }
 
 // A file that is skipped adds nothing.
-fn nothing() -> Part
+pub(crate) fn nothing() -> Part
     ensures { result ≡ nothing }
 {
-    let none = Largest {
-        size: 0,
-        file: 0,
-        at: 0,
-    };
     Part {
-        taken: false,
         records: 0,
-        dual: none,
-        primal: none,
+        dual: NONE,
+        primal: NONE,
     }
 }
 
 // 02, Order 14: "a broken one, or one above 65,536 bytes, is .. left uncounted". Beside the equations the contract says what every call has
 // and the laws ask:
 // the file holds bytes.
-pub(crate) fn one_file(bytes: &[u8], dual: &mut [u64], primal: &mut [u64]) -> Part
+pub(crate) fn one_file(bytes: &[u8], dual: &mut [u64], primal: &mut [u64]) -> Option<Part>
     requires { Fresh dual.old × Fresh primal.old }
     ensures { (result ≡ part_of bytes.now) × (dual.new ≡ counts_of (entries_of false 1 bytes.now))
         × (primal.new ≡ counts_of (entries_of true 1 bytes.now)) × AllBelow 256 bytes.now }
 {
     if MOST_BYTES < bytes.len() {
-        return nothing();
+        return None;
     }
     let opened = open(bytes);
     if opened.code != 0 {
-        return nothing();
+        return None;
     }
     let duals = tally_side(opened.edition, bytes, false, dual);
     let primals = tally_side(opened.edition, bytes, true, primal);
     let dual_largest = duals.largest;
     let primal_largest = primals.largest;
-    Part {
-        taken: true,
+    Some(Part {
         records: duals.records,
         dual: dual_largest,
         primal: primal_largest,
-    }
+    })
 }

@@ -1,15 +1,16 @@
 // A sheet in lent rows, for hosts that sum their own: a row of 2,048 counts for each side, a row of flags for the files, and the totals by
 // value. 02, Order 14. All zeros are the sheet of no files.
 ghost use Rattle.std.specs.Prelude.{◌≡◌, false, cond, length};
+ghost use Rattle.cone.specs.table.Table.{number_of, code_of};
 ghost use Rattle.octets.specs.words.Words.{AllBelow};
 ghost use Rattle.trace_sheet.specs.counts.Counts.{Fresh, summed};
 ghost use Rattle.trace_sheet.specs.rows.Rows.{spills, rows_ok, named_in, names_ok, no_room, sheet_row, join_code, refused_totals};
 ghost use Rattle.trace_sheet.specs.rows.Rows.{join_of, add_of};
 ghost use Rattle.trace_sheet.specs.rows.Added.{TotalsFit, joined_totals};
 
-use crate::counts::{Largest, larger_of, moved_up};
-use crate::one_file::one_file;
-use cone::table::trace_row;
+use crate::counts::{Largest, NONE, larger_of, moved_up};
+use crate::one_file::{nothing, one_file};
+use cone::table::{Refusal, trace_row};
 use octets::words::{copy, front};
 use trace_layout::pieces::MOST_FILES;
 
@@ -39,11 +40,8 @@ pub(crate) fn rows_ok(dual: usize, primal: usize, skipped: usize, files: u32) ->
 fn spills(row: &[u64], more: &[u64]) -> bool
     ensures { result ≡ spills row.now more.now }
 {
-    for i in 0..row.len() {
-        if more.len() <= i {
-            return false;
-        }
-        if LARGEST_COUNT - row[i] < more[i] {
+    for (x, y) in row.iter().zip(more) {
+        if LARGEST_COUNT - *x < *y {
             return true;
         }
     }
@@ -55,8 +53,8 @@ fn sum(row: &mut [u64], more: &[u64])
     requires { (length row.old ≡ length more.now) × (spills row.old more.now ≡ false) }
     ensures { row.new ≡ summed row.old more.now }
 {
-    for i in 0..row.len() {
-        row[i] += more[i];
+    for (i, x) in more.iter().enumerate() {
+        row[i] += *x;
     }
 }
 
@@ -85,16 +83,16 @@ fn no_room(files: u32, more: u32, flags: usize, records: u64, others: u64) -> bo
 }
 
 // The table for a call on a sheet, which these three rows alone can refuse.
-pub(crate) fn sheet_row(length: bool, broken: bool, full: bool) -> u32
-    ensures { result ≡ sheet_row length broken full }
+pub(crate) fn sheet_row(length: bool, broken: bool, full: bool) -> Result<(), Refusal>
+    ensures { code_of result ≡ sheet_row length broken full }
 {
     if length {
-        return 2;
+        return Err(Refusal::WrongLength);
     }
     trace_row(broken, full)
 }
 
-// The number that refuses a sum, or 0.
+// What refuses a sum.
 fn join_code(
     sheet: Totals,
     dual: &[u64],
@@ -104,8 +102,8 @@ fn join_code(
     dual2: &[u64],
     primal2: &[u64],
     skipped2: &[u8],
-) -> u32
-    ensures { result ≡ join_code
+) -> Result<(), Refusal>
+    ensures { code_of result ≡ join_code
         (record { totals = sheet; dual = dual.now; primal = primal.now; skipped = skipped.now })
         (record { totals = second; dual = dual2.now; primal = primal2.now; skipped = skipped2.now }) }
 {
@@ -130,20 +128,15 @@ fn join_code(
     )
 }
 
-fn refused(code: u32) -> Totals
-    ensures { result ≡ refused_totals code }
+fn refused(refusal: Refusal) -> Totals
+    ensures { result ≡ refused_totals (number_of refusal) }
 {
-    let none = Largest {
-        size: 0,
-        file: 0,
-        at: 0,
-    };
     Totals {
-        code,
+        code: refusal.number(),
         files: 0,
         records: 0,
-        dual: none,
-        primal: none,
+        dual: NONE,
+        primal: NONE,
     }
 }
 
@@ -184,11 +177,11 @@ pub fn join(
         ≡ join_of (record { totals = sheet; dual = dual.old; primal = primal.old; skipped = skipped.old })
         (record { totals = second; dual = dual2.now; primal = primal2.now; skipped = skipped2.now }) }
 {
-    let code = join_code(
+    let judged = join_code(
         sheet, dual, primal, skipped, second, dual2, primal2, skipped2,
     );
-    if code != 0 {
-        return refused(code);
+    if let Err(refusal) = judged {
+        return refused(refusal);
     }
     sum(dual, dual2);
     sum(primal, primal2);
@@ -229,7 +222,8 @@ pub fn add(
 {
     let mut dual2 = row();
     let mut primal2 = row();
-    let part = one_file(file, &mut dual2, &mut primal2);
+    let counted = one_file(file, &mut dual2, &mut primal2);
+    let part = counted.unwrap_or(nothing());
     let part_dual = part.dual;
     let part_primal = part.primal;
     let one = Totals {
@@ -239,6 +233,6 @@ pub fn add(
         dual: part_dual,
         primal: part_primal,
     };
-    let flags = [flag_of(part.taken)];
+    let flags = [flag_of(counted.is_some())];
     join(sheet, dual, primal, skipped, one, &dual2, &primal2, &flags)
 }

@@ -35,9 +35,11 @@ pub fn put_sheet(
         (record { totals = sheet; dual = dual.now; primal = primal.now; skipped = skipped.now }) }
 {
     let rows = rows_ok(dual.len(), primal.len(), skipped.len(), sheet.files);
-    let code = sheet_row(!rows, MOST_COUNT < sheet.files, text.len() < ROOM);
-    if code != 0 {
-        return Printed { code, length: 0 };
+    if let Err(refusal) = sheet_row(!rows, MOST_COUNT < sheet.files, text.len() < ROOM) {
+        return Printed {
+            code: refusal.number(),
+            length: 0,
+        };
     }
     let dual_largest = sheet.dual;
     let primal_largest = sheet.primal;

@@ -2,11 +2,12 @@
 // in their old order, offsets and trailer new, edition kept". The old list and trailer are read by the judge alone, so that within one
 // buffer nothing is overwritten before it is read.
 ghost use Rattle.std.specs.Prelude.{◌≡◌};
+ghost use Rattle.cone.specs.table.Table.{number_of};
 ghost use Rattle.octets.specs.words.Words.{AllBelow};
 ghost use Rattle.trace_thin.specs.call.Thin.{refused_with, thin_of, thin_in_place_of};
 
 use crate::firsts::{choose, clear, gather, move_down};
-use cone::table::trace_row;
+use cone::table::{Refusal, trace_row};
 use trace::judge::open;
 use trace::seal::seal;
 use trace_layout::pieces::TRAILER_SIZE;
@@ -22,11 +23,11 @@ pub struct Thinned {
     pub length: u64,
 }
 
-fn refused(code: u32) -> Thinned
-    ensures { result ≡ refused_with code }
+fn refused(refusal: Refusal) -> Thinned
+    ensures { result ≡ refused_with (number_of refusal) }
 {
     Thinned {
-        code,
+        code: refusal.number(),
         kept: 0,
         dropped: 0,
         length: 0,
@@ -52,9 +53,8 @@ pub fn thin(trace: &[u8], output: &mut [u8]) -> Thinned
     let kept = chosen.kept;
     let size = chosen.size;
     let length = size + 8 * kept + TRAILER_SIZE;
-    let code = trace_row(opened.code != 0, output.len() < length);
-    if code != 0 {
-        return refused(code);
+    if let Err(refusal) = trace_row(opened.code != 0, output.len() < length) {
+        return refused(refusal);
     }
     gather(output, trace, &mut places, kept);
     seal(output, size, &places[..kept], opened.edition);
@@ -72,9 +72,8 @@ pub fn thin_in_place(trace: &mut [u8]) -> Thinned
         × AllBelow 256 trace.old }
 {
     let opened = open(trace);
-    let code = trace_row(opened.code != 0, false);
-    if code != 0 {
-        return refused(code);
+    if let Err(refusal) = trace_row(opened.code != 0, false) {
+        return refused(refusal);
     }
     let mut places = row();
     let mut numbers = row();

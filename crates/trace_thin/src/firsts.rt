@@ -52,8 +52,8 @@ fn seen(bytes: &[u8], piece: &[u8], number: u64, places: &[u64], numbers: &[u64]
     requires { (number ≡ number_of piece.now) × (numbers.now ≡ map number_of (pieces_at bytes.now places.now)) }
     ensures { result ≡ among piece.now (pieces_at bytes.now places.now) }
 {
-    for j in 0..places.len() {
-        if alike(bytes, piece, number, places[j] as usize, numbers[j]) {
+    for (place, other) in places.iter().zip(numbers) {
+        if alike(bytes, piece, number, *place as usize, *other) {
             return true;
         }
     }
@@ -79,16 +79,8 @@ fn keep(bytes: &[u8], place: usize, places: &mut [u64], numbers: &mut [u64], kep
     true
 }
 
-// n, and k more if so.
-fn plus(n: usize, k: usize, so: bool) -> usize
-    requires { n + k < 18446744073709551616 }
-    ensures { result ≡ n + cond so k 0 }
-{
-    if so { n + k } else { n }
-}
-
 // The first of each kind among the records before the list. The walk leaves their places in the one row, the chosen ones come to its front,
-// and their numbers go to the other.
+// and their numbers go to the other: no row of pairs, since seal takes the places as they are.
 pub(crate) fn choose(
     bytes: &[u8],
     list: u64,
@@ -111,8 +103,10 @@ pub(crate) fn choose(
         let place = places[i] as usize;
         let n = size_at(bytes, place);
         let new = keep(bytes, place, places, numbers, kept);
-        kept = plus(kept, 1, new);
-        size = plus(size, n, new);
+        if new {
+            kept += 1;
+            size += n;
+        }
     }
     Chosen { kept, size }
 }
@@ -135,7 +129,7 @@ pub(crate) fn gather(output: &mut [u8], bytes: &[u8], places: &mut [u64], kept: 
     }
 }
 
-// Moves n bytes down, the first one first, since the two places may overlap.
+// Moves n bytes down, the first one first, since the two places may overlap. No `copy_within`: the library needs memcpy and memset alone.
 fn slide(bytes: &mut [u8], to: usize, from: usize, n: usize)
     requires { (to ≤ from) × (from + n ≤ length bytes.old) }
     ensures { bytes.new ≡ sets bytes.old to (take n (drop from bytes.old)) }
@@ -165,7 +159,7 @@ pub(crate) fn move_down(bytes: &mut [u8], places: &mut [u64], kept: usize)
 pub(crate) fn clear(bytes: &mut [u8], place: usize)
     ensures { bytes.new ≡ sets bytes.old place (replicate (length bytes.old - place) 0) }
 {
-    for i in place..bytes.len() {
-        bytes[i] = 0;
+    if place < bytes.len() {
+        bytes[place..].fill(0);
     }
 }

@@ -1,5 +1,5 @@
-// Numbers of two 64-bit halves, which the language has no type for: the whole product of two numbers, and what one has over another.
-// The product is made of three partial products; module `four` has it of four, where that is faster.
+// Numbers of two 64-bit halves: the whole product of two numbers, and what one has over another. The product is made of three partial
+// products, as Order 3 asks; module `four` has it of four, where that is faster. So neither is a product of two `u128`.
 #![tactic(auto)]
 
 ghost use Rattle.std.specs.Prelude.{◌≡◌, ◌+◌, ◌-◌, ◌*◌, ◌/◌, ◌%◌, ◌^◌, ◌<◌};

@@ -1,6 +1,6 @@
 -- How the rounds go on, stop and end when i of the hundred are done, in the words of the loop: what f1, f0 and the stop test answered.
 -- Assumes nothing.
-use Rattle.std.proofs.Common.{◌≡◌, ℕ, suc, ◌+◌, ◌-◌, ◌<◌, Bool, true, false, sym, ap, ◌∙◌, arith}
+use Rattle.std.proofs.Common.{◌≡◌, ℕ, suc, ◌+◌, ◌-◌, ◌<◌, Bool, true, false, sym, refl, ap, ◌∙◌, arith}
 use lib.Ieee.{Float, neg}
 use Rattle.double.specs.Operators.{◌⊕◌, ◌⊘◌}
 use Rattle.algebra.specs.newton.Rounds.{stops_of, stops_at, dx_of, rounds}
@@ -22,18 +22,16 @@ module _ (f0 f1 : Float → Float) (x dfdx fx : Float) (b : Bool) (slope : dfdx 
   stops_as : b ≡ stops_at f0 f1 x
   stops_as = rw (← value, ← slope) test
 
-  pub halts : b ≡ true → record { x = x; rounds = i + 1 } ≡ rounds f0 f1 (100 - i) i x
-  halts t =
+  pub halts : (r : ℕ) → r ≡ i + 1 → b ≡ true → record { x = x; rounds = r } ≡ rounds f0 f1 (100 - i) i x
+  halts r k t =
       let e = one_stops f0 f1 x (100 - (i + 1)) i (sym stops_as ∙ t) in
-      sym (ap (λ (n : ℕ). rounds f0 f1 n i x) one_less ∙ e)
+      ap (λ (n : ℕ). record { x = x; rounds = n }) k ∙ sym (ap (λ (n : ℕ). rounds f0 f1 n i x) one_less ∙ e)
 
   pub goes : b ≡ false → rounds f0 f1 (100 - (i + 1)) (i + 1) (x ⊕ neg fx ⊘ dfdx) ≡ rounds f0 f1 (100 - i) i x
   goes t =
       let e = one_goes f0 f1 x (100 - (i + 1)) i (sym stops_as ∙ t) in
       rw (value, slope) (sym (ap (λ (n : ℕ). rounds f0 f1 n i x) one_less ∙ e))
 
-pub ends : (f0 f1 : Float → Float) (x : Float) (i : ℕ) → i ≡ 100 → record { x = x; rounds = i } ≡ rounds f0 f1 (100 - i) i x
+pub ends : (f0 f1 : Float → Float) (x : Float) (i : ℕ) → i ≡ 100 → record { x = x; rounds = 100 } ≡ rounds f0 f1 (100 - i) i x
 unfolding rounds
-ends f0 f1 x i h =
-    let l : 100 - i ≡ 0 = omega arith in
-    sym (ap (λ (n : ℕ). rounds f0 f1 n i x) l)
+ends f0 f1 x i h = rw h refl

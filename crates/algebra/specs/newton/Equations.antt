@@ -5,8 +5,9 @@ use Rattle.arith.specs.Turns.{iter}
 use Rattle.double.specs.Operators.{◌⊕◌, ◌⊖◌, ◌⊗◌, ◌⊘◌, at}
 use Rattle.double.specs.Numbers.{#1, #2}
 use Rattle.kernels.specs.Door.{log_of}
-use Rattle.algebra.specs.declared.newton.Equation.{Equation}
-use Rattle.algebra.specs.declared.newton.Equation.TheVariants.{Power, Generalized}
+unfoldable pub use Rattle.algebra.specs.newton.Ratios.{ratio_of}
+use Rattle.algebra.specs.declared.newton.equation.Equation.{Equation}
+use Rattle.algebra.specs.declared.newton.equation.Equation.TheVariants.{Power, Generalized}
 
 -- 001 _newton_raphson_powcone, f0, with the logarithm l of φ
 unfoldable pub pow_f0_at : Float → Float → Float → Float → Float → Float
@@ -32,10 +33,6 @@ pow_f1 s3 α x =
     ⊕ (#1 ⊖ α) ⊗ #2 ⊗ (#1 ⊖ α) ⊘ ((#1 ⊖ α) ⊗ x ⊕ (#2 ⊖ α) ⊘ s3)
     ⊖ (x ⊕ #1 ⊘ s3) ⊗ #2 ⊘ (t1 ⊕ t2)
 
--- 002 _newton_raphson_genpowcone, f0 and f1: (1+α)/α of an exponent
-unfoldable pub ratio_of : Float → Float
-ratio_of a = (#1 ⊕ a) ⊘ a
-
 -- 002 _newton_raphson_genpowcone, f0: the fold over the exponents and the logarithms l of the point's heads p, r the norm of the point's
 -- tail
 abbrev pub gen_f0_turn : Float → List Float → List Float → Float → ℕ → Float → Float
@@ -55,10 +52,10 @@ unfoldable pub gen_f1 : Float → List Float → Float → Float
 gen_f1 r α x = iter (gen_f1_turn r α x) (neg (#2 ⊗ x ⊕ #2 ⊘ r) ⊘ (x ⊗ x ⊕ #2 ⊗ x ⊘ r)) (length α)
 
 -- 01: "Closures become a choice by cone kind"
-unfoldable pub f0_of : Equation → List Float → List Float → Float → Float
-f0_of (Power s3 l a t0) α ls x = pow_f0_at s3 l a t0 x
-f0_of (Generalized r) α ls x = gen_f0_at r α ls x
+unfoldable pub f0_of : Equation → Float → Float
+f0_of (Power s3 l α t0) x = pow_f0_at s3 l α t0 x
+f0_of (Generalized g) x = gen_f0_at g.normr g.alpha.now g.logs.now x
 
-unfoldable pub f1_of : Equation → List Float → Float → Float
-f1_of (Power s3 l a t0) α x = pow_f1 s3 a x
-f1_of (Generalized r) α x = gen_f1 r α x
+unfoldable pub f1_of : Equation → Float → Float
+f1_of (Power s3 l α t0) x = pow_f1 s3 α x
+f1_of (Generalized g) x = gen_f1 g.normr g.alpha.now x

@@ -6,11 +6,11 @@ use Rattle.cone.specs.declared.Updated.{Updated}
 use Rattle.cone.specs.declared.YesNo.{YesNo}
 use Rattle.cone.specs.declared.Number.{Number}
 use Rattle.cone.specs.declared.DualGrad.{DualGrad}
-use Rattle.cone.specs.declared.Attempt.{Attempt}
+use Rattle.cone.specs.declared.Scaling.{Scaling}
 use Rattle.cone.specs.Fresh as fresh
 use Rattle.cone.specs.Fresh.{empty_cone, no_three, no_wide}
 use Rattle.cone.specs.table.Table.{settle}
-use Rattle.judges.specs.Refusals.{last_rows, Lent, LentTwo, refuse, refuse_two, refuse_number, publish_of, publish_two_of, number_of}
+use Rattle.judges.specs.Refusals.{settle_record, Lent, LentTwo, refuse, refuse_two, refuse_number, publish_of, publish_two_of, number_of}
 use Rattle.kinds.specs.Cones as kinds
 use Rattle.kinds.specs.Cones.{alpha_of}
 use Rattle.kinds.specs.Three as three
@@ -40,14 +40,11 @@ barrier_dual_of c z = settle (read_rows c z) (number_of (kinds.barrier_dual_of c
 unfoldable pub refuse_grad : ℕ → DualGrad
 refuse_grad k = record { code = k; three = no_three; wide = no_wide }
 
-abbrev pub grad_of : Attempt → DualGrad
-grad_of a = record { code = 0; three = a.scaling.three; wide = a.scaling.wide }
+abbrev pub grad_of : Scaling → DualGrad
+grad_of new = record { code = 0; three = new.three; wide = new.wide }
 
 unfoldable pub dual_grad_h_of : Cone → List Float → DualGrad
-dual_grad_h_of c z =
-    settle (read_rows c z)
-    (settle (last_rows (kinds.dual_grad_h_of c z)) (grad_of (kinds.dual_grad_h_of c z)) refuse_grad)
-    refuse_grad
+dual_grad_h_of c z = settle (read_rows c z) (settle_record (kinds.dual_grad_h_of c z) grad_of refuse_grad) refuse_grad
 
 -- ---- entries that only write, or copy
 

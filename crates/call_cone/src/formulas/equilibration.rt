@@ -4,6 +4,7 @@ ghost use Rattle.cone.specs.Points.{padded};
 ghost use Rattle.call_cone.specs.formulas.Equilibration.{rectified_of};
 
 use algebra::vector::mean;
+use cone::places::filled;
 
 // rectify_equilibration: the reciprocals, scaled by the mean.
 pub(crate) fn rectified(e: &[f64]) -> [f64; 64]
@@ -11,9 +12,5 @@ pub(crate) fn rectified(e: &[f64]) -> [f64; 64]
     ensures { result ≡ padded 64 (rectified_of e.now) }
 {
     let m = mean(e);
-    let mut d = [0.0; 64];
-    for i in 0..e.len() {
-        d[i] = 1.0 / e[i] * m;
-    }
-    d
+    filled(e, |x| 1.0 / x * m)
 }

@@ -1,11 +1,10 @@
 -- 01: "For each, show that any two outcomes allowed by it agree". Every contract here is one equation. Assumes nothing.
 use mathlib.Core.Path.{◌∙◌, sym}
 use mathlib.Core.List.{List}
-use Prim.Native.Nat.{ℕ}
 use lib.Ieee.{Float}
 use Rattle.arith.specs.Outcomes.{OneAnswer, OneOutcome}
 use Rattle.cone.specs.declared.Rounds.{Rounds}
-use Rattle.judges.proofs.Outcomes.{one}
+use Rattle.judges.proofs.Outcomes.{one, one_done}
 use Rattle.call_record.proofs.entries.gradient_primal.Reads as gradient_primal
 use Rattle.call_record.proofs.entries.barrier_primal.Reads as barrier_primal
 use Rattle.call_record.proofs.entries.compute_barrier.Reads as compute_barrier
@@ -24,13 +23,13 @@ pub compute_barrier_agrees : OneAnswer compute_barrier.Post
 compute_barrier_agrees κs a x y s t p q = p ∙ sym q
 
 pub get_hs_agrees : OneOutcome get_hs.Post {A = List Float} (λ κs s. s.1.1.0.now)
-get_hs_agrees κs a x y s t p q = one {A = ℕ} (p ∙ sym q)
+get_hs_agrees κs a x y s t p q = one_done {r = x} {s = y} (p ∙ sym q)
 
 pub mul_hs_agrees : OneOutcome mul_hs.Post {A = List Float} (λ κs s. s.1.1.0.now)
-mul_hs_agrees κs a x y s t p q = one {A = ℕ} (p ∙ sym q)
+mul_hs_agrees κs a x y s t p q = one_done {r = x} {s = y} (p ∙ sym q)
 
 pub higher_correction_agrees : OneOutcome higher_correction.Post {A = List Float} (λ κs s. s.1.1.0.now)
-higher_correction_agrees κs a x y s t p q = one {A = ℕ} (p ∙ sym q)
+higher_correction_agrees κs a x y s t p q = one_done {r = x} {s = y} (p ∙ sym q)
 
 pub combined_ds_shift_agrees : OneOutcome combined_ds_shift.Post {A = List Float} (λ κs s. s.1.1.0.now)
-combined_ds_shift_agrees κs a x y s t p q = one {A = ℕ} (p ∙ sym q)
+combined_ds_shift_agrees κs a x y s t p q = one_done {r = x} {s = y} (p ∙ sym q)

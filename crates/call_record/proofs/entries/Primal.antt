@@ -9,6 +9,7 @@ use lib.Dec.{eqb}
 use lib.Ieee.{Float}
 use lib.Ieee.Scale.{finite}
 use lib.ListN.{length, take}
+use Rattle.std.specs.Prelude.{Option, Some, None}
 use denote.Triple.Clauses.{AtExit}
 use contract.Lifetimes.{Lfts}
 use borrow.Fn.Kinds.{Dens, res_t, ended_of}
@@ -127,21 +128,19 @@ published_not_five old ans n =
     not_7
 
 -- 6 too
-three_not_five : (old : List Float) (a : ThreeGradient) → NotFive (published old a).answer.code
-three_not_five old a =
-    either_not_five (λ (l : Lent Rounds). l.answer.code) a.panics (refuse_rounds old 6) (with_rounds a.rounds (publish_of old a.g))
-    not_6
-    (published_not_five old a.g a.rounds)
+three_not_five : (old : List Float) (a : Option ThreeGradient) → NotFive (published old a).answer.code
+three_not_five old None = not_6
+three_not_five old (Some a) = published_not_five old a.g a.rounds
 
 number_not_five : (value : Float) → NotFive (number_of value).code
 unfolding number_of
 number_not_five value =
     either_not_five (λ (n : Number). n.code) (finite value) (record { code = 0; value = value }) (refuse_number 7) not_0 not_7
 
-judged_not_five : (panics : Bool) (value : Float) → NotFive (judged_of panics value).code
+judged_not_five : (value : Option Float) → NotFive (judged_of value).code
 unfolding judged_of
-judged_not_five panics value =
-    either_not_five (λ (n : Number). n.code) panics (refuse_number 6) (number_of value) not_6 (number_not_five value)
+judged_not_five None = not_6
+judged_not_five (Some value) = number_not_five value
 
 pub gradient_never_five : GradientNeverFive
 unfolding gradient_primal_of gradient_rows
@@ -160,9 +159,9 @@ gradient_never_five r g s =
 pub barrier_never_five : BarrierNeverFive
 unfolding barrier_primal_of barrier_rows
 barrier_never_five r s =
-    settled-not-five (λ (n : Number). n.code) _ refuse_number (λ k. refl) _ (row_not_five _ _ _) (judged_not_five _ _)
+    settled-not-five (λ (n : Number). n.code) _ refuse_number (λ k. refl) _ (row_not_five _ _ _) (judged_not_five _)
 
 pub compute_never_five : ComputeNeverFive
 unfolding compute_barrier_of compute_rows
 compute_never_five r z s dz ds step =
-    settled-not-five (λ (n : Number). n.code) _ refuse_number (λ k. refl) _ (row_not_five _ _ _) (judged_not_five _ _)
+    settled-not-five (λ (n : Number). n.code) _ refuse_number (λ k. refl) _ (row_not_five _ _ _) (judged_not_five _)

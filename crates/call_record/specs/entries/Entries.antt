@@ -1,5 +1,5 @@
 -- What each entry over a record answers and leaves, for all arguments. Definitions only.
-use Rattle.std.specs.Prelude.{ℕ, cond, ◌&&◌, List, Float, length, take}
+use Rattle.std.specs.Prelude.{ℕ, Option, Some, cond, ◌&&◌, List, Float, length, take}
 use Rattle.std.specs.Float.Ieee.Scale.{finite}
 use Rattle.algebra.specs.Packed.{mul_of}
 use Rattle.cone.specs.Codes.{is_wide}
@@ -9,13 +9,12 @@ use Rattle.cone.specs.declared.Rounds.{Rounds}
 use Rattle.judges.specs.Judges.{all_finite}
 use Rattle.cone.specs.Points.{three_of}
 use Rattle.cone.specs.table.Table.{settle}
-use Rattle.judges.specs.Refusals.{Lent, refuse, refuse_number, refuse_rounds, publish_of, with_rounds}
+use Rattle.judges.specs.Refusals.{Lent, refuse, refuse_number, refuse_rounds, publish_of, judged_of, with_rounds}
 use Rattle.genpowcone.specs.Rank3 as genRank3
-use Rattle.kinds.specs.declared.three.Valued.{Valued}
 use Rattle.kinds.specs.Cones.{alpha_of}
 use Rattle.kinds.specs.Three as three
 use Rattle.kinds.specs.Wide as wide
-use Rattle.call_record.specs.three.Entries.{published, judged}
+use Rattle.call_record.specs.three.Entries.{published}
 use Rattle.call_record.specs.entries.Rows.{gradient_rows, barrier_rows, compute_rows, block_rows, product_rows, correction_rows}
 
 -- ---- the primal side: of the record, the cone alone (ByCone)
@@ -31,26 +30,26 @@ gradient_primal_of r g s =
     (refuse_rounds g)
 
 -- 000, 001, 002 barrier_primal
-unfoldable pub primal_barrier_of : Scaling → List Float → Valued
+unfoldable pub primal_barrier_of : Scaling → List Float → Option Float
 primal_barrier_of r s =
     let c = r.cone in
     cond (is_wide c.kind)
-    (three.safe (wide.barrier_primal_of c.exps c.dim1 s))
+    (Some (wide.barrier_primal_of c.exps c.dim1 s))
     (three.barrier_primal_of c.kind (alpha_of c) (three_of s))
 
 unfoldable pub barrier_primal_of : Scaling → List Float → Number
-barrier_primal_of r s = settle (barrier_rows r s) (judged (primal_barrier_of r s)) refuse_number
+barrier_primal_of r s = settle (barrier_rows r s) (judged_of (primal_barrier_of r s)) refuse_number
 
 -- 000, 001, 002 compute_barrier; the step is the Rust's α
-unfoldable pub combined_barrier_of : Scaling → List Float → List Float → List Float → List Float → Float → Valued
+unfoldable pub combined_barrier_of : Scaling → List Float → List Float → List Float → List Float → Float → Option Float
 combined_barrier_of r z s dz ds step =
     let c = r.cone in
     cond (is_wide c.kind)
-    (three.safe (wide.compute_barrier_of c.exps c.dim1 z s dz ds step))
+    (Some (wide.compute_barrier_of c.exps c.dim1 z s dz ds step))
     (three.compute_barrier_of c.kind (alpha_of c) (three_of z) (three_of s) (three_of dz) (three_of ds) step)
 
 unfoldable pub compute_barrier_of : Scaling → List Float → List Float → List Float → List Float → Float → Number
-compute_barrier_of r z s dz ds step = settle (compute_rows r z s dz ds step) (judged (combined_barrier_of r z s dz ds step)) refuse_number
+compute_barrier_of r z s dz ds step = settle (compute_rows r z s dz ds step) (judged_of (combined_barrier_of r z s dz ds step)) refuse_number
 
 -- ---- the scaling matrix
 

@@ -1,10 +1,12 @@
-// The rows of the table that judge a search.
+// The rows of the table that judge a search of one cone.
 ghost use Rattle.std.specs.Prelude.{◌≡◌};
+ghost use Rattle.cone.specs.table.Table.{code_of};
 ghost use Rattle.call_search.specs.single.Rows.{search_rows, step_rows};
 
-use cone::table::{first_row, no_faults};
+use crate::rows::{both_rows, side_rows};
+use cone::table::Refusal;
 use cone::{Cone, Settings};
-use judges::{all_finite, cone_ok, numel, settings_finite, settings_ok, sides_finite};
+use judges::{cone_ok, numel};
 
 pub(crate) fn search_rows(
     cone: Cone,
@@ -12,16 +14,10 @@ pub(crate) fn search_rows(
     q: &[f64],
     point: usize,
     settings: Settings,
-) -> u32
-    ensures { result ≡ search_rows cone dq.now q.now point settings }
+) -> Result<(), Refusal>
+    ensures { code_of result ≡ search_rows cone dq.now q.now point settings }
 {
-    let n = numel(cone);
-    let mut faults = no_faults();
-    faults.cone = !cone_ok(cone);
-    faults.length = (dq.len() != n) | (q.len() != n) | (point != n);
-    faults.number = !(all_finite(dq) & all_finite(q) & settings_finite(settings));
-    faults.setting = !settings_ok(settings);
-    first_row(faults)
+    side_rows(!cone_ok(cone), numel(cone), dq, q, point, settings)
 }
 
 pub(crate) fn step_rows(
@@ -33,20 +29,19 @@ pub(crate) fn step_rows(
     dualpoint: usize,
     primalpoint: usize,
     settings: Settings,
-) -> u32
-    ensures { result
+) -> Result<(), Refusal>
+    ensures { code_of result
         ≡ step_rows cone dz.now ds.now z.now s.now dualpoint primalpoint settings }
 {
-    let n = numel(cone);
-    let mut faults = no_faults();
-    faults.cone = !cone_ok(cone);
-    faults.length = (dz.len() != n)
-        | (ds.len() != n)
-        | (z.len() != n)
-        | (s.len() != n)
-        | (dualpoint != n)
-        | (primalpoint != n);
-    faults.number = !(sides_finite(dz, ds, z, s) & settings_finite(settings));
-    faults.setting = !settings_ok(settings);
-    first_row(faults)
+    both_rows(
+        !cone_ok(cone),
+        numel(cone),
+        dz,
+        ds,
+        z,
+        s,
+        dualpoint,
+        primalpoint,
+        settings,
+    )
 }

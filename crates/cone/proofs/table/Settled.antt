@@ -4,7 +4,25 @@ use mathlib.Core.Bool.{Bool, true, false, cond, ◌&&◌}
 use Prim.Native.Nat.{ℕ, zero, suc, ◌<◌}
 use native.Mathlib.Omega.{arith}
 use Rattle.cone.specs.declared.table.Faults.{Faults}
-use Rattle.cone.specs.table.Table.{first_row, trace_row, settle}
+use Rattle.std.specs.Prelude.{Result, Ok, Err}
+use Rattle.cone.specs.declared.table.Refusal.{Refusal}
+use Rattle.cone.specs.declared.table.Refusal.TheVariants.{BadCone, WrongLength, NotFinite, BadSettings, NeverScaled, WouldPanic, AnswerNotFinite}
+use Rattle.cone.specs.declared.table.Refusal.TheVariants.{NoRoom, BrokenTrace, OtherSerial, LastSerial}
+use Rattle.cone.specs.table.Table.{number_of, code_of, first_row, trace_row, settle}
+
+-- no refusal has the number of "done"
+pub number_above_0 : (e : Refusal) → number_of e ≡ 0 → ⊥
+number_above_0 BadCone p = absurd (omega arith)
+number_above_0 WrongLength p = absurd (omega arith)
+number_above_0 NotFinite p = absurd (omega arith)
+number_above_0 BadSettings p = absurd (omega arith)
+number_above_0 NeverScaled p = absurd (omega arith)
+number_above_0 WouldPanic p = absurd (omega arith)
+number_above_0 AnswerNotFinite p = absurd (omega arith)
+number_above_0 NoRoom p = absurd (omega arith)
+number_above_0 BrokenTrace p = absurd (omega arith)
+number_above_0 OtherSerial p = absurd (omega arith)
+number_above_0 LastSerial p = absurd (omega arith)
 
 pub refused : {A : Type 0} (k r : ℕ) (d : A) (f : ℕ → A) → r ≡ k → (r ≡ 0 → ⊥) → f r ≡ settle k d f
 unfolding settle
@@ -14,6 +32,17 @@ refused (suc k) r d f e n = ap f e
 pub done : {A : Type 0} (k r : ℕ) (d : A) (f : ℕ → A) → r ≡ k → r ≡ 0 → d ≡ settle k d f
 unfolding settle
 done k r d f e z = subst (λ (n : ℕ). d ≡ settle n d f) (sym z ∙ e) refl
+
+-- the same of a call whose rows answer a refusal or none
+pub refused_by : {A : Type 0} (k n : ℕ) (r : Result (Unit {0}) Refusal) (e : Refusal) (d : A) (f : ℕ → A) → code_of r ≡ k → r ≡ Err e → n ≡ number_of e → f n ≡ settle k d f
+refused_by k n r e d f p i q = refused k n d f (q ∙ sym (ap code_of i) ∙ p) (λ z. number_above_0 e (sym q ∙ z))
+
+pub done_by : {A : Type 0} (k : ℕ) (r : Result (Unit {0}) Refusal) (u : Unit {0}) (d : A) (f : ℕ → A) → code_of r ≡ k → r ≡ Ok u → d ≡ settle k d f
+done_by k r u d f p i = done k 0 d f (sym (ap code_of i) ∙ p) refl
+
+-- rows that let a call through give 0
+pub ok_code : {A : Type 0} (k : ℕ) (r : Result A Refusal) (a : A) → code_of r ≡ k → r ≡ Ok a → k ≡ 0
+ok_code k r a p i = sym p ∙ ap code_of i
 
 pub through : {A : Type 0} {x : A} (k r : ℕ) (d : A) (f : ℕ → A) → r ≡ k → r ≡ 0 → x ≡ d → x ≡ settle k d f
 through k r d f e z p = p ∙ done k r d f e z

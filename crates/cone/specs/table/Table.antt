@@ -1,6 +1,28 @@
 -- The table of document 01, row by row, and how a call goes on from it. Definitions only.
-use Rattle.std.specs.Prelude.{ℕ, zero, suc, Bool, false, cond}
+use Rattle.std.specs.Prelude.{ℕ, zero, suc, Bool, false, cond, Result, Ok, Err}
 use Rattle.cone.specs.declared.table.Faults.{Faults}
+use Rattle.cone.specs.declared.table.Refusal.{Refusal}
+use Rattle.cone.specs.declared.table.Refusal.TheVariants.{BadCone, WrongLength, NotFinite, BadSettings, NeverScaled, WouldPanic, AnswerNotFinite}
+use Rattle.cone.specs.declared.table.Refusal.TheVariants.{NoRoom, BrokenTrace, OtherSerial, LastSerial}
+
+-- 01: the numbers of the table; 02, Orders 1 and 6: 8 to 11
+abbrev pub number_of : Refusal → ℕ
+number_of BadCone = 1
+number_of WrongLength = 2
+number_of NotFinite = 3
+number_of BadSettings = 4
+number_of NeverScaled = 5
+number_of WouldPanic = 6
+number_of AnswerNotFinite = 7
+number_of NoRoom = 8
+number_of BrokenTrace = 9
+number_of OtherSerial = 10
+number_of LastSerial = 11
+
+-- What C is told of a call's rows, and of any answer that is a refusal or none: 0 is "done".
+abbrev pub code_of : {A : Type 0} → Result A Refusal → ℕ
+code_of (Ok a) = 0
+code_of (Err e) = number_of e
 
 -- 01: "Only the first in this order is given." The order of the table, for what can be wrong with a call's arguments; 0 is "done".
 -- 02, Order 6: "10 if the serial differs, after 5; 11 for an update at serial 4,294,967,295, after 4 and before 6."

@@ -14,15 +14,6 @@ moved c = shifted c.args.t c.requires.0 c.requires.1
 pub overflow_sub-s : goal.overflow_sub-s
 overflow_sub-s c = omega (arith, (moved c).least)
 
-pub overflow_cast-result : goal.overflow_cast-result
-overflow_cast-result c = omega (arith, (moved c).most)
-
-pub overflow_shl-result : goal.overflow_shl-result
-overflow_shl-result c = omega (arith, (moved c).most)
-
-pub overflow_sub-result : goal.overflow_sub-result
-overflow_sub-result c = omega (arith, (moved c).most)
-
 pub returns : goal.returns
 unfolding normal_of shift
 returns c = ap (λ (a : ℕ). record { m = a; k = 52 - (count_leading_zeros 64 c.args.t - 11) }) (moved c).whole

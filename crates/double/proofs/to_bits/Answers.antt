@@ -1,12 +1,9 @@
--- `to_bits` meets its contract: only NaN differs from itself, and its pattern computes. Assumes nothing.
+-- `to_bits` meets its contract: NaN's pattern computes. Assumes nothing.
 use mathlib.Core.Path.{sym, ap}
 use lib.Ieee.{binary64, to_bits}
-use Rattle.double.proofs.NotNan.{nan_of, number-of}
+use Rattle.double.proofs.NotNan.{is_nan-only}
 use Rattle.double.proofs.to_bits.Goals as goal
 
-pub returns-then-x : goal.returns-then-x
+pub returns-then-is_nan : goal.returns-then-is_nan
 unfolding to_bits
-returns-then-x c = sym (ap (to_bits binary64) (nan_of c.args.x c.if-x.true))
-
-pub float_to_bits-result : goal.float_to_bits-result
-float_to_bits-result c = number-of c.args.x c.if-x.false
+returns-then-is_nan c = sym (ap (to_bits binary64) (is_nan-only c.args.x (sym c.if-is_nan.ensures.value)))

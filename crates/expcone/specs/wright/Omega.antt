@@ -1,10 +1,9 @@
 -- The Wright omega function, as 000 _wright_omega computes it. Definitions only.
-use Rattle.std.specs.Prelude.{true, false, cond, List, Float}
+use Rattle.std.specs.Prelude.{cond, List, Option, Some, None, Float}
 use Rattle.arith.specs.Turns.{iter}
 use Rattle.double.specs.Operators.{◌⊕◌, ◌⊖◌, ◌⊗◌, ◌⊘◌, ◌≺◌, at}
 use Rattle.double.specs.Numbers.{#0, #½, #1, #1½, #2, #3, #8, #13, #16, #72, #192, #3072, #61440, #π}
 use Rattle.kernels.specs.Door.{log_of}
-use Rattle.expcone.specs.declared.wright.Omega.{Omega}
 use Rattle.expcone.specs.declared.wright.Approx.{Approx}
 
 -- 000 _wright_omega, "Initialize with the taylor series"
@@ -46,10 +45,10 @@ refine_of a =
 unfoldable pub refined_of : Float → Float → Float
 refined_of z w = (iter (λ _ a. refine_of a) (record { w = w; r = z ⊖ w ⊖ log_of w }) 2).w
 
--- 000 _wright_omega. 01, number 6: "Wright omega argument below 0". A NaN is not below 0
-unfoldable pub omega_of : Float → Omega
-omega_of z = cond (z ≺ #0) (record { panics = true; w = #0 }) (record { panics = false; w = refined_of z (start_of z) })
+-- 000 _wright_omega; None where it panics. 01, number 6: "Wright omega argument below 0". A NaN is not below 0
+unfoldable pub omega_of : Float → Option Float
+omega_of z = cond (z ≺ #0) None (Some (refined_of z (start_of z)))
 
 -- 000 barrier_primal and gradient_primal: ω(1 - s1/s2 - log(s2/s3)), counting from 1
-unfoldable pub omega_at : List Float → Omega
+unfoldable pub omega_at : List Float → Option Float
 omega_at s = omega_of (#1 ⊖ at s 0 ⊘ at s 1 ⊖ log_of (at s 1 ⊘ at s 2))

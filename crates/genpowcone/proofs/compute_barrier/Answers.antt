@@ -15,7 +15,7 @@ front_fits n m k a e h f = omega (arith, e, ap length f ∙ length-take n a)
 pub barrier_primal-primal-requires : goal.barrier_primal-primal-requires
 barrier_primal-primal-requires c =
     let pre = c.requires in
-    (pre.0, front_fits _ _ _ _ c.shorter-ns.ensures pre.1 c.head.ensures)
+    (pre.0, front_fits _ _ _ _ c.min-ns.ensures pre.1 c.head.ensures)
 
 pub returns : goal.returns
 unfolding compute_barrier_of
@@ -24,11 +24,11 @@ returns c =
     simp (
       c.barrier_dual-dual.ensures,
       c.head-2.ensures,
-      c.shorter-nz.ensures,
+      c.min-nz.ensures,
       c.moved-cur_z.ensures,
       c.barrier_primal-primal.ensures,
       c.head.ensures,
-      c.shorter-ns.ensures,
+      c.min-ns.ensures,
       c.moved-cur_s.ensures,
       padded_front 64 (moved_of a.s.now a.step a.ds.now) _ (moved_length a.s.now a.step a.ds.now),
       padded_front 64 (moved_of a.z.now a.step a.dz.now) _ (moved_length a.z.now a.step a.dz.now),

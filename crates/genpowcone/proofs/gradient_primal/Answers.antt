@@ -15,7 +15,7 @@ use Rattle.genpowcone.specs.loops.Folds.{primal_phi}
 use Rattle.cone.specs.Points.{padded}
 use Rattle.cone.proofs.Points.{padded_front}
 use Rattle.genpowcone.specs.loops.Places.{times, gradient_head}
-use Rattle.genpowcone.proofs.loops.Arrays.{zip_length, head-and-tail}
+use Rattle.cone.proofs.Written.{zip_length, head-and-tail}
 use Rattle.genpowcone.specs.PrimalGradient.{gradient_primal_of, newton_raphson_genpowcone_of, psi_of, x0_of}
 use Rattle.genpowcone.specs.declared.WideGradient.{WideGradient}
 use Rattle.genpowcone.proofs.gradient_primal.Goals as goal

@@ -5,14 +5,13 @@ use Rattle.genpowcone.proofs.is_primal_feasible.Goals as goal
 pub returns-then-all_above_zero : goal.returns-then-all_above_zero
 unfolding primal_feasible signs primal_margin
 returns-then-all_above_zero c =
-    let tested = c.before.before.before in
+    let tested = c.before.before in
     simp (
       ← tested.head.ensures,
       ← tested.all_above_zero.ensures,
       tested.if-all_above_zero.true,
-      ← c.primal_residue-primal.ensures,
-      ← c.power_margin.ensures,
-      c.told.ensures,
+      ← c.primal_residue.ensures,
+      c.answer.ensures,
     )
 
 pub returns : goal.returns

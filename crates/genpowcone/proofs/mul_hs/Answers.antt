@@ -7,7 +7,8 @@ use Rattle.double.specs.Numbers.{#1}
 use Rattle.algebra.specs.Vectors.{dot_of}
 use Rattle.cone.specs.Points.{padded}
 use Rattle.genpowcone.specs.loops.Places.{product_head, product_tail, finished}
-use Rattle.genpowcone.proofs.loops.Arrays.{zip_padded, head-and-tail, product-head-length, product-tail-length}
+use Rattle.cone.proofs.Written.{head-and-tail}
+use Rattle.genpowcone.proofs.loops.Arrays.{zip_padded, product-head-length, product-tail-length}
 use Rattle.genpowcone.specs.Rank3.{mul_hs_at}
 use Rattle.genpowcone.proofs.mul_hs.Goals as goal
 

@@ -8,7 +8,7 @@ use Rattle.double.specs.Operators.{◌⊖◌, ◌⊗◌, ◌⊘◌}
 use Rattle.double.specs.Numbers.{#1, #2}
 use Rattle.cone.specs.Points.{padded}
 use Rattle.genpowcone.specs.loops.Places.{times, grad_head, heads_of}
-use Rattle.genpowcone.proofs.loops.Arrays.{zip_length, head-and-tail}
+use Rattle.cone.proofs.Written.{zip_length, head-and-tail}
 use Rattle.genpowcone.specs.Rank3.{rank3_at}
 use Rattle.genpowcone.proofs.rank3.Goals as goal
 

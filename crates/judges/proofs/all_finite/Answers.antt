@@ -1,24 +1,16 @@
--- `all_finite` meets its contract. The loop's invariant: all of the slice passes exactly if what is behind does and what is left of it
--- does. The measure is what is left of the length. Assumes nothing.
-use mathlib.Core.Path.{refl, sym, ◌∙◌, ap}
-use mathlib.Core.Bool.{Bool, ◌&&◌}
-use Prim.Native.Nat.{◌+◌}
-use native.Mathlib.Omega.{arith}
-use lib.ListN.{drop}
+-- `all_finite` meets its contract: its fold asks every place. Assumes nothing.
+use Rattle.std.proofs.Common.{rules, ◌∙◌}
+use Rattle.std.proofs.lemmas.Iterator.{YieldsList-from_slice}
+use Rattle.std.proofs.lemmas.Iterator.Consumers.{fold_from_yields_List}
+use mathlib.Core.Bool.{Bool, true, ◌&&◌}
+use lib.Ieee.{Float}
 use lib.Ieee.Scale.{finite}
-use Rattle.judges.specs.Judges.{all_of}
-use Rattle.judges.proofs.cone_judge.Folds.{all_next, all_ended}
+use Rattle.judges.proofs.cone_judge.Folds.{all_folded}
 use Rattle.judges.proofs.all_finite.Goals as goal
 
-pub loop-i-preserved : goal.loop-i-preserved
-loop-i-preserved c =
-    let xs = c.args.xs.now in
-    let at_i = c.loop-i in
-    let judged = ap (λ (t : Bool). at_i.all && t && all_of finite (drop (at_i.i + 1) xs)) (sym c.is_finite-all.ensures) in
-    (omega arith, refl, at_i.invariant.2 ∙ all_next finite xs at_i.i at_i.all (omega arith) ∙ judged)
-
 pub returns : goal.returns
-returns c = sym (c.loop-i.invariant.2 ∙ all_ended finite _ c.loop-i.i c.loop-i.all (omega arith))
-
-pub loop-i-init : goal.loop-i-init
-loop-i-init c = (omega arith, refl, refl)
+returns c =
+    let xs = c.args.xs.now in
+    fold_from_yields_List _ (λ (all : Bool) (x : Float). all && finite x) true _ c.fold.ensures.ran (YieldsList-from_slice xs cc)
+    (λ a x b q k. search rules)
+    ∙ all_folded finite xs

@@ -5,4 +5,4 @@ use Rattle.root.proofs.table_root.SameRoot.{same_root}
 use Rattle.kernels.proofs.sqrt.Goals as goal
 
 pub returns : goal.returns
-returns c = ap (λ (r : Root). r.root) c.sqrt-rooted.ensures ∙ same_root.same c.args.x
+returns c = ap (λ (r : Root). r.root) c.sqrt.ensures ∙ same_root.same c.args.x

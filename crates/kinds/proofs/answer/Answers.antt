@@ -26,7 +26,7 @@ returns-in-3 c =
 pub returns-in_default : goal.returns-in_default
 unfolding answer_in
 returns-in_default c =
-    let not_1 : c.args.kind ≡ 1 → ⊥ = omega arith in
-    let not_2 : c.args.kind ≡ 2 → ⊥ = omega arith in
-    let not_3 : c.args.kind ≡ 3 → ⊥ = omega arith in
+    let not_1 : c.args.cone.now.kind ≡ 1 → ⊥ = omega arith in
+    let not_2 : c.args.cone.now.kind ≡ 2 → ⊥ = omega arith in
+    let not_3 : c.args.cone.now.kind ≡ 3 → ⊥ = omega arith in
     simp (ne_eqb _ _ not_1, ne_eqb _ _ not_2, ne_eqb _ _ not_3)

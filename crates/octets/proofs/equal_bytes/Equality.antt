@@ -1,10 +1,11 @@
 -- The test says yes of a row and itself, and of no other. Assumes nothing.
-use mathlib.Core.Path.{◌≡◌, refl}
+use mathlib.Core.Path.{◌≡◌, refl, ap}
 use mathlib.Core.Bool.{Bool, true, false, ◌&&◌}
 use mathlib.Core.List.{List, [], ◌∷◌}
 use Prim.Native.Nat.{ℕ}
 use lib.Dec.{eqb}
 use borrow.Author.Tests.{eqb-true, eq-eqb}
+use Rattle.std.specs.Str.{bytes_eq}
 use Rattle.octets.specs.equal_bytes.Equal.{equal_bytes}
 
 pub equal_itself : (xs : List ℕ) → equal_bytes xs xs ≡ true
@@ -33,3 +34,11 @@ other_by xs ys h false e = e
 
 pub equal_false : (xs ys : List ℕ) → (xs ≡ ys → ⊥) → equal_bytes xs ys ≡ false
 equal_false xs ys h = other_by xs ys h (equal_bytes xs ys) refl
+
+-- std's comparison of slices is the same test
+pub compared : (xs ys : List ℕ) → bytes_eq xs ys ≡ equal_bytes xs ys
+unfolding equal_bytes
+compared [] [] = refl
+compared [] (y ∷ ys) = refl
+compared (x ∷ xs) [] = refl
+compared (x ∷ xs) (y ∷ ys) = ap (λ (b : Bool). eqb x y && b) (compared xs ys)

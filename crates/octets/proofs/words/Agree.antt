@@ -1,4 +1,4 @@
--- 01: "For each, show that any two outcomes allowed by it agree". Not here: `front` and `behind`, which hand back a part of
+-- 01: "For each, show that any two outcomes allowed by it agree". Not here: `front` and `behind` of arith, which hand back a part of
 -- the slice that they were lent; their contracts fix what the part holds, not where it lies. Assumes nothing.
 use mathlib.Core.Path.{refl, sym, ◌∙◌}
 use mathlib.Core.List.{List}

@@ -1,11 +1,12 @@
 -- The turns of the loops that read and write one number. Assumes nothing.
-use mathlib.Core.Path.{◌≡◌, refl}
+use mathlib.Core.Path.{◌≡◌, refl, ap, ◌∙◌}
 use Prim.Native.Nat.{ℕ, zero, suc, ◌+◌, ◌*◌, ◌-◌, ◌/◌, ◌%◌, ◌^◌, ◌<◌, ◌≤◌}
 use mathlib.Core.List.{List, [], ◌∷◌}
 use native.Mathlib.Omega.{arith}
 use native.Mathlib.Nat.{pow-le-pow_right}
 use lib.ListN.{take, drop, get_or, set}
-use lib.Seq.{sets}
+use lib.Seq.{sets, take-take}
+use Rattle.std.specs.Int.{w32, w64, from_le_bytes}
 use Rattle.octets.specs.words.Words.{le, spelled}
 
 -- ---- reading: byte i in front of the bytes above it
@@ -62,6 +63,17 @@ spelled_eight bs =
       read-turn 7 8 bs (omega arith),
       read_none 8 bs,
     )
+
+-- what std reads of the first bytes
+pub std_four : (row bs : List ℕ) → row ≡ take 4 bs → from_le_bytes w32 row ≡ spelled (take 4 bs)
+std_four row bs h =
+    let here : from_le_bytes w32 row ≡ spelled (take 4 row) = omega (arith, spelled_four row) in
+    here ∙ ap (λ (r : List ℕ). spelled (take 4 r)) h ∙ ap spelled (take-take 4 4 bs (omega arith))
+
+pub std_eight : (row bs : List ℕ) → row ≡ take 8 bs → from_le_bytes w64 row ≡ spelled (take 8 bs)
+std_eight row bs h =
+    let here : from_le_bytes w64 row ≡ spelled (take 8 row) = omega (arith, spelled_eight row) in
+    here ∙ ap (λ (r : List ℕ). spelled (take 8 r)) h ∙ ap spelled (take-take 8 8 bs (omega arith))
 
 -- a number of k bytes and one byte more
 pub one_more : (x b k : ℕ) → x < 256 ^ k → b < 256 → x * 256 + b < 256 ^ suc k

@@ -6,7 +6,9 @@ use native.Mathlib.Omega.{arith}
 use native.Mathlib.Numerals.{add-one}
 use native.Mathlib.Nat.{mul-le-mul_left}
 use lib.ListN.{length, take, drop, get_or, set, length-take, length-drop, drop_of_length-le}
-use lib.Seq.{sets, sets-eq, set_comm, get_or-set_other, drop-cons, get_or-take, get_or-drop, take_at}
+use lib.Seq.{sets, sets-eq, set_comm, get_or-set_other, drop-cons, get_or-take, get_or-drop, take_at, take_all}
+use borrow.Rule.Slice.PartMut.{put_mid}
+use Rattle.std.proofs.lemmas.Slice.{put_mid-paste}
 use Rattle.octets.specs.words.Words.{le, row_bytes}
 use Rattle.octets.proofs.words.Words.{length-le}
 
@@ -91,3 +93,12 @@ sets_first vs l h =
 pub cut-is : (row found exit : List ℕ) (n : ℕ) → exit ≡ sets row 0 found → n ≡ length found → length found ≤ length row
     → take n exit ≡ found
 cut-is row found exit n wrote count h = rw (wrote, sets_first found row h) (take_at found (drop (length found) row) n (sym count))
+
+-- ---- a part that is written at once
+
+pub part_written : (place n : ℕ) (out part bytes : List ℕ) → part ≡ bytes → n ≡ length bytes → place + length bytes ≤ length out
+    → put_mid place n out part ≡ sets out place bytes
+part_written place n out part bytes e count room =
+    let all : take (length bytes) bytes ≡ bytes = take_all (length bytes) bytes (omega arith) in
+    let long : length bytes ≡ n = sym count in
+    put_mid-paste place n out part bytes (length bytes) e long refl ∙ (rw all (sym (sets-eq bytes out place room)))

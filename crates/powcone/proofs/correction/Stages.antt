@@ -1,15 +1,14 @@
 -- `higherCorrectionOf` in stages, so that the proof of `higher_correction` replaces one call at a time: what the code computes of its calls'
 -- results is a function of them, and with what each call promises it is the definition. Assumes nothing.
 use mathlib.Core.Path.{◌≡◌, refl}
-use mathlib.Core.Bool.{true, false, cond}
 use mathlib.Core.List.{List, [], ◌∷◌}
+use Rattle.std.specs.Prelude.{Option, Some, None, option_map, unwrap_or}
 use lib.Ieee.{Float, neg}
 use Rattle.double.specs.Operators.{◌⊕◌, ◌⊖◌, ◌⊗◌, ◌⊘◌, at}
 use Rattle.double.specs.Numbers.{#0, #½, #1, #2, #4}
 use Rattle.algebra.specs.Vectors.{dot_of}
 use Rattle.algebra.specs.Packed.{mul_of}
 use Rattle.algebra.specs.Cholesky.{factor_of, solve_of}
-use Rattle.algebra.specs.declared.sym3.Factor.{Factor}
 use Rattle.powcone.specs.Barriers.{dual_phi}
 use Rattle.powcone.specs.correction.Correction.{higher_correction_of}
 
@@ -71,21 +70,21 @@ module _ (α : Float) (z v u : List Float) where
 -- the definition, from Cholesky's answer on
 pub by-factor
     : (α : Float) (h z ds v : List Float)
-    → higher_correction_of α h z ds v ≡ cond (factor_of h).ok (from_solved α z v (solve_of (factor_of h).l ds)) (#0 ∷ #0 ∷ #0 ∷ [])
+    → higher_correction_of α h z ds v ≡ unwrap_or (option_map (λ l. from_solved α z v (solve_of l ds)) (factor_of h)) (#0 ∷ #0 ∷ #0 ∷ [])
 unfolding higher_correction_of from_solved from_products
 by-factor α h z ds v = refl
 
 pub solved
-    : (α : Float) (h z ds v u : List Float) (f : Factor)
+    : (α : Float) (h z ds v u l : List Float) (f : Option (List Float))
     → f ≡ factor_of h
-    → f.ok ≡ true
-    → u ≡ solve_of f.l ds
+    → f ≡ Some l
+    → u ≡ solve_of l ds
     → from_solved α z v u ≡ higher_correction_of α h z ds v
-solved α h z ds v u f g e s = rw (by-factor, s, ← g, e)
+solved α h z ds v u l f g e s = rw (by-factor, s, ← g, e)
 
 pub failed
-    : (α : Float) (h z ds v : List Float) (f : Factor)
+    : (α : Float) (h z ds v : List Float) (f : Option (List Float))
     → f ≡ factor_of h
-    → f.ok ≡ false
+    → f ≡ None
     → (#0 ∷ #0 ∷ #0 ∷ []) ≡ higher_correction_of α h z ds v
 failed α h z ds v f g e = rw (by-factor, ← g, e)

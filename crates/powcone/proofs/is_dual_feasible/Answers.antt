@@ -6,7 +6,7 @@ use Rattle.powcone.proofs.is_dual_feasible.Goals.{else-z-via-then-z+else-z-2, el
 pub returns-then-z-2 : goal.returns-then-z-2
 unfolding dual_feasible signs dual_margin
 returns-then-z-2 c =
-    simp (c.if-z.true, c.if-z-2.true, ← c.dual_residue-dual.ensures, ← c.power_margin.ensures, c.told.ensures)
+    simp (c.if-z.true, c.if-z-2.true, ← c.dual_residue.ensures, c.answer.ensures)
 
 pub returns : goal.returns
 unfolding dual_feasible signs

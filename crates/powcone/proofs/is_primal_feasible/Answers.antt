@@ -6,7 +6,7 @@ use Rattle.powcone.proofs.is_primal_feasible.Goals.{else-s-via-then-s+else-s-2, 
 pub returns-then-s-2 : goal.returns-then-s-2
 unfolding primal_feasible signs primal_margin
 returns-then-s-2 c =
-    simp (c.if-s.true, c.if-s-2.true, ← c.primal_residue-primal.ensures, ← c.power_margin.ensures, c.told.ensures)
+    simp (c.if-s.true, c.if-s-2.true, ← c.primal_residue.ensures, c.answer.ensures)
 
 pub returns : goal.returns
 unfolding primal_feasible signs

@@ -1,5 +1,5 @@
 -- The third-order correction of the power cone, as 001 computes it. Definitions only.
-use Rattle.std.specs.Prelude.{cond, List, [], ◌∷◌, Float}
+use Rattle.std.specs.Prelude.{List, [], ◌∷◌, option_map, unwrap_or, Float}
 use Rattle.std.specs.Float.Ieee.{neg}
 use Rattle.double.specs.Operators.{◌⊕◌, ◌⊖◌, ◌⊗◌, ◌⊘◌, at}
 use Rattle.double.specs.Numbers.{#0, #½, #1, #2, #4}
@@ -8,12 +8,11 @@ use Rattle.algebra.specs.Packed.{mul_of}
 use Rattle.algebra.specs.Cholesky.{factor_of, solve_of}
 use Rattle.powcone.specs.Barriers.{dual_phi}
 
--- 001 higher_correction at z, with h the dual Hessian there. 01: "a pivot not above 0 fails and makes the correction zero". The Rust keeps
+-- 001 higher_correction at z, with l the factor of the dual Hessian h there. 01: "a pivot not above 0 fails and makes the correction zero". The Rust keeps
 -- the gradient of ψ in η, here gψ, and writes the correction over it
-unfoldable pub higher_correction_of : Float → List Float → List Float → List Float → List Float → List Float
-higher_correction_of α h z ds v =
-    let chol_h = factor_of h in
-    let u = solve_of chol_h.l ds in
+abbrev pub correction_by : Float → List Float → List Float → List Float → List Float → List Float
+correction_by α z ds v l =
+    let u = solve_of l ds in
     let z0 = at z 0 in
     let z1 = at z 1 in
     let z2 = at z 2 in
@@ -46,9 +45,10 @@ higher_correction_of α h z ds v =
     let η2 = coef ⊗ gψ2 ⊕ at Hψv 2 ⊗ dotψu ⊗ inv-ψ2 in
     let Hψu = mul_of Hψ u in
     let a = dotψv ⊗ inv-ψ2 in
-    cond chol_h.ok
-    ((a ⊗ at Hψu 0 ⊕ #1 ⊗ η0) ⊗ #½ ∷ (a ⊗ at Hψu 1 ⊕ #1 ⊗ η1) ⊗ #½ ∷ (a ⊗ at Hψu 2 ⊕ #1 ⊗ η2) ⊗ #½ ∷ [])
-    (#0 ∷ #0 ∷ #0 ∷ [])
+    (a ⊗ at Hψu 0 ⊕ #1 ⊗ η0) ⊗ #½ ∷ (a ⊗ at Hψu 1 ⊕ #1 ⊗ η1) ⊗ #½ ∷ (a ⊗ at Hψu 2 ⊕ #1 ⊗ η2) ⊗ #½ ∷ []
+
+unfoldable pub higher_correction_of : Float → List Float → List Float → List Float → List Float → List Float
+higher_correction_of α h z ds v = unwrap_or (option_map (correction_by α z ds v) (factor_of h)) (#0 ∷ #0 ∷ #0 ∷ [])
 
 -- 001 combined_ds_shift: gradᵢ·σμ - ηᵢ, with h, z and grad of the scaling record
 unfoldable pub combined_ds_shift_of : Float → List Float → List Float → List Float → List Float → List Float → Float → List Float

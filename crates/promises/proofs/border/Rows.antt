@@ -17,7 +17,7 @@ use Rattle.cone.specs.Fresh.{fresh_of, no_three, no_wide}
 use Rattle.cone.specs.Codes.{numel_of}
 use Rattle.judges.specs.Judges.{all_of, cone_ok, cone_ok_within, three_ok, three_finite, record_finite}
 use Rattle.cone.specs.table.Table.{first_row, settle}
-use Rattle.judges.specs.Refusals.{last_rows}
+use Rattle.judges.specs.Refusals.{last_rows, settle_record}
 use Rattle.expcone.specs.feasible.Feasible as expcone
 use Rattle.expcone.specs.wright.Omega.{taylor_start, start_of, refine_of, refined_of, omega_of, omega_at}
 use Rattle.expcone.specs.PrimalGradient.{gradient_primal_of}
@@ -40,7 +40,7 @@ use Rattle.promises.specs.border.Rows.{AllRight, Border, table}
 
 pub border-rows : Border
 unfolding table is_primal_feasible_of is_dual_feasible_of dual_grad_h_of backtrack_search_of record_entries.gradient_primal_of
-    read_faults search_faults gradient_rows first_row settle last_rows cone_ok cone_ok_within three_ok numel_of all_of three_finite record_finite fresh_of
+    read_faults search_faults gradient_rows first_row settle last_rows settle_record cone_ok cone_ok_within three_ok numel_of all_of three_finite record_finite fresh_of
     no_three no_wide passes_in answer_in exp_answer pow_answer cones.dual_grad_h_of three.update_dual_grad_h_of three.gradient_primal_of search_of scan
     trial moved_of told_of abs_of power_margin expcone.primal_feasible expcone.primal_signs expcone.primal_residue expcone.primal_residue_at
     expcone.primal_margin expcone.primal_margin_at expcone.dual_feasible expcone.dual_signs expcone.dual_residue expcone.dual_residue_at

@@ -5,6 +5,7 @@ use mathlib.Core.Path.{◌≡◌, refl, sym, ap, ◌∙◌, subst}
 use mathlib.Core.Bool.{Bool, true, false, cond, not, ◌&&◌, ◌||◌}
 use mathlib.Core.List.{List, [], ◌∷◌}
 use lib.Dec.{eqb, ltb}
+use Rattle.std.specs.Prelude.{Option, Some, None}
 use lib.Ieee.{Float}
 use lib.Ieee.Scale.{finite}
 use lib.ListN.{length, drop}
@@ -13,7 +14,7 @@ use Rattle.arith.proofs.Branches.{false_not_true, and_left, and_right}
 use Rattle.cone.specs.declared.Cone.{Cone}
 use Rattle.cone.specs.declared.verdict.Verdict.{Verdict}
 use Rattle.cone.specs.declared.Updated.{Updated}
-use Rattle.cone.specs.declared.Attempt.{Attempt}
+use Rattle.cone.specs.declared.Scaling.{Scaling}
 use Rattle.cone.specs.declared.Number.{Number}
 use Rattle.cone.specs.declared.Rounds.{Rounds}
 use Rattle.cone.specs.declared.Found.{Found}
@@ -28,7 +29,7 @@ use Rattle.cone.proofs.table.Settled.{no_fault}
 use Rattle.judges.specs.Judges.{all_finite, record_finite}
 use Rattle.judges.proofs.Lengths.{cone_is_ok}
 use Rattle.judges.specs.Refusals as shared
-use Rattle.judges.specs.Refusals.{Lent, LentTwo, last_rows, refuse, refuse_two, refuse_number, refuse_rounds, refuse_update}
+use Rattle.judges.specs.Refusals.{Lent, LentTwo, last_rows, settle_record, refuse, refuse_two, refuse_number, refuse_rounds, refuse_update}
 use Rattle.judges.specs.Refusals.{publish_of, judged_of, counted_of, with_rounds}
 use Rattle.kinds.specs.declared.three.ThreeGradient.{ThreeGradient}
 use Rattle.kinds.specs.Cones.{alpha_of}
@@ -139,9 +140,10 @@ module _ (ns : List ℕ) where
     unfolding shared.number_of
     a_number x = either (λ (n : Number). n.code) (finite x) _ _ zero_in seven
 
-    judged : In 6 → (panics : Bool) (x : Float) → In (judged_of panics x).code
+    judged : In 6 → (x : Option Float) → In (judged_of x).code
     unfolding judged_of
-    judged six panics x = either (λ (n : Number). n.code) panics _ _ six (a_number x)
+    judged six None = six
+    judged six (Some x) = a_number x
 
     with_rounds_lem : (n : ℕ) (old ans : List Float) → In (with_rounds n (publish_of old ans)).answer.code
     unfolding publish_of counted_of
@@ -151,14 +153,18 @@ module _ (ns : List ℕ) where
         go true = zero_in
         go false = seven
 
-    by_panics : In 6 → (g : List Float) (t : ThreeGradient) → In (three_entries.published g t).answer.code
-    by_panics six g t =
-        either (λ (l : Lent Rounds). l.answer.code) t.panics (refuse_rounds g 6) (with_rounds t.rounds (publish_of g t.g)) six
-        (with_rounds_lem t.rounds g t.g)
+    by_panics : In 6 → (g : List Float) (t : Option ThreeGradient) → In (three_entries.published g t).answer.code
+    by_panics six g None = six
+    by_panics six g (Some t) = with_rounds_lem t.rounds g t.g
 
-    last_rows_lem : In 6 → (a : Attempt) → In (last_rows a)
-    unfolding last_rows
-    last_rows_lem six a = row a.panics 6 _ (λ e. six) (either (λ (k : ℕ). k) (record_finite a.scaling) 0 7 zero_in seven)
+    -- a new record, or 6 or 7
+    by_record : {A : Type 0} (code : A → ℕ) (refusal : ℕ → A) → ((k : ℕ) → code (refusal k) ≡ k) → In 6
+        → (made : Option Scaling) (finish : Scaling → A) → ((new : Scaling) → In (code (finish new)))
+        → In (code (settle_record made finish refusal))
+    unfolding settle_record last_rows
+    by_record code refusal carries six None finish p = subst In (sym (carries 6)) six
+    by_record code refusal carries six (Some new) finish p =
+        settled code refusal carries _ (finish new) (either (λ (k : ℕ). k) (record_finite new) 0 7 zero_in seven) (p new)
 
 -- ---- the entries, each by its row with 0
 
@@ -190,7 +196,7 @@ of_entry_lem (dual_grad_h z) c =
     let ns : List ℕ = 0 ∷ of_entry (dual_grad_h z) in
     settled ns (λ (g : DualGrad). g.code) cones.refuse_grad (λ k. refl) _ _
     (first-row ns (read_faults c z) (λ e. refl) (λ e. refl) (λ e. refl) (none ns 4) (none ns 11) (none ns 5) (none ns 10) refl)
-    (settled ns (λ (g : DualGrad). g.code) cones.refuse_grad (λ k. refl) _ _ (last_rows_lem ns refl refl refl _) refl)
+    (by_record ns refl refl (λ (g : DualGrad). g.code) cones.refuse_grad (λ k. refl) refl _ _ (λ new. refl))
 of_entry_lem (unit_initialization z s) c =
     let ns : List ℕ = 0 ∷ of_entry (unit_initialization z s) in
     settled_if ns (λ (l : LentTwo ℕ). l.answer) (refuse_two z s) (λ k. refl) _ _
@@ -230,7 +236,7 @@ of_entry_lem (update_scaling r s z μ strategy) c =
     let ns : List ℕ = 0 ∷ of_entry (update_scaling r s z μ strategy) in
     settled ns (λ (u : Updated). u.code) (refuse_update (with_cone c r)) (λ k. refl) _ _
     (first-row ns _ (λ e. refl) (λ e. refl) (λ e. refl) (λ e. refl) (λ e. refl) (none ns 5) (none ns 10) refl)
-    (settled ns (λ (u : Updated). u.code) (refuse_update (with_cone c r)) (λ k. refl) _ _ (last_rows_lem ns refl refl refl _) refl)
+    (by_record ns refl refl (λ (u : Updated). u.code) (refuse_update (with_cone c r)) (λ k. refl) refl _ _ (λ new. refl))
 of_entry_lem (gradient_primal r g s) c =
     let ns : List ℕ = 0 ∷ of_entry (gradient_primal r g s) in
     settled ns (λ (l : Lent Rounds). l.answer.code) (refuse_rounds g) (λ k. refl) _ _
@@ -241,12 +247,12 @@ of_entry_lem (barrier_primal r s) c =
     let ns : List ℕ = 0 ∷ of_entry (barrier_primal r s) in
     settled ns (λ (n : Number). n.code) refuse_number (λ k. refl) _ _
     (first-row ns _ (λ e. refl) (λ e. refl) (λ e. refl) (none ns 4) (none ns 11) (none ns 5) (none ns 10) refl)
-    (judged ns refl refl refl _ _)
+    (judged ns refl refl refl _)
 of_entry_lem (compute_barrier r z s dz ds step) c =
     let ns : List ℕ = 0 ∷ of_entry (compute_barrier r z s dz ds step) in
     settled ns (λ (n : Number). n.code) refuse_number (λ k. refl) _ _
     (first-row ns _ (λ e. refl) (λ e. refl) (λ e. refl) (none ns 4) (none ns 11) (none ns 5) (none ns 10) refl)
-    (judged ns refl refl refl _ _)
+    (judged ns refl refl refl _)
 of_entry_lem (get_hs r serial block) c =
     let ns : List ℕ = 0 ∷ of_entry (get_hs r serial block) in
     settled ns (λ (l : Lent ℕ). l.answer) (refuse block) (λ k. refl) _ _

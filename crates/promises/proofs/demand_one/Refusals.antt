@@ -5,6 +5,7 @@ use mathlib.Core.Path.{◌≡◌, refl, sym, ap, ◌∙◌}
 use mathlib.Core.Bool.{Bool, true, false, cond, ◌&&◌}
 use mathlib.Core.List.{List}
 use lib.Dec.{eqb, ltb}
+use Rattle.std.specs.Prelude.{Option, Some, None}
 use lib.Ieee.{Float}
 use lib.Ieee.Scale.{finite}
 use lib.ListN.{length, drop}
@@ -13,6 +14,7 @@ use Rattle.cone.specs.declared.Cone.{Cone}
 use Rattle.cone.specs.declared.verdict.Verdict.{Verdict}
 use Rattle.cone.specs.declared.Updated.{Updated}
 use Rattle.cone.specs.declared.Number.{Number}
+use Rattle.cone.specs.declared.Scaling.{Scaling}
 use Rattle.cone.specs.declared.Rounds.{Rounds}
 use Rattle.cone.specs.declared.Found.{Found}
 use Rattle.cone.specs.declared.Steps.{Steps}
@@ -25,7 +27,7 @@ use Rattle.cone.specs.table.Table.{settle}
 use Rattle.judges.specs.Judges.{all_finite}
 use Rattle.judges.specs.Refusals as shared
 use Rattle.judges.specs.Refusals.{Lent, LentTwo, refuse, refuse_two, refuse_number, refuse_rounds, refuse_update, publish_of, publish_two_of}
-use Rattle.judges.specs.Refusals.{judged_of, counted_of, with_rounds}
+use Rattle.judges.specs.Refusals.{last_rows, settle_record, judged_of, counted_of, with_rounds}
 use Rattle.kinds.specs.declared.three.ThreeGradient.{ThreeGradient}
 use Rattle.kinds.specs.Cones.{alpha_of}
 use Rattle.kinds.specs.Three as three
@@ -81,6 +83,13 @@ module _ {A : Type 0} (code : A → ℕ) (refusal : ℕ → A) where
     settled zero x p = p
     settled (suc k) x p = with_number (suc k)
 
+    -- a new record, or 6 or 7
+    by_record : (made : Option Scaling) (finish : Scaling → A) → ((new : Scaling) → Refuses (finish new))
+        → Refuses (settle_record made finish refusal)
+    unfolding settle_record
+    by_record None finish p = with_number 6
+    by_record (Some new) finish p = settled (last_rows (Some new)) (finish new) (p new)
+
 -- ---- an answer that is published, or refused with 6 or 7
 
 abbrev answer : Lent ℕ → ℕ
@@ -106,9 +115,10 @@ a_number : (x : Float) → Refuses value_code refuse_number (shared.number_of x)
 unfolding shared.number_of
 a_number x = either value_code refuse_number (finite x) _ _ (done value_code refuse_number _ refl) (with_number value_code refuse_number (λ k. refl) 7)
 
-judged : (panics : Bool) (x : Float) → Refuses value_code refuse_number (judged_of panics x)
+judged : (x : Option Float) → Refuses value_code refuse_number (judged_of x)
 unfolding judged_of
-judged panics x = either value_code refuse_number panics _ _ (with_number value_code refuse_number (λ k. refl) 6) (a_number x)
+judged None = with_number value_code refuse_number (λ k. refl) 6
+judged (Some x) = a_number x
 
 abbrev rounds_code : Lent Rounds → ℕ
 rounds_code l = l.answer.code
@@ -122,10 +132,9 @@ with_rounds_lem n old ans = go (all_finite ans)
     go false = λ e. refl
 
 -- 6: "Wright omega argument below 0"
-by_panics : (g : List Float) (t : ThreeGradient) → Refuses rounds_code (refuse_rounds g) (three_entries.published g t)
-by_panics g t =
-    either rounds_code (refuse_rounds g) t.panics (refuse_rounds g 6) (with_rounds t.rounds (publish_of g t.g))
-    (with_number rounds_code (refuse_rounds g) (λ k. refl) 6) (with_rounds_lem t.rounds g t.g)
+by_panics : (g : List Float) (t : Option ThreeGradient) → Refuses rounds_code (refuse_rounds g) (three_entries.published g t)
+by_panics g None = with_number rounds_code (refuse_rounds g) (λ k. refl) 6
+by_panics g (Some t) = with_rounds_lem t.rounds g t.g
 
 -- "yes, always" at 0, and so no beside another number
 yes_if_done_lem : (δ : List Float) (l : Lent ℕ) → Refuses answer (refuse δ) l
@@ -170,7 +179,7 @@ of_entry_lem (is_dual_feasible z) c n =
 of_entry_lem (barrier_dual z) c n = ap number (settled value_code refuse_number (λ k. refl) _ _ (a_number _) n)
 of_entry_lem (dual_grad_h z) c n =
     let no = cones.refuse_grad in
-    ap dual_grad (settled grad_code no (λ k. refl) _ _ (settled grad_code no (λ k. refl) _ _ (done grad_code no _ refl)) n)
+    ap dual_grad (settled grad_code no (λ k. refl) _ _ (by_record grad_code no (λ k. refl) _ _ (λ new. done grad_code no _ refl)) n)
 of_entry_lem (unit_initialization z s) c n =
     let no = refuse_two z s in
     ap written_two (settled pair_answer no (λ k. refl) _ _
@@ -185,13 +194,13 @@ of_entry_lem (step_length dz ds z s dual_point primal_point how) c n =
     ap found_two (settled steps_code no (λ k. refl) _ _ (done steps_code no _ refl) n)
 of_entry_lem (update_scaling r s z μ strategy) c n =
     let no = refuse_update (with_cone c r) in
-    ap updated (settled updated_code no (λ k. refl) _ _ (settled updated_code no (λ k. refl) _ _ (done updated_code no _ refl)) n)
+    ap updated (settled updated_code no (λ k. refl) _ _ (by_record updated_code no (λ k. refl) _ _ (λ new. done updated_code no _ refl)) n)
 of_entry_lem (gradient_primal r g s) c n =
     let no = refuse_rounds g in
     ap counted (settled rounds_code no (λ k. refl) _ _
     (either rounds_code no (eqb c.kind 3) _ _ (with_rounds_lem _ g _) (by_panics g (three.gradient_primal_of c.kind (alpha_of c) (three_of s)))) n)
-of_entry_lem (barrier_primal r s) c n = ap number (settled value_code refuse_number (λ k. refl) _ _ (judged _ _) n)
-of_entry_lem (compute_barrier r z s dz ds step) c n = ap number (settled value_code refuse_number (λ k. refl) _ _ (judged _ _) n)
+of_entry_lem (barrier_primal r s) c n = ap number (settled value_code refuse_number (λ k. refl) _ _ (judged _) n)
+of_entry_lem (compute_barrier r z s dz ds step) c n = ap number (settled value_code refuse_number (λ k. refl) _ _ (judged _) n)
 of_entry_lem (get_hs r serial block) c n =
     let no = refuse block in
     ap written (settled answer no (λ k. refl) _ _ (either answer no (eqb c.kind 3) _ _ (published block _) (published block _)) n)

@@ -1,20 +1,20 @@
 -- Every entry looks at a cone's rule in row 1 alone: with the row's answer known, what is left of a call is the same under any rule, but
 -- for the record that it hands back. Assumes nothing.
-use Prim.Native.Nat.{ℕ, zero, suc}
-use mathlib.Core.Path.{◌≡◌, refl, ap}
+use Prim.Native.Nat.{ℕ, zero, suc, ◌+◌}
+use mathlib.Core.Path.{◌≡◌, refl, ap, ◌∙◌}
 use mathlib.Core.Bool.{Bool, true, false, cond}
 use mathlib.Core.List.{List}
 use lib.Dec.{eqb}
 use lib.Ieee.{Float}
 use Rattle.cone.specs.declared.Cone.{Cone}
 use Rattle.cone.specs.declared.Scaling.{Scaling}
-use Rattle.cone.specs.declared.Attempt.{Attempt}
+use Rattle.std.specs.Prelude.{Option, Some, None, option_map}
 use Rattle.cone.specs.declared.Updated.{Updated}
 use Rattle.cone.specs.Codes.{numel_of, block_of}
 use Rattle.judges.specs.Judges.{rule1, rule2, rule_ok, cone_ok, record_finite}
 use Rattle.cone.specs.Fresh as made
 use Rattle.cone.specs.table.Table.{first_row, settle}
-use Rattle.judges.specs.Refusals.{last_rows}
+use Rattle.judges.specs.Refusals.{last_rows, settle_record}
 use Rattle.kinds.specs.Cones as kinds
 use Rattle.scaling.specs.Updates.{new_three, new_wide, new_record_of}
 use Rattle.call_cone.specs.formulas.Rows.{fresh_faults, read_faults, unit_faults, copy_faults, offset_faults}
@@ -34,38 +34,59 @@ use Rattle.promises.proofs.rules.Tolerances.{wider}
 
 -- ---- what is handed back of a record in the making
 
-abbrev attempt_under : ℕ → Attempt → Attempt
-attempt_under rule a = record { panics = a.panics; scaling = record_under rule a.scaling }
+abbrev made_under : ℕ → Option Scaling → Option Scaling
+made_under rule made = option_map (record_under rule) made
 
 either
-    : (is-3 : Bool) (rule : ℕ) (x y : Attempt)
-    → cond is-3 (attempt_under rule x) (attempt_under rule y) ≡ attempt_under rule (cond is-3 x y)
-either true rule x y = refl
-either false rule x y = refl
+    : (is-3 : Bool) (rule : ℕ) (x y u v : Option Scaling) → u ≡ made_under rule x → v ≡ made_under rule y
+    → cond is-3 u v ≡ made_under rule (cond is-3 x y)
+either true rule x y u v p q = p
+either false rule x y u v p q = q
 
-dual-made : (rule : ℕ) (c : Cone) (z : List Float) → kinds.dual_grad_h_of (under rule c) z ≡ attempt_under rule (kinds.dual_grad_h_of c z)
+-- what is made under a rule of what may not be there
+each-made : {A : Type 0} (rule : ℕ) (f g : A → Scaling) → ((x : A) → f x ≡ record_under rule (g x)) → (o : Option A)
+    → option_map f o ≡ made_under rule (option_map g o)
+each-made rule f g p None = refl
+each-made rule f g p (Some x) = ap (λ (new : Scaling). Some new) (p x)
+
+dual-made : (rule : ℕ) (c : Cone) (z : List Float) → kinds.dual_grad_h_of (under rule c) z ≡ made_under rule (kinds.dual_grad_h_of c z)
 unfolding kinds.dual_grad_h_of
-dual-made rule c z = either (eqb c.kind 3) rule _ _
+dual-made rule c z = either (eqb c.kind 3) rule _ _ _ _ (each-made rule _ _ (λ w. refl) _) refl
 
 new-made
     : (rule : ℕ) (c : Cone) (s z : List Float) (μ : Float) (strategy : ℕ)
-    → new_record_of (under rule c) s z μ strategy ≡ attempt_under rule (new_record_of c s z μ strategy)
+    → new_record_of (under rule c) s z μ strategy ≡ made_under rule (new_record_of c s z μ strategy)
 unfolding new_record_of new_three new_wide
-new-made rule c s z μ strategy = either (eqb c.kind 3) rule _ _
+new-made rule c s z μ strategy =
+    either (eqb c.kind 3) rule _ _ _ _ (each-made rule _ _ (λ w. refl) _) (each-made rule _ _ (λ hs. refl) _)
 
 -- rows 6 and 7 ask for no rule
-last_rows_lem : (rule : ℕ) (a : Attempt) → last_rows (attempt_under rule a) ≡ last_rows a
-unfolding last_rows record_finite
-last_rows_lem rule a = refl
+record-settled
+    : {A : Type 0} (rule : ℕ) (made : Option Scaling) (finish finish' : Scaling → A) (refuse : ℕ → A)
+    → ((new : Scaling) → finish (record_under rule new) ≡ finish' new)
+    → settle_record (made_under rule made) finish refuse ≡ settle_record made finish' refuse
+unfolding settle_record last_rows record_finite
+record-settled rule None finish finish' refuse p = refl
+record-settled rule (Some new) finish finish' refuse p = ap (λ x. settle (last_rows (Some new)) x refuse) (p new)
+
+settled-under
+    : (rule k : ℕ) (x : Updated) (refuse : ℕ → Updated)
+    → settle k (updated_under rule x) (λ j. updated_under rule (refuse j)) ≡ updated_under rule (settle k x refuse)
+unfolding settle
+settled-under rule zero x refuse = refl
+settled-under rule (suc k) x refuse = refl
 
 both-settled
-    : (rule k l : ℕ) (x : Updated) (refuse : ℕ → Updated)
-    → settle k (settle l (updated_under rule x) (λ j. updated_under rule (refuse j))) (λ j. updated_under rule (refuse j))
-    ≡ updated_under rule (settle k (settle l x refuse) refuse)
-unfolding settle
-both-settled rule zero zero x refuse = refl
-both-settled rule zero (suc l) x refuse = refl
-both-settled rule (suc k) l x refuse = refl
+    : (rule k : ℕ) (made : Option Scaling) (finish finish' : Scaling → Updated) (refuse : ℕ → Updated)
+    → ((new : Scaling) → finish (record_under rule new) ≡ updated_under rule (finish' new))
+    → settle k (settle_record (made_under rule made) finish (λ j. updated_under rule (refuse j))) (λ j. updated_under rule (refuse j))
+    ≡ updated_under rule (settle k (settle_record made finish' refuse) refuse)
+unfolding settle settle_record last_rows record_finite
+both-settled rule zero None finish finish' refuse p = refl
+both-settled rule zero (Some new) finish finish' refuse p =
+    ap (λ (x : Updated). settle (last_rows (Some new)) x (λ j. updated_under rule (refuse j))) (p new)
+    ∙ settled-under rule (last_rows (Some new)) (finish' new) refuse
+both-settled rule (suc k) made finish finish' refuse p = refl
 
 module _ (r : Scaling) (c : Cone) (rule : ℕ) (ok : cone_ok c ≡ true) (ok' : cone_ok (under rule c) ≡ true) where
   update_made
@@ -74,8 +95,8 @@ module _ (r : Scaling) (c : Cone) (rule : ℕ) (ok : cone_ok c ≡ true) (ok' : 
       ≡ updated_under rule (updates.update_scaling_of (with_cone c r) s z μ strategy)
   unfolding updates.update_scaling_of updates.update_rows numel_of record_finite
   update_made s z μ strategy =
-      let new = new_record_of c s z μ strategy in
-      rw (ok, ok', new-made rule c s z μ strategy, last_rows_lem rule new) (both-settled rule _ (last_rows new) _ _)
+      let done = updates.completed (r.serial + 1) in
+      rw (ok, ok', new-made rule c s z μ strategy) (both-settled rule _ (new_record_of c s z μ strategy) done done _ (λ new. refl))
 
 -- ---- the entries
 
@@ -90,7 +111,8 @@ in_row_one fresh c rule ok ok' = rw (ok, ok')
 in_row_one (is_primal_feasible s) c rule ok ok' = rw (ok, ok')
 in_row_one (is_dual_feasible z) c rule ok ok' = rw (ok, ok')
 in_row_one (barrier_dual z) c rule ok ok' = rw (ok, ok')
-in_row_one (dual_grad_h z) c rule ok ok' = rw (ok, ok', dual-made rule c z, last_rows_lem rule (kinds.dual_grad_h_of c z))
+in_row_one (dual_grad_h z) c rule ok ok' =
+    rw (ok, ok', dual-made rule c z, record-settled rule (kinds.dual_grad_h_of c z) cones.grad_of cones.grad_of cones.refuse_grad (λ new. refl))
 in_row_one (unit_initialization z s) c rule ok ok' = rw (ok, ok')
 in_row_one (rectify_equilibration δ e) c rule ok ok' = rw (ok, ok')
 in_row_one (affine_ds ds s) c rule ok ok' = rw (ok, ok')

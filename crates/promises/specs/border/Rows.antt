@@ -1,6 +1,6 @@
 -- 01, "Points at the border": the twelve rows as one table, each a call of a public entry (row g: of omega, which is not public) and its
 -- answer. Definitions, and the one statement.
-use Rattle.std.specs.Prelude.{ℕ, ◌≡◌, true, false, List, [], ◌∷◌, Float, replicate}
+use Rattle.std.specs.Prelude.{ℕ, ◌≡◌, Some, true, false, List, [], ◌∷◌, Float, replicate}
 use Rattle.std.specs.Float.Ieee.{neg}
 use Rattle.double.specs.Numbers.{dec, #0, #½, #1, #2, #4}
 use Rattle.cone.specs.declared.verdict.Answer.{Answer}
@@ -47,7 +47,7 @@ pub data Row : Type 0 where
 abbrev pub Right : Row → Type 0
 Right (primal c s answer) = is_primal_feasible_of c s ≡ verdict_of answer
 Right (dual c z answer) = is_dual_feasible_of c z ≡ verdict_of answer
-Right (omega x w) = omega_of x ≡ record { panics = false; w = w }
+Right (omega x w) = omega_of x ≡ Some w
 Right (primal_gradient_refused c s k) =
     (x y z : Float)
     → gradient_primal_of (fresh_of c) (triple x y z) s ≡ record { answer = record { code = k; rounds = 0 }; slice = triple x y z }

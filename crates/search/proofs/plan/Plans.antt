@@ -18,7 +18,7 @@ use Rattle.cone.specs.Codes.{numel_of}
 use Rattle.judges.specs.Judges.{cone_ok}
 use Rattle.judges.proofs.Lengths.{numel_at_most}
 use Rattle.cone.specs.words.Words.{cone_of_words, cones_of}
-use Rattle.search.specs.declared.plan.Tested.{Tested}
+use Rattle.search.specs.declared.trials.Tested.{Tested}
 use Rattle.search.specs.plan.Plans.{total_of, all_cones_ok, most_cones, plan_ok, cone_passes, all_pass, tests_of, tested_of}
 
 -- ---- the list of words, from place i on; z stands for a cone that is not there

@@ -7,9 +7,10 @@ use Rattle.judges.specs.Judges.{cone_ok}
 use Rattle.kinds.specs.Passes.{passes_in}
 use Rattle.search.specs.trials.Search.{Problem}
 use Rattle.search.specs.trials.Costed.{Costed}
+use Rattle.search.specs.trials.Asked.{Trials, searched_with}
 use Rattle.search.specs.Points.{trial_point}
 use Rattle.search.specs.Problems.{Searchable}
-use Rattle.search.specs.declared.plan.Tested.{Tested}
+use Rattle.search.specs.declared.trials.Tested.{Tested}
 
 -- ---- the plan, judged
 
@@ -51,14 +52,21 @@ tested_of cs primal p = record { all = all_pass cs primal p; count = tests_of cs
 
 -- ---- the search
 
--- what it is about: 003's, with another test
-abbrev pub plan_problem : List Cone → Bool → List Float → List Float → Settings → Problem
-plan_problem cs primal dq q how =
-    record { test = all_pass cs primal; point_at = λ (α : Float). trial_point q dq α; q = q; how = how }
+-- its trials: 003's, with another test. 02, Order 10: "Tests counted are single cone tests"
+abbrev pub plan_trials : List Cone → Bool → List Float → List Float → Trials
+plan_trials cs primal dq q =
+    record { test = all_pass cs primal; cost = tests_of cs primal; point_at = λ (α : Float). trial_point q dq α; q = q }
 
--- 02, Order 10: "Tests counted are single cone tests"
 abbrev pub plan_of : List Cone → Bool → List Float → List Float → Settings → Costed
-plan_of cs primal dq q how = record { problem = plan_problem cs primal dq q how; cost = tests_of cs primal }
+plan_of cs primal dq q how = searched_with (plan_trials cs primal dq q) how
+
+-- what it is about
+abbrev pub plan_problem : List Cone → Bool → List Float → List Float → Settings → Problem
+plan_problem cs primal dq q how = (plan_of cs primal dq q how).problem
+
+-- how many cones a plan has
+abbrev pub Listed : List Cone → Type 0
+Listed cs = (1 ≤ length cs) × (length cs ≤ most_cones)
 
 -- what is known when it begins: the numbers 1 to 4 did not refuse
 pub record Plannable (cs : List Cone) (dq q : List Float) (how : Settings) (point : List Float) : Type 0 where

@@ -5,9 +5,10 @@ use Rattle.cone.specs.declared.Settings.{Settings}
 use Rattle.judges.specs.Refusals.{LentTwo}
 use Rattle.search.specs.trials.Search.{Problem, Outcome}
 use Rattle.search.specs.trials.Costed.{Costed}
+use Rattle.search.specs.trials.Asked.{Trials, searched_with}
 use Rattle.search.specs.declared.Searched.{Searched}
 use Rattle.search.specs.Points.{trial_point}
-use Rattle.search.specs.declared.plan.Tested.{Tested}
+use Rattle.search.specs.declared.trials.Tested.{Tested}
 use Rattle.search.specs.plan.Plans.{total_of, all_pass, tests_of}
 
 -- 01: "at which every cone passes on both sides": on its part of the dual point and on its part of the primal one
@@ -29,13 +30,6 @@ pub record OnSide (cs : List Cone) (dq q point : List Float) : Type 0 where
   pub dq_length : length dq ≡ length q
   pub point-length : length point ≡ length q
 
--- a trial as the code makes it: the primal point is written where the dual side has passed, and else left as it was
-abbrev pub trial_tested : List Cone → List Float → List Float → List Float → List Float → Float → List Float → LentTwo Tested
-trial_tested cs dz ds z s α old =
-    let dual = trial_point z dz α in
-    let primal = trial_point s ds α in
-    record { answer = both_tested_of cs dual primal; first = dual; second = cond (all_pass cs false dual) primal old }
-
 -- A search has one point: the dual side's numbers, and the primal side's behind them.
 abbrev pub dual_side : List Cone → List Float → List Float
 dual_side cs p = take (total_of cs) p
@@ -43,19 +37,21 @@ dual_side cs p = take (total_of cs) p
 abbrev pub primal_side : List Cone → List Float → List Float
 primal_side cs p = drop (total_of cs) p
 
--- what the search is about: one trial moves both sides
-abbrev pub sides_problem : List Cone → List Float → List Float → List Float → List Float → Settings → Problem
-sides_problem cs dz ds z s how = record {
+-- one trial moves both sides. 01: "Single tests are counted"
+abbrev pub sides_trials : List Cone → List Float → List Float → List Float → List Float → Trials
+sides_trials cs dz ds z s = record {
   test = λ (p : List Float). both_pass cs (dual_side cs p) (primal_side cs p);
+  cost = λ (p : List Float). both_tests cs (dual_side cs p) (primal_side cs p);
   point_at = λ (α : Float). trial_point z dz α ++ trial_point s ds α;
   q = z ++ s;
-  how = how;
 }
 
--- 01: "Single tests are counted"
 abbrev pub sides_of : List Cone → List Float → List Float → List Float → List Float → Settings → Costed
-sides_of cs dz ds z s how =
-    record { problem = sides_problem cs dz ds z s how; cost = λ (p : List Float). both_tests cs (dual_side cs p) (primal_side cs p) }
+sides_of cs dz ds z s how = searched_with (sides_trials cs dz ds z s) how
+
+-- what the search is about
+abbrev pub sides_problem : List Cone → List Float → List Float → List Float → List Float → Settings → Problem
+sides_problem cs dz ds z s how = (sides_of cs dz ds z s how).problem
 
 -- what it hands back: its point, side by side
 abbrev pub in_sides : List Cone → Outcome → LentTwo Searched

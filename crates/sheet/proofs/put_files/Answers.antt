@@ -1,6 +1,5 @@
 -- Where every file was read, the rows hold their sheet, and it is printed.
 use Rattle.std.proofs.Common.{refl, inr, []}
-use Rattle.std.proofs.lemmas.Bool.{not-false}
 use Rattle.trace_sheet.specs.counts.Sheet.{sheet_of}
 use Rattle.trace_sheet.specs.rows.Rows.{Held, totals_of}
 use Rattle.trace_sheet.specs.rows.Sums.{Begun}
@@ -16,7 +15,5 @@ returns c =
       skipped = c.flag_room-skipped.result;
     } in
     let begun : Begun before = record { totals = refl; dual = c.count_room-dual.ensures; primal = c.count_room-primal.ensures } in
-    inr (sheet_printed c.args.files c.args.text.now c.put_sheet-printed.new.text before _ c.requires.0 c.requires.1 begun
-    c.flag_room-skipped.ensures c.count_files-counted.result.done (not-false _ c.if-not-counted.false)
-    c.count_files-counted.ensures
-    c.put_sheet-printed.result c.put_sheet-printed.ensures)
+    inr (sheet_printed c.args.files c.args.text.now c.put_sheet-printed.new.text before _ _ _ c.requires.0 c.requires.1 begun
+    c.flag_room-skipped.ensures _ c.in-Some.ensures c.put_sheet-printed.result c.put_sheet-printed.ensures)

@@ -12,7 +12,6 @@ use Rattle.octets.specs.words.Words.{word_at}
 use Rattle.octets.proofs.words.Runs.{word_behind}
 use Rattle.trace_layout.specs.Records.{size_at, laid_at}
 use Rattle.trace_layout.specs.Traces.{walks}
-use Rattle.trace_layout.proofs.Records.{found}
 
 -- ---- two numbers, one of them moved
 
@@ -60,10 +59,6 @@ module _ (e count at i : ℕ) (body entries : List ℕ) (more : i < count) where
           drop-drop 8 (8 * i) entries,
           next,
         )
-
-    -- it lies in the body
-    pub lies_inside : at ≤ length body → at + n ≤ length body
-    lies_inside inside = omega (arith, (found e (drop at body) laid).room, length-drop at body)
 
 pub walked_all : (e count at i : ℕ) (body entries : List ℕ) → count ≤ i → at ≤ length body → eqb at (length body)
     ≡ walks e (count - i) at (drop at body) (drop (8 * i) entries)

@@ -1,4 +1,4 @@
--- 01: "For each, show that any two outcomes allowed by it agree". Not here: the four functions over
+-- 01: "For each, show that any two outcomes allowed by it agree". Not here: the four methods of
 -- a Reader, whose contracts say each field of their answer. Assumes nothing.
 use mathlib.Core.Path.{sym, ◌∙◌}
 use Rattle.arith.specs.Outcomes.{OneAnswer}

@@ -3,7 +3,7 @@
 use mathlib.Core.Path.{◌≡◌, refl, sym, ap, ◌∙◌}
 use mathlib.Core.Bool.{Bool, true, false, not, ◌&&◌}
 use mathlib.Core.List.{List, ◌++◌}
-use Prim.Native.Nat.{ℕ, ◌+◌, ◌*◌, ◌^◌, ◌≤◌, ◌<◌}
+use Prim.Native.Nat.{ℕ, ◌+◌, ◌*◌, ◌≤◌}
 use native.Mathlib.Omega.{arith}
 use lib.Dec.{eqb, leb, ltb}
 use lib.Ieee.{Float}
@@ -19,10 +19,9 @@ use Rattle.octets.proofs.words.Words.{below-take}
 use Rattle.octets.proofs.words.Stores.{cut-is}
 use Rattle.trace_layout.specs.Records.{Record, bytes_of, exponents, runs_for, shape_ok, laid_at, record_at}
 use Rattle.trace_layout.specs.declared.pieces.Shape.{Shape}
-use Rattle.trace_layout.specs.declared.pieces.Piece.TheVariants as pieces
-use Rattle.trace_layout.specs.pieces.Shapes.{shape_at, found_at}
+use Rattle.std.specs.Prelude.{Some}
+use Rattle.trace_layout.specs.pieces.Shapes.{found_at}
 use Rattle.trace_layout.proofs.pieces.Shapes.{record_is_laid}
-use Rattle.trace_layout.proofs.Records.{laid_inside}
 use Rattle.trace_layout.specs.Traces.{known, records_bytes, offsets_from, trace_of}
 use Rattle.trace_layout.proofs.Traces.{length-offsets}
 use Rattle.trace_layout.specs.declared.pieces.Entry.{Entry}
@@ -114,15 +113,9 @@ module _ (bs : List ℕ) (e at : ℕ) where
   unfolding record_at_of
   none_there h none = rw (h, none)
 
-  module _ (t : List ℕ) (part : t ≡ drop at bs) (shape : Shape) (found : found_at e (drop at bs) ≡ pieces.Record shape) where
+  module _ (t : List ℕ) (part : t ≡ drop at bs) (shape : Shape) (found : found_at e (drop at bs) ≡ Some shape) where
     laid : laid_at e (drop at bs) ≡ true
     laid = (record_is_laid e (drop at bs) shape found).0
-
-    pub there : length bs < 2 ^ 64 → (laid_at e t ≡ true) × (shape ≡ shape_at e t) × (at + shape.size < 2 ^ 64)
-    unfolding shape_at
-    there fits =
-        let is = (record_is_laid e (drop at bs) shape found).1 in
-        (rw part laid, rw part is, omega (arith, ap (λ (x : Shape). x.size) is, laid_inside e at bs laid, fits))
 
     pub one_there : known e ≡ true → recorded_of e at (record_at e t) ≡ record_at_of bs e at
     unfolding record_at_of

@@ -20,7 +20,7 @@ use Rattle.trace.specs.value.Defaults.{default_of}
 use Rattle.trace.specs.value.Recorded.{row_in, cone_of, settings_of, steps_of, recorded_of}
 use Rattle.trace_layout.proofs.Fields.{kind_of, dim1_of, dim2_of, rule-of, exps_of, start_of, flag_of, step_of, smallest_of, dz_of, ds_of}
 use Rattle.trace_layout.proofs.Fields.{z_of, s_of, dualstep_of, dualcount_of, primalstep_of, primalcount_of}
-use Rattle.trace_layout.proofs.Records.{found, Bounds, bounds, exponents-most, rules_most}
+use Rattle.trace_layout.proofs.Records.{found, Bounds, bounds, exponents-most, rules_most, size-least}
 
 module _ (e : ℕ) (t : List ℕ) where
   -- the bounds of a record that was found
@@ -74,6 +74,9 @@ module _ (e : ℕ) (t : List ℕ) (shape : Shape) (is : shape ≡ shape_at e t) 
 
   pub high_flag : 28 ≤ flag_place e shape.kind shape.dim1
   high_flag = rw (kind_is, dim1_is) (flag_behind e t)
+
+  pub long : 56 ≤ shape.size
+  long = omega (arith, size_is, size-least e (kind_at t) (dim1_at t) (dim2_at t) (flag_at e t))
 
   -- ---- the parts
 
@@ -141,12 +144,13 @@ module _ (e : ℕ) (t : List ℕ) (shape : Shape) (is : shape ≡ shape_at e t) 
   next-read : (at : ℕ) → at + shape.size ≡ at + size_in e (record_at e t)
   next-read at = rw (size_is, kind_of e t, dim1_of e t, dim2_of e t, flag_of e t)
 
-  pub all_read : (at : ℕ) (cone : Cone) (settings : Settings) (steps : Steps) (dz ds z s : List Float)
+  pub all_read : (at : ℕ) (cone : Cone) (settings : Settings) (steps : Steps) (dz ds z s : List Float) (n place : ℕ)
       → cone ≡ cone_of (record_at e t) → settings ≡ settings_of e (record_at e t) → steps ≡ steps_of (record_at e t)
-      → dz ≡ row_in 64 numbers (drop first_vector t)
-      → ds ≡ row_in 64 numbers (drop (first_vector + 8 * numbers) t)
-      → z ≡ row_in 64 numbers (drop (first_vector + 16 * numbers) t)
-      → s ≡ row_in 64 numbers (drop (first_vector + 24 * numbers) t)
+      → n ≡ numbers → place ≡ first_vector
+      → dz ≡ row_in 64 n (drop place t)
+      → ds ≡ row_in 64 n (drop (place + 8 * n) t)
+      → z ≡ row_in 64 n (drop (place + 16 * n) t)
+      → s ≡ row_in 64 n (drop (place + 24 * n) t)
       → record {
         code =
             0;
@@ -163,5 +167,25 @@ module _ (e : ℕ) (t : List ℕ) (shape : Shape) (is : shape ≡ shape_at e t) 
       }
       ≡ recorded_of e at (record_at e t)
   unfolding recorded_of row_in
-  all_read at cone settings steps dz ds z s a b c f g h i =
-      rw (a, b, c, f, g, h, i, next-read at, kind_is, dim1_is, dim2_is, flag_is, flag_of e t, dz_of e t, ds_of e t, z_of e t, s_of e t)
+  all_read at cone settings steps dz ds z s n place a b c k p f g h i =
+      rw (
+        a,
+        b,
+        c,
+        f,
+        g,
+        h,
+        i,
+        k,
+        p,
+        next-read at,
+        kind_is,
+        dim1_is,
+        dim2_is,
+        flag_is,
+        flag_of e t,
+        dz_of e t,
+        ds_of e t,
+        z_of e t,
+        s_of e t,
+      )

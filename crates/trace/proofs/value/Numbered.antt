@@ -10,14 +10,14 @@ use Rattle.arith.proofs.Branches.{and_left, false_not_true}
 use Rattle.octets.specs.words.Words.{word_at}
 use Rattle.trace_layout.specs.declared.pieces.Shape.{Shape}
 use Rattle.trace.specs.declared.judge.Judged.{Judged}
-use Rattle.trace_layout.specs.declared.pieces.Piece.TheVariants.{Record, Broken}
+use Rattle.std.specs.Prelude.{Some, None}
 use Rattle.trace_layout.specs.Records.{laid_at, record_at}
 use Rattle.trace_layout.specs.Traces.{list_at, count_at, edition_at, offset_at, trailer_ok, walks, good_trace}
 use Rattle.trace.specs.judge.Opening.{open_of}
 use Rattle.trace_layout.specs.pieces.Shapes.{shape_at}
 use Rattle.trace.specs.reader.Reading.{found_from}
 use Rattle.trace_layout.proofs.Traces.{ends}
-use Rattle.trace_layout.proofs.pieces.Shapes.{record_is_laid, broken_is_not}
+use Rattle.trace_layout.proofs.pieces.Shapes.{record_is_laid, none_is_not}
 use Rattle.trace_layout.proofs.Records.{laid_inside}
 use Rattle.trace_layout.proofs.Entries.{entry_laid, entry_read}
 use Rattle.trace.specs.value.Recorded.{recorded_of, refused_record, recorded_in}
@@ -76,11 +76,11 @@ module _ (bs : List ℕ) (i : ℕ) (o : Judged) (is : o ≡ open_of bs) where
         stands : laid_at o.edition (drop at body) ≡ true
         stands = rw (edition-is, body_is, at-is) (entry_laid bs good (record_at (edition_at bs) []) i within)
 
-        pub never_broken : found_from body at o.edition ≡ Broken → ⊥
-        never_broken h = false_not_true (sym (broken_is_not o.edition (drop at body) h) ∙ stands)
+        pub never_none : found_from body at o.edition ≡ None → ⊥
+        never_none h = false_not_true (sym (none_is_not o.edition (drop at body) h) ∙ stands)
 
         -- it ends in the trace
-        pub found_inside : (shape : Shape) → found_from body at o.edition ≡ Record shape → at + shape.size ≤ length bs
+        pub found_inside : (shape : Shape) → found_from body at o.edition ≡ Some shape → at + shape.size ≤ length bs
         unfolding shape_at
         found_inside shape h =
             omega (
@@ -92,12 +92,6 @@ module _ (bs : List ℕ) (i : ℕ) (o : Judged) (is : o ≡ open_of bs) where
             )
 
         module _ (t : List ℕ) (part : t ≡ drop at body) where
-          pub found_laid : laid_at o.edition t ≡ true
-          found_laid = rw part stands
-
-          pub found_shape : (shape : Shape) → found_from body at o.edition ≡ Record shape → shape ≡ shape_at o.edition t
-          found_shape shape h = rw part (record_is_laid o.edition (drop at body) shape h).1
-
           pub numbered : recorded_of o.edition at (record_at o.edition t) ≡ recorded_in bs i
           unfolding recorded_in
           numbered =

@@ -9,14 +9,12 @@ use crate::record_writer::put_record;
 use octets::words::{put, put_words};
 use trace_layout::pieces::{BACK_MARK, Entry, Place};
 
-// Moves n bytes up, the last one first, since the two places may overlap.
+// Moves n bytes up, the last one first, since the two places may overlap. No `copy_within`: the library needs memcpy and memset alone.
 fn move_up(bytes: &mut [u8], from: usize, n: usize, by: usize)
     requires { from + n + by ≤ length bytes.old }
     ensures { bytes.new ≡ sets bytes.old (from + by) (take n (drop from bytes.old)) }
 {
-    let mut i = n;
-    while 0 < i {
-        i -= 1;
+    for i in (0..n).rev() {
         bytes[from + by + i] = bytes[from + i];
     }
 }

@@ -1,9 +1,7 @@
 -- The shape of the record at the front of a list of bytes, as the parser hands it back. Definitions only.
-use Rattle.std.specs.Prelude.{ℕ, ◌-◌, Bool, true, false, ◌&&◌, List, eqb, leb, length}
+use Rattle.std.specs.Prelude.{ℕ, ◌-◌, Bool, cond, ◌&&◌, List, Option, Some, None, eqb, leb, length}
 use Rattle.octets.specs.words.Words.{word_at}
 use Rattle.trace_layout.specs.declared.pieces.Shape.{Shape}
-use Rattle.trace_layout.specs.declared.pieces.Piece.{Piece}
-use Rattle.trace_layout.specs.declared.pieces.Piece.TheVariants.{Record, Broken}
 use Rattle.trace_layout.specs.Records.{step_mark, dual_step_back, primal_step_back}
 use Rattle.trace_layout.specs.Records.{kind_at, dim1_at, dim2_at, flag_at, size_at, shape_ok, step_ok, laid_at}
 
@@ -20,9 +18,6 @@ laid_with t shape =
     && step_ok (word_at 8 t (shape.size - dual_step_back))
     && step_ok (word_at 8 t (shape.size - primal_step_back)))
 
-abbrev pub pick_piece : Bool → Piece → Piece → Piece
-pick_piece true x y = x
-pick_piece false x y = y
-
-unfoldable pub found_at : ℕ → List ℕ → Piece
-found_at edition t = pick_piece (laid_at edition t) (Record (shape_at edition t)) Broken
+-- the record at the front, if one stands there
+unfoldable pub found_at : ℕ → List ℕ → Option Shape
+found_at edition t = cond (laid_at edition t) (Some (shape_at edition t)) None

@@ -5,7 +5,7 @@ ghost use Rattle.trace_layout.specs.Records.{has_rule, rules_in, own_dims, expon
 ghost use Rattle.trace_layout.specs.Records.{step_ok, shape_ok};
 ghost use Rattle.trace_layout.specs.pieces.Shapes.{shape_at, laid_with, found_at};
 
-use super::{DUAL_STEP_BACK, FIXED_SIZE, HEAD_SIZE, PRIMAL_STEP_BACK, Piece, STEP_MARK, Shape};
+use super::{DUAL_STEP_BACK, FIXED_SIZE, HEAD_SIZE, PRIMAL_STEP_BACK, STEP_MARK, Shape};
 use octets::words::{u32_at, u64_at};
 
 // The bits of the infinity. 02: "a step is +0 or positive and finite"
@@ -124,14 +124,14 @@ fn laid_with(t: &[u8], shape: Shape) -> bool
         & step_ok(u64_at(t, size - PRIMAL_STEP_BACK))
 }
 
-// The record at the front, or that there is none.
-pub fn found_at(edition: u32, t: &[u8]) -> Piece
+// The record at the front, if one stands there.
+pub fn found_at(edition: u32, t: &[u8]) -> Option<Shape>
     ensures { result ≡ found_at edition t.now }
 {
     let shape = shape_at(edition, t);
     if laid_with(t, shape) {
-        Piece::Record(shape)
+        Some(shape)
     } else {
-        Piece::Broken
+        None
     }
 }

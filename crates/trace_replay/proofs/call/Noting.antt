@@ -14,7 +14,7 @@ use Rattle.octets.specs.words.Words.{word_at}
 use Rattle.octets.proofs.words.Stores.{wrote_after}
 use Rattle.trace_layout.specs.declared.pieces.Shape.{Shape}
 use Rattle.trace.specs.declared.judge.Judged.{Judged}
-use Rattle.trace_layout.specs.declared.pieces.Piece.TheVariants.{Record, Broken}
+use Rattle.std.specs.Prelude.{Some, None}
 use Rattle.trace_layout.specs.Records.{kind_at, dim1_at, dim2_at, flag_at, laid_at, record_at, size_at, size_in}
 use Rattle.trace_layout.specs.Traces.{most_records, list_at, count_at, edition_at, trailer_ok, walks, good_trace, records_in}
 use Rattle.trace_layout.proofs.Fields.{kind_of, dim1_of, dim2_of, flag_of}
@@ -25,7 +25,7 @@ use Rattle.trace.specs.declared.value.Recorded.{Recorded}
 use Rattle.trace.specs.value.Recorded.{cone_of, recorded_of}
 use Rattle.trace.specs.judge.Opening.{open_of}
 use Rattle.trace_layout.specs.pieces.Shapes.{shape_at}
-use Rattle.trace_layout.proofs.pieces.Shapes.{record_is_laid, broken_is_not}
+use Rattle.trace_layout.proofs.pieces.Shapes.{record_is_laid, none_is_not}
 use Rattle.trace.proofs.judge.Walking.{not_laid, other_entry, walked_on}
 use Rattle.trace.specs.reader.Reading.{found_from, behind_found, place_after}
 use Rattle.trace_replay.specs.call.Replay.{same_record, noted, differing, differing_in}
@@ -119,10 +119,10 @@ module _ (bs : List ℕ) (o : Judged) (is : o ≡ open_of bs) where
     entry_with false h = absurd (false_not_true (other_entry o.edition o.count at i (body bs o)
         (entries bs o) more laid (eqb-false _ _ h) ∙ w))
 
-    pub never_broken : found_from (body bs o) at o.edition ≡ Broken → ⊥
-    never_broken h = false_not_true (sym (broken_is_not o.edition here h) ∙ laid)
+    pub never_none : found_from (body bs o) at o.edition ≡ None → ⊥
+    never_none h = false_not_true (sym (none_is_not o.edition here h) ∙ laid)
 
-    module _ (shape : Shape) (found : found_from (body bs o) at o.edition ≡ Record shape) where
+    module _ (shape : Shape) (found : found_from (body bs o) at o.edition ≡ Some shape) where
       pub found_shape : shape ≡ shape_at o.edition here
       found_shape = (record_is_laid o.edition here shape found).1
 

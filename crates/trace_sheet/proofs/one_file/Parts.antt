@@ -15,10 +15,13 @@ use Rattle.trace.specs.whole.Whole.{whole_records}
 use Rattle.trace.proofs.whole.Longest.{whole_holds}
 use Rattle.trace_sheet.specs.declared.counts.Largest.{Largest}
 use Rattle.trace_sheet.specs.counts.Counts.{Fresh, counts_of, largest_of}
+use Rattle.std.specs.Prelude.{Option, Some, None, is_some}
+use Rattle.std.specs.Option.{unwrap_or}
+use Rattle.trace_sheet.specs.declared.one_file.Part.{Part}
 use Rattle.trace_sheet.specs.counts.Sheet.{taken, entries_in, entries_of}
 use Rattle.trace_sheet.proofs.counts.Rows.{all_left, none_left}
 use Rattle.trace_sheet.specs.declared.one_file.Tally.{Tally}
-use Rattle.trace_sheet.specs.one_file.Part.{tally_of, part_of, nothing}
+use Rattle.trace_sheet.specs.one_file.Part.{tally_of, counted_of, part_of, nothing}
 
 module _ (bs : List ℕ) where
   -- ---- a file that is skipped
@@ -45,13 +48,27 @@ module _ (bs : List ℕ) where
     unfolding entries_of
     no_entries p file = rw skipped
 
-    pub no_part : nothing ≡ part_of bs
-    unfolding part_of largest_of
-    no_part = rw (skipped, no_entries false 1, no_entries true 1)
+    pub no_part : None ≡ part_of bs
+    unfolding part_of
+    no_part = rw skipped
+
+    -- .. and nothing is what it would add
+    pub adds-nothing : nothing ≡ counted_of bs
+    unfolding counted_of largest_of
+    adds-nothing = rw (no_entries false 1, no_entries true 1)
 
     pub no_counts : (p : Bool) (row : List ℕ) → Fresh row → row ≡ counts_of (entries_of p 1 bs)
     no_counts p row fresh =
         none_left row fresh.all ∙ all_left row fresh [] ∙ ap counts_of (sym (no_entries p 1))
+
+  -- whether it was taken, what is added is what it has
+  parts-by : (b : Bool) → taken bs ≡ b → (unwrap_or (part_of bs) nothing ≡ counted_of bs) × (is_some (part_of bs) ≡ taken bs)
+  unfolding part_of
+  parts-by true e = rw e (refl, refl)
+  parts-by false e = rw e (adds-nothing e, refl)
+
+  pub parts-add : (unwrap_or (part_of bs) nothing ≡ counted_of bs) × (is_some (part_of bs) ≡ taken bs)
+  parts-add = parts-by (taken bs) refl
 
   -- ---- a file that is counted
 
@@ -82,17 +99,17 @@ module _ (bs : List ℕ) where
         rw is-taken (ap (λ (e : ℕ). entries_in p 1 e 0 (whole_records e bs)) edition-is
         ∙ ap (entries_in p 1 (edition_at bs) 0) (whole_holds.good bs bytes good))
 
-    part-of : {b : Bool} {n : ℕ} {d p : Largest} → b ≡ taken bs → n ≡ length (entries_of false 1 bs) → d
-        ≡ largest_of (entries_of false 1 bs)
-        → p ≡ largest_of (entries_of true 1 bs) → record { taken = b; records = n; dual = d; primal = p } ≡ part_of bs
-    unfolding part_of
-    part-of h i j k = rw (h, i, j, k)
+    part-of : {n : ℕ} {d p : Largest} → n ≡ length (entries_of false 1 bs) → d ≡ largest_of (entries_of false 1 bs)
+        → p ≡ largest_of (entries_of true 1 bs)
+        → ◌≡◌ {A = Option Part} (Some (record { records = n; dual = d; primal = p })) (part_of bs)
+    unfolding part_of counted_of
+    part-of i j k = rw (is-taken, i, j, k)
 
     pub whole_part : (d p : Tally) → d ≡ tally_of (entries_in false 1 o.edition 0 (whole_records o.edition bs))
         → p ≡ tally_of (entries_in true 1 o.edition 0 (whole_records o.edition bs))
-        → record { taken = true; records = d.records; dual = d.largest; primal = p.largest } ≡ part_of bs
+        → ◌≡◌ {A = Option Part} (Some (record { records = d.records; dual = d.largest; primal = p.largest })) (part_of bs)
     unfolding tally_of
     whole_part d p d-is p-is =
-        part-of (sym is-taken) (ap (λ (x : Tally). x.records) d-is ∙ ap length (entries_are false))
+        part-of (ap (λ (x : Tally). x.records) d-is ∙ ap length (entries_are false))
         (ap (λ (x : Tally). x.largest) d-is ∙ ap largest_of (entries_are false))
         (ap (λ (x : Tally). x.largest) p-is ∙ ap largest_of (entries_are true))

@@ -18,7 +18,10 @@ use Rattle.trace_sheet.specs.counts.Laws.{AllBytes}
 use Rattle.trace_sheet.proofs.counts.Rows.{length-counts, all_left, none_left}
 use Rattle.trace_sheet.proofs.counts.AddsUp.{sheet_laws}
 use Rattle.trace_sheet.specs.declared.one_file.Part.{Part}
-use Rattle.trace_sheet.specs.one_file.Part.{part_of}
+use Rattle.trace_sheet.specs.one_file.Part.{counted_of, part_of, nothing}
+use Rattle.trace_sheet.proofs.one_file.Parts.{parts-add}
+use Rattle.std.specs.Prelude.{Option, is_some}
+use Rattle.std.specs.Option.{unwrap_or}
 use Rattle.trace_sheet.specs.declared.rows.Totals.{Totals}
 use Rattle.trace_sheet.specs.rows.Rows.{Held, sheet_in, totals_of, held, holding, rows_ok, rows_in, names_ok, spills, no_room, sheet_row}
 use Rattle.trace_sheet.specs.rows.Rows.{join_code}
@@ -48,12 +51,18 @@ filled : {r q : ℕ} {d e p o : Largest} {u v x y f g : List ℕ} → r ≡ q �
     (record { totals = record { code = 0; files = 1; records = q; dual = e; primal = o }; dual = v; primal = y; skipped = g })
 filled h i j k l m = rw (h, i, j, k, l, m)
 
-module _ (bs : List ℕ) (part : Part) (dual primal : List ℕ) (flag : ℕ) (is : part ≡ part_of bs)
+module _ (bs : List ℕ) (counted : Option Part) (part : Part) (dual primal : List ℕ) (flag : ℕ) (told : counted ≡ part_of bs)
+    (adds : part ≡ unwrap_or counted nothing)
     (dual-is : dual ≡ counts_of (entries_of false 1 bs)) (primal_is : primal ≡ counts_of (entries_of true 1 bs))
-    (flag_is : flag ≡ cond part.taken 0 1) where
+    (flag_is : flag ≡ cond (is_some counted) 0 1) where
   flags : ◌≡◌ {A = List ℕ} (flag ∷ []) (flag_of bs ∷ [])
-  unfolding part_of flag_of
-  flags = ap (λ (f : ℕ). f ∷ []) (flag_is ∙ ap (λ (x : Part). cond x.taken 0 1) is)
+  unfolding flag_of
+  flags =
+      ap (λ (f : ℕ). f ∷ []) (flag_is ∙ ap (λ (x : Option Part). cond (is_some x) 0 1) told
+      ∙ ap (λ (x : Bool). cond x 0 1) (parts-add bs).1)
+
+  is : part ≡ counted_of bs
+  is = adds ∙ ap (λ (x : Option Part). unwrap_or x nothing) told ∙ (parts-add bs).0
 
   pub one-held : record {
     totals = record { code = 0; files = 1; records = part.records; dual = part.dual; primal = part.primal };
@@ -61,7 +70,7 @@ module _ (bs : List ℕ) (part : Part) (dual primal : List ℕ) (flag : ℕ) (is
     primal = primal;
     skipped = flag ∷ [];
   } ≡ held (sheet_of (bs ∷ []))
-  unfolding held totals_of sheet_of part_of
+  unfolding held totals_of sheet_of counted_of
   one-held =
       filled (ap (λ (x : Part). x.records) is ∙ ap length (sym (single false bs)))
       (ap (λ (x : Part). x.dual) is ∙ ap largest_of (sym (single false bs)))

@@ -67,6 +67,13 @@ begun b count places numbers fits = record {
   listed = refl;
 }
 
+-- n, and k more if so
+pub more_so : (x n k : ℕ) (so : Bool) → so ≡ true → x ≡ n + k → x ≡ n + cond so k 0
+more_so x n k so is e = rw is e
+
+pub more_not : (x n k : ℕ) (so : Bool) → so ≡ false → x ≡ n → x ≡ n + cond so k 0
+more_not x n k so is e = rw is (omega (arith, e))
+
 module _ (b : List ℕ) (count : ℕ) (places₀ numbers₀ places numbers : List ℕ) (kept size i : ℕ)
     (so_far : Reached b count places₀ numbers₀ places numbers kept size i) where
   module _ (early : i < count) where

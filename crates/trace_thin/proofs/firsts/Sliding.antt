@@ -1,10 +1,9 @@
--- Bytes moved down within one slice, and zeros to its end: a turn of each loop. Assumes nothing.
+-- Bytes moved down within one slice: a turn of the loop. Assumes nothing.
 use mathlib.Core.Path.{◌≡◌, refl, sym, ap, ◌∙◌}
 use mathlib.Core.List.{List}
-use Prim.Native.Nat.{ℕ, suc, ◌+◌, ◌-◌, ◌≤◌, ◌<◌}
+use Prim.Native.Nat.{ℕ, ◌+◌, ◌-◌, ◌≤◌, ◌<◌}
 use native.Mathlib.Omega.{arith}
-use native.Mathlib.Numerals.{add-one}
-use lib.ListN.{length, take, drop, get_or, set, replicate, length-set, length-drop, length-take, drop_of_length-le}
+use lib.ListN.{length, take, drop, get_or, set, length-set, length-drop, length-take, drop_of_length-le}
 use lib.Seq.{sets, drop-set-lt, length-take-le, get_or-take, get_or-drop}
 use Rattle.octets.proofs.words.Stores.{copied}
 use Rattle.trace_thin.proofs.firsts.Moving.{later, same_at}
@@ -47,8 +46,3 @@ module _ (base bytes : List ℕ) (to from n i : ℕ) (s : Slid base bytes to fro
   slid_all late =
       let row = take n (drop from base) in
       ap (sets bytes (to + i)) (sym (drop_of_length-le row {i = i} (omega (arith, length-take n (drop from base))))) ∙ s.so_far
-
--- zeros
-pub zero_turn : (bytes : List ℕ) (i n : ℕ) → i < n
-    → sets (set bytes i 0) (i + 1) (replicate (n - (i + 1)) 0) ≡ sets bytes i (replicate (n - i) 0)
-zero_turn bytes i n h = let one_less : n - i ≡ suc (n - (i + 1)) = omega arith in rw (one_less, add-one i)

@@ -2,7 +2,7 @@
 -- lost. Assumes nothing.
 use Rattle.std.proofs.Common.{◌≡◌, ℕ, ◌+◌, ◌-◌, ◌*◌, ◌/◌, ◌%◌, ◌≤◌, refl, ap, ◌∙◌, ap₂, le_trans, le-add_right, arith}
 use Rattle.wide.proofs.PartialProducts.{base, Room, room, room_of, joined}
-use Rattle.wide.proofs.PartialProducts.{summed, summed-room, crossed, two_fit, three_fit, reaches, carry_room, put_together}
+use Rattle.wide.proofs.PartialProducts.{summed, summed-room, crossed, reaches, carry_room, put_together}
 use Rattle.wide.proofs.Products.{halves_of_product}
 use Rattle.wide.proofs.product.Goals as goal
 use Rattle.wide.proofs.product.Goals.{After-beyond-2, Start}
@@ -39,15 +39,6 @@ module _ (c : Start) where
   both_small : both ≤ 18446744065119617025
   both_small = room_of (a2 % base) (b2 % base) (omega arith) (omega arith)
 
-pub overflow_mul-top : goal.overflow_mul-top
-overflow_mul-top c = omega (arith, (small c).top)
-
-pub overflow_mul-low : goal.overflow_mul-low
-overflow_mul-low c = omega (arith, (small c).low)
-
-pub overflow_mul-both : goal.overflow_mul-both
-overflow_mul-both c = omega (arith, both_small c)
-
 -- past both calls of `beyond`
 module _ (c : After-beyond-2) where
   abbrev s : Start
@@ -67,20 +58,8 @@ module _ (c : After-beyond-2) where
   over_small : over ≤ 3 * base
   over_small = rw over-is (summed-room (a2 s) (b2 s) (omega arith) (omega arith))
 
-pub overflow_add-over : goal.overflow_add-over
-overflow_add-over c = omega (arith, over_small c)
-
-pub overflow_add-taken : goal.overflow_add-taken
-overflow_add-taken c = record { fits = two_fit (top (s c)) (low (s c)) (small (s c)).top (small (s c)).low }
-
-pub overflow_add-taken-2 : goal.overflow_add-taken-2
-overflow_add-taken-2 c = record { fits = three_fit (top (s c)) (low (s c)) (small (s c)).top (small (s c)).low }
-
 rest_of : (t w v : ℕ) → t + w ≤ v → w ≤ v - t
 rest_of t w v h = omega arith
-
-pub overflow_add-result : goal.overflow_add-result
-overflow_add-result c = omega (arith, over_small c.before, both_small (s c.before))
 
 pub overflow_sub-result : goal.overflow_sub-result
 overflow_sub-result c =

@@ -1,31 +1,30 @@
--- `newton_raphson_onesided` meets its contract: with iter rounds done, what is left of the hundred from x is the answer. The measure is
--- what is left of the hundred. Assumes nothing.
+-- `newton_raphson_onesided` meets its contract: with `done` rounds done, what is left of the hundred from x is the answer. Assumes nothing.
 use Rattle.std.proofs.Common.{refl, ◌∙◌, arith}
 use Rattle.algebra.specs.newton.Rounds.{newton_of}
 use Rattle.algebra.proofs.newton.RoundsLeft.{goes, halts, ends}
 use Rattle.algebra.proofs.newton.newton_raphson_onesided.Goals as goal
 
-pub loop-iter-init : goal.loop-iter-init
+pub loop-done-init : goal.loop-done-init
 unfolding newton_of
-loop-iter-init c = (omega arith, refl)
+loop-done-init c = refl
 
-pub loop-iter-preserved : goal.loop-iter-preserved
-loop-iter-preserved c =
+pub loop-done-preserved : goal.loop-done-preserved
+loop-done-preserved c =
     let s = c.before in
     let v = s.before in
     let d = v.before in
-    let l = d.loop-iter in
-    (omega arith, goes _ _ _ _ _ _ d.f1-dfdx.ensures v.f0.ensures s.stops.ensures l.iter (omega arith) c.if-stops.false ∙ l.invariant.1)
-
-pub returns-then-iter-eq100 : goal.returns-then-iter-eq100
-returns-then-iter-eq100 c =
-    let l = c.loop-iter in
-    ends _ _ _ l.iter c.if-iter-eq100.true ∙ l.invariant.1
+    let l = d.loop-done in
+    goes _ _ _ _ _ _ d.f1-dfdx.ensures v.f0.ensures s.stops.ensures l.done (omega arith) c.if-stops.false ∙ l.invariant
 
 pub returns-then-stops : goal.returns-then-stops
 returns-then-stops c =
     let s = c.before in
     let v = s.before in
     let d = v.before in
-    let l = d.loop-iter in
-    halts _ _ _ _ _ _ d.f1-dfdx.ensures v.f0.ensures s.stops.ensures l.iter (omega arith) c.if-stops.true ∙ l.invariant.1
+    let l = d.loop-done in
+    halts _ _ _ _ _ _ d.f1-dfdx.ensures v.f0.ensures s.stops.ensures l.done (omega arith) _ (omega arith) c.if-stops.true ∙ l.invariant
+
+pub returns : goal.returns
+returns c =
+    let l = c.loop-done in
+    ends _ _ l.x l.done (omega arith) ∙ l.invariant

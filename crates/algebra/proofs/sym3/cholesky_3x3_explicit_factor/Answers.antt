@@ -1,26 +1,25 @@
 -- `cholesky_3x3_explicit_factor` meets its contract: each pivot's test picks the definition's branch, and each root is the kernel's. The
 -- definition is taken in stages, one for each root. Assumes nothing.
-use Rattle.std.proofs.Common.{true, [], ◌∷◌, refl, ap, ◌∙◌}
+use Rattle.std.proofs.Common.{List, [], ◌∷◌, Option, Some, refl, ap, ◌∙◌}
 use lib.Ieee.{Float}
 use Rattle.arith.proofs.Branches.{taken, left}
 use Rattle.double.specs.Operators.{◌⊖◌, ◌⊗◌, ◌⊘◌}
 use Rattle.kernels.specs.Door.{sqrt_of}
-use Rattle.algebra.specs.declared.sym3.Factor.{Factor}
 use Rattle.algebra.specs.Cholesky.{if_above, factor_of}
 use Rattle.algebra.proofs.sym3.cholesky_3x3_explicit_factor.Goals as goal
 
 -- the factor from the third root on, from the second, from the first
-unfoldable with_third : Float → Float → Float → Float → Float → Float → Factor
-with_third l00 l10 l11 l20 l21 l22 = record { ok = true; l = l00 ∷ l10 ∷ l11 ∷ l20 ∷ l21 ∷ l22 ∷ [] }
+unfoldable with_third : Float → Float → Float → Float → Float → Float → Option (List Float)
+with_third l00 l10 l11 l20 l21 l22 = Some (l00 ∷ l10 ∷ l11 ∷ l20 ∷ l21 ∷ l22 ∷ [])
 
-unfoldable with_second : Float → Float → Float → Float → Float → Float → Factor
+unfoldable with_second : Float → Float → Float → Float → Float → Float → Option (List Float)
 with_second h02 h12 h22 l00 l10 l11 =
     let l20 = h02 ⊘ l00 in
     let l21 = (h12 ⊖ l10 ⊗ l20) ⊘ l11 in
     let p2 = h22 ⊖ l20 ⊗ l20 ⊖ l21 ⊗ l21 in
     if_above p2 (with_third l00 l10 l11 l20 l21 (sqrt_of p2))
 
-unfoldable with_first : Float → Float → Float → Float → Float → Float → Factor
+unfoldable with_first : Float → Float → Float → Float → Float → Float → Option (List Float)
 with_first h01 h11 h02 h12 h22 l00 =
     let l10 = h01 ⊘ l00 in
     let p1 = h11 ⊖ l10 ⊗ l10 in

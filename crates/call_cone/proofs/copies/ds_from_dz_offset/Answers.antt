@@ -1,21 +1,24 @@
 -- A call that its rows refuse leaves with their number, one that they let through copies ds. Assumes nothing.
-use mathlib.Core.Path.{◌∙◌, sym, ap}
+use mathlib.Core.Path.{◌∙◌, sym, ap, refl}
 use mathlib.Core.List.{List}
 use lib.Ieee.{Float}
-use Rattle.cone.proofs.table.Settled.{refused, done}
+use Rattle.std.proofs.lemmas.Result.{err_from_is_err_and}
+use Rattle.cone.proofs.table.Settled.{number_above_0, refused, done}
 use Rattle.call_cone.proofs.copies.Lengths.{offset_length}
 use Rattle.call_cone.specs.copies.Entries.{ds_from_dz_offset_of}
 use Rattle.call_cone.proofs.copies.ds_from_dz_offset.Goals as goal
 
-pub returns-then-code-ne0 : goal.returns-then-code-ne0
+pub returns-in_err-offset_rows : goal.returns-in_err-offset_rows
 unfolding ds_from_dz_offset_of
-returns-then-code-ne0 c = refused _ _ _ _ c.offset_rows-code.ensures c.if-code-ne0.true
+returns-in_err-offset_rows c =
+    let p = err_from_is_err_and c.from_residual.result c.from_residual.ensures.1 in
+    rw (p.1, p.2) (refused _ _ _ _ c.in_err-offset_rows.ensures (number_above_0 _))
 
 pub store-requires : goal.store-requires
-store-requires c = offset_length _ _ _ _ (sym c.offset_rows-code.ensures ∙ c.if-code-ne0.false)
+store-requires c = offset_length _ _ _ _ (sym c.in_ok-offset_rows.ensures)
 
 pub returns : goal.returns
 unfolding ds_from_dz_offset_of
 returns c =
     ap (λ (l : List Float). record { answer = 0; slice = l }) c.store.ensures
-    ∙ done _ _ _ _ c.offset_rows-code.ensures c.if-code-ne0.false
+    ∙ done _ _ _ _ c.in_ok-offset_rows.ensures refl

@@ -1,5 +1,5 @@
 -- A call that its rows refuse leaves with their number, one that they let through publishes the rectified numbers. Assumes nothing.
-use mathlib.Core.Path.{◌≡◌, ◌∙◌, sym, ap}
+use mathlib.Core.Path.{◌≡◌, ◌∙◌, sym, ap, refl}
 use mathlib.Core.List.{List}
 use Prim.Native.Nat.{ℕ, ◌≤◌}
 use lib.Ieee.{Float}
@@ -9,7 +9,8 @@ use Rattle.cone.specs.Points.{padded}
 use Rattle.judges.specs.Refusals.{Lent, publish_of, refuse}
 use Rattle.cone.proofs.Points.{padded_front}
 use Rattle.judges.proofs.Lengths.{cut}
-use Rattle.cone.proofs.table.Settled.{refused, done}
+use Rattle.std.proofs.lemmas.Result.{err_from_is_err_and}
+use Rattle.cone.proofs.table.Settled.{number_above_0, refused, done}
 use Rattle.call_cone.proofs.copies.Lengths.{copy_length}
 use Rattle.call_cone.specs.formulas.Rows.{copy_rows}
 use Rattle.call_cone.specs.formulas.Equilibration.{rectified_of}
@@ -33,18 +34,20 @@ module _ (c : Cone) (δ e : List Float) (r : ℕ) (k : r ≡ copy_rows c (length
       p ∙ ap (publish_of δ) (h ∙ ap (take (length e)) w ∙ padded_front 64 (rectified_of e) (length e) (same_count e))
       ∙ done _ r _ (refuse δ) k z
 
-pub returns-then-code-ne0 : goal.returns-then-code-ne0
+pub returns-in_err-copy_rows : goal.returns-in_err-copy_rows
 unfolding rectify_of
-returns-then-code-ne0 c = refused _ _ _ _ c.copy_rows-code.ensures c.if-code-ne0.true
+returns-in_err-copy_rows c =
+    let p = err_from_is_err_and c.from_residual.result c.from_residual.ensures.1 in
+    rw (p.1, p.2) (refused _ _ _ _ c.in_err-copy_rows.ensures (number_above_0 _))
 
 pub rectified-d-requires : goal.rectified-d-requires
-rectified-d-requires c = (copy_length _ _ _ (sym c.copy_rows-code.ensures ∙ c.if-code-ne0.false)).1
+rectified-d-requires c = (copy_length _ _ _ (sym c.in_ok-copy_rows.ensures)).1
 
 pub publish-requires : goal.publish-requires
 publish-requires c =
-    as_long c.args.cone c.args.delta.now c.args.e.now _ c.copy_rows-code.ensures c.if-code-ne0.false _ (search rules) c.head.ensures
+    as_long c.args.cone c.args.delta.now c.args.e.now _ c.in_ok-copy_rows.ensures refl _ (search rules) c.head.ensures
 
 pub returns : goal.returns
 returns c =
-    answer c.args.cone c.args.delta.now c.args.e.now _ c.copy_rows-code.ensures c.if-code-ne0.false c.publish.ensures c.head.ensures
+    answer c.args.cone c.args.delta.now c.args.e.now _ c.in_ok-copy_rows.ensures refl c.publish.ensures c.head.ensures
     c.rectified-d.ensures

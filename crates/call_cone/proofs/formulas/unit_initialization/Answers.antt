@@ -1,5 +1,5 @@
 -- A call that its rows refuse leaves with their number, one that they let through publishes the kind's point twice. Assumes nothing.
-use mathlib.Core.Path.{◌≡◌, ◌∙◌, sym, ap}
+use mathlib.Core.Path.{◌≡◌, ◌∙◌, sym, ap, refl}
 use mathlib.Core.List.{List}
 use Prim.Native.Nat.{ℕ}
 use native.Mathlib.Omega.{arith}
@@ -12,7 +12,8 @@ use Rattle.kinds.specs.Cones.{alpha_of}
 use Rattle.kinds.specs.Three as three
 use Rattle.kinds.specs.Wide as wide
 use Rattle.cone.proofs.AskedKind.{wide_kind, other_kind}
-use Rattle.cone.proofs.table.Settled.{refused}
+use Rattle.std.proofs.lemmas.Result.{err_from_is_err_and}
+use Rattle.cone.proofs.table.Settled.{number_above_0, refused}
 use Rattle.judges.proofs.Lengths.{numel_at_most, numel_3d, cut}
 use Rattle.cone.proofs.table.Choices.{done_taken, done_left}
 use Rattle.call_cone.proofs.formulas.Lengths.{unit_lengths}
@@ -49,27 +50,29 @@ module _ (c : Cone) (z s : List Float) (r : ℕ) (e : r ≡ unit_rows c (length 
   unfolding unit_initialization_of
   three-answer k p u = done_left _ r _ (refuse_two z s) e n (ne_eqb _ _ k) (p ∙ ap (λ (l : List Float). publish_two_of z s l l) u)
 
-pub returns-then-code-ne0 : goal.returns-then-code-ne0
+pub returns-in_err-unit_rows : goal.returns-in_err-unit_rows
 unfolding unit_initialization_of
-returns-then-code-ne0 c = refused _ _ _ _ c.unit_rows-code.ensures c.if-code-ne0.true
+returns-in_err-unit_rows c =
+    let p = err_from_is_err_and c.from_residual.result c.from_residual.ensures.1 in
+    rw (p.1, p.2) (refused _ _ _ _ c.in_err-unit_rows.ensures (number_above_0 _))
 
 pub publish_two-requires : goal.publish_two-requires
 publish_two-requires c =
-    both-cut _ _ _ _ (sym c.unit_rows-code.ensures ∙ c.if-code-ne0.false) (search rules) c.head-start.ensures
+    both-cut _ _ _ _ (sym c.in_ok-unit_rows.ensures) (search rules) c.head-start.ensures
 
 pub returns-then-is_wide : goal.returns-then-is_wide
 returns-then-is_wide c =
-    wide_answer _ c.args.z.now c.args.s.now _ c.unit_rows-code.ensures c.if-code-ne0.false
+    wide_answer _ c.args.z.now c.args.s.now _ c.in_ok-unit_rows.ensures refl
     (wide_kind c.is_wide.ensures c.if-is_wide.true)
     c.publish_two.ensures c.head-start.ensures c.unit_initialization-point.ensures
 
 pub publish_two-requires-2 : goal.publish_two-requires-2
 publish_two-requires-2 c =
-    both-three _ _ _ c.unit_initialization-point-2.result (sym c.unit_rows-code.ensures ∙ c.if-code-ne0.false)
+    both-three _ _ _ c.unit_initialization-point-2.result (sym c.in_ok-unit_rows.ensures)
     (other_kind c.is_wide.ensures c.if-is_wide.false) (search rules)
 
 pub returns : goal.returns
 returns c =
-    three-answer _ c.args.z.now c.args.s.now _ c.unit_rows-code.ensures c.if-code-ne0.false
+    three-answer _ c.args.z.now c.args.s.now _ c.in_ok-unit_rows.ensures refl
     (other_kind c.is_wide.ensures c.if-is_wide.false)
     c.publish_two-2.ensures c.unit_initialization-point-2.ensures

@@ -9,5 +9,6 @@ returns c =
       c.three_finite.ensures,
       c.three_ok.ensures,
       c.rule_ok.ensures,
+      c.copied.ensures,
       c.no_faults-faults.ensures,
     )

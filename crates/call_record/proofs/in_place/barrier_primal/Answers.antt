@@ -10,5 +10,4 @@ returns-then-is_wide c = c.barrier_primal.ensures ∙ barrier-primal-wide _ (wid
 
 pub returns : goal.returns
 returns c =
-    -- the four arrays of kinds 1 and 2 are copied one by one
     c.barrier_primal-2.ensures ∙ barrier_primal_3d _ (other_kind c.is_wide.ensures c.if-is_wide.false) _

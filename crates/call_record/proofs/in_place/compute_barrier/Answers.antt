@@ -10,5 +10,4 @@ returns-then-is_wide c = c.compute_barrier.ensures ∙ compute-barrier-wide _ (w
 
 pub returns : goal.returns
 returns c =
-    -- the four arrays of kinds 1 and 2 are copied one by one
     c.compute_barrier-2.ensures ∙ compute-barrier-3D _ (other_kind c.is_wide.ensures c.if-is_wide.false) _ _ _ _ _

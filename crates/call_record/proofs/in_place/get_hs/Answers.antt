@@ -11,5 +11,4 @@ returns-then-is_wide c =
 
 pub returns : goal.returns
 returns c =
-    -- the four arrays of kinds 1 and 2 are copied one by one
     c.get_hs-2.ensures ∙ get-hs-3D _ (other_kind c.is_wide.ensures c.if-is_wide.false) _ _

@@ -1,12 +1,11 @@
 -- `judged` branches as its definition does. Assumes nothing.
 use Rattle.judges.specs.Refusals.{judged_of}
-use borrow.Author.Rules.{rules}
 use Rattle.call_record.proofs.three.judged.Goals as goal
 
-pub returns-then-v : goal.returns-then-v
+pub returns-in-None : goal.returns-in-None
 unfolding judged_of
-returns-then-v c = simp c.if-v.true
+returns-in-None c = simp c.in-None.is c.refused.ensures
 
-pub returns : goal.returns
+pub returns-in-Some : goal.returns-in-Some
 unfolding judged_of
-returns c = simp c.if-v.false c.finished.ensures
+returns-in-Some c = simp c.in-Some.is c.finished.ensures

@@ -1,11 +1,10 @@
 -- `update_rows` asks the table of its definition. Assumes nothing.
-use Rattle.judges.specs.Judges.{record_finite}
 use Rattle.call_record.specs.update.Entries.{update_rows}
 use borrow.Author.Rules.{rules}
 use Rattle.call_record.proofs.update.update_rows.Goals as goal
 
 pub returns : goal.returns
-unfolding update_rows record_finite
+unfolding update_rows
 returns c =
     simp (
       c.first_row.ensures,
@@ -13,8 +12,9 @@ returns c =
       c.is_finite.ensures,
       c.all_finite-2.ensures,
       c.all_finite.ensures,
-      c.parts_finite-finite.ensures,
+      c.lent_finite.ensures,
       c.cone_ok.ensures,
       c.no_faults-faults.ensures,
       c.numel-n.ensures,
+      c.copied-cone.ensures,
     )

@@ -7,20 +7,11 @@ use Rattle.call_search.proofs.plans.plan_rows.Goals as goal
 pub returns-then-not-plan_ok : goal.returns-then-not-plan_ok
 returns-then-not-plan_ok c = bad-plan _ _ _ _ _ (sym c.plan_ok.ensures ∙ c.if-not-plan_ok.true)
 
-pub total-n-requires : goal.total-n-requires
-total-n-requires c = sym c.plan_ok.ensures ∙ c.if-not-plan_ok.false
+pub total-requires : goal.total-requires
+total-requires c = sym c.plan_ok.ensures ∙ c.if-not-plan_ok.false
 
 pub returns : goal.returns
 unfolding plan_faults
 returns c =
     let good-plan = sym c.plan_ok.ensures ∙ c.if-not-plan_ok.false in
-    simp (
-      c.first_row.ensures,
-      c.settings_ok.ensures,
-      c.settings_finite.ensures,
-      c.all_finite-2.ensures,
-      c.all_finite.ensures,
-      c.no_faults-faults.ensures,
-      c.total-n.ensures,
-      good-plan,
-    )
+    simp (c.side_rows.ensures, c.total.ensures, good-plan)

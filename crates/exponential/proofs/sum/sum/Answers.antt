@@ -1,4 +1,4 @@
--- `sum` meets its contract. Invariant: v is the sum of the terms from i on; measure: i. That no term overflows is the bound of the
+-- `sum` meets its contract. Invariant: v is the sum of the terms from i on. That no term overflows is the bound of the
 -- whole sum. Assumes nothing.
 use Rattle.std.proofs.Common.{◌≡◌, ℕ, suc, ◌+◌, ◌-◌, ◌*◌, ◌/◌, ◌^◌, ◌<◌, ◌≤◌, sym, ap, ◌∙◌, arith, lit<}
 use Rattle.exponential.specs.Steps.{coefficient, horner}

@@ -1,12 +1,13 @@
 -- `counted` branches as its definition does. Assumes nothing.
-use borrow.Author.Tests.{eq-eqb, ne_eqb}
+use borrow.Author.Tests.{ne_eqb}
+use Rattle.cone.proofs.table.Settled.{number_above_0}
 use Rattle.judges.specs.Refusals.{counted_of}
 use Rattle.judges.proofs.refusal.counted.Goals as goal
 
-pub returns-then-code-ne0 : goal.returns-then-code-ne0
+pub returns-in-Ok : goal.returns-in-Ok
 unfolding counted_of
-returns-then-code-ne0 c = simp (ne_eqb _ _ c.if-code-ne0.true)
+returns-in-Ok c = simp c.in-Ok.is
 
-pub returns : goal.returns
+pub returns-in-Err : goal.returns-in-Err
 unfolding counted_of
-returns c = simp (eq-eqb _ _ c.if-code-ne0.false)
+returns-in-Err c = simp (c.in-Err.is, ne_eqb _ _ (number_above_0 c.in-Err.refusal)) c.refused.ensures

@@ -9,4 +9,4 @@ returns-then-is_finite c = simp (sym c.is_finite.ensures ∙ c.if-is_finite.true
 
 pub returns : goal.returns
 unfolding number_of
-returns c = simp (sym c.is_finite.ensures ∙ c.if-is_finite.false)
+returns c = simp (sym c.is_finite.ensures ∙ c.if-is_finite.false) c.refused.ensures

@@ -5,8 +5,8 @@ use Rattle.kinds.proofs.three.barrier_primal.Goals as goal
 
 pub returns-then-kind-eq2 : goal.returns-then-kind-eq2
 unfolding barrier_primal_of
-returns-then-kind-eq2 c = simp (eq-eqb _ _ c.if-kind-eq2.true, c.barrier_primal-value.ensures)
+returns-then-kind-eq2 c = simp (eq-eqb _ _ c.if-kind-eq2.true, c.barrier_primal.ensures)
 
 pub returns : goal.returns
 unfolding barrier_primal_of
-returns c = simp (ne_eqb _ _ c.if-kind-eq2.false, c.barrier_primal-exponential.ensures)
+returns c = simp (ne_eqb _ _ c.if-kind-eq2.false) c.barrier_primal-2.ensures

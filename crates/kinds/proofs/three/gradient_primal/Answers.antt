@@ -7,6 +7,11 @@ pub returns-then-kind-eq2 : goal.returns-then-kind-eq2
 unfolding gradient_primal_of
 returns-then-kind-eq2 c = simp (eq-eqb _ _ c.if-kind-eq2.true, c.gradient_primal-power.ensures)
 
+pub returns-in_err-g : goal.returns-in_err-g
+unfolding gradient_primal_of
+returns-in_err-g c =
+    rw (ne_eqb _ _ c.if-kind-eq2.false, ← c.gradient_primal.ensures, c.in_err-g.was) c.from_residual.ensures
+
 pub returns : goal.returns
 unfolding gradient_primal_of
-returns c = simp (ne_eqb _ _ c.if-kind-eq2.false, c.gradient_primal-exponential.ensures)
+returns c = rw (ne_eqb _ _ c.if-kind-eq2.false, ← c.gradient_primal.ensures, c.in_ok-g.was)

@@ -1,17 +1,12 @@
 -- `put` meets its contract. The loop's invariant: writing the bytes that are left gives
 -- what the call is to leave. The measure is their number. Assumes nothing.
-use mathlib.Core.Path.{◌≡◌, refl, ◌∙◌}
-use Prim.Native.Nat.{◌+◌, ◌-◌}
+use mathlib.Core.Path.{◌≡◌, ◌∙◌}
+use Prim.Native.Nat.{◌-◌}
 use native.Mathlib.Omega.{arith}
 use lib.ListN.{length-set}
 use Rattle.octets.specs.words.Words.{le}
 use Rattle.octets.proofs.words.Loops.{write-turn}
 use Rattle.octets.proofs.words.put.Goals as goal
-
-pub loop-i-init : goal.loop-i-init
-loop-i-init c =
-    let z : c.args.place + 0 ≡ c.args.place =
-    omega arith in let l : c.args.n - 0 ≡ c.args.n = omega arith in (omega arith, refl, rw (z, l))
 
 pub loop-i-preserved : goal.loop-i-preserved
 loop-i-preserved c = (

@@ -4,12 +4,14 @@ use mathlib.Core.List.{List}
 use Prim.Native.Nat.{ℕ}
 use lib.ListN.{take}
 use Rattle.octets.specs.words.Words.{spelled, word_at}
+use Rattle.octets.proofs.words.Loops.{std_four}
 use Rattle.octets.proofs.words.u32_at.Goals as goal
 
-pub returns-then-rest-ge4 : goal.returns-then-rest-ge4
+pub returns-in-Some : goal.returns-in-Some
 unfolding word_at
-returns-then-rest-ge4 c = c.four.ensures.0 ∙ ap (λ (l : List ℕ). spelled (take 4 l)) c.behind-rest.ensures
+returns-in-Some c =
+    c.from_le_bytes.ensures ∙ std_four _ _ c.in-Some.ensures.cases.same ∙ ap (λ (l : List ℕ). spelled (take 4 l)) c.behind-rest.ensures
 
-pub returns : goal.returns
+pub returns-in-None : goal.returns-in-None
 unfolding word_at
-returns c = c.word_of.ensures.0 ∙ ap (λ (l : List ℕ). spelled (take 4 l)) c.behind-rest.ensures
+returns-in-None c = c.word_of.ensures.0 ∙ ap (λ (l : List ℕ). spelled (take 4 l)) c.behind-rest.ensures

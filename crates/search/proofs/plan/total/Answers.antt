@@ -1,6 +1,5 @@
--- `total` meets its contract. The loop's invariant: the numbers counted and those of the cones left are all. The measure is the cones left.
--- Assumes nothing.
-use mathlib.Core.Path.{◌≡◌, refl}
+-- `total` meets its contract. The loop's invariant: the numbers counted and those of the cones left are all. Assumes nothing.
+use mathlib.Core.Path.{◌≡◌}
 use mathlib.Core.List.{List, []}
 use Prim.Native.Nat.{ℕ, ◌≤◌, ◌<◌, ◌+◌, ◌^◌}
 use native.Mathlib.Omega.{arith}
@@ -26,21 +25,21 @@ turn ws i t r h e f = more _ _ _ _ _ _ e (total-from ws i [] h) f
 pub overflow_add-t : goal.overflow_add-t
 overflow_add-t c =
     let ws = c.args.cones.now in
-    let l = c.loop-i in
-    record { fits = small _ _ _ _ (turn ws l.i l.t _ (omega arith) l.invariant.2 c.numel_of-t.ensures) (plan-total (cones_of ws) c.requires) }
+    let l = c.loop-w in
+    record { fits = small _ _ _ _ (turn ws l.w-index l.t _ (omega arith) l.invariant c.numel_of-t.ensures) (plan-total (cones_of ws) c.requires) }
   where
     small : (t r k n : ℕ) → t + r + k ≡ n → n ≤ 65536 → t + r < 2 ^ 64
     small t r k n e h = omega arith
 
-pub loop-i-preserved : goal.loop-i-preserved
-loop-i-preserved c =
-    (omega arith, refl, turn c.args.cones.now c.loop-i.i c.loop-i.t _ (omega arith) c.loop-i.invariant.2 c.numel_of-t.ensures)
+pub loop-w-preserved : goal.loop-w-preserved
+loop-w-preserved c =
+    turn c.args.cones.now c.loop-w.w-index c.loop-w.t _ (omega arith) c.loop-w.invariant c.numel_of-t.ensures
 
 pub returns : goal.returns
-returns c = last _ _ _ c.loop-i.invariant.2 (total_end c.args.cones.now c.loop-i.i (omega arith))
+returns c = last _ _ _ c.loop-w.invariant (total_end c.args.cones.now c.loop-w.w-index (omega arith))
   where
     last : (t l n : ℕ) → t + l ≡ n → l ≡ 0 → t ≡ n
     last t l n e z = omega arith
 
-pub loop-i-init : goal.loop-i-init
-loop-i-init c = (omega arith, refl, omega arith)
+pub loop-w-init : goal.loop-w-init
+loop-w-init c = omega arith

@@ -14,7 +14,7 @@ use Rattle.trace.proofs.entries.create.Goals as goal
 
 pub returns-then-trace-lt-TRAILER_SIZE : goal.returns-then-trace-lt-TRAILER_SIZE
 unfolding create_of
-returns-then-trace-lt-TRAILER_SIZE c = rw (lt-ltb _ _ c.if-trace-lt-TRAILER_SIZE.true)
+returns-then-trace-lt-TRAILER_SIZE c = rw (lt-ltb _ _ c.if-trace-lt-TRAILER_SIZE.true, c.refused.ensures)
 
 pub returns : goal.returns
 unfolding create_of trace_of records_bytes offsets_from row_bytes trailer_of runs_bytes le

@@ -1,5 +1,5 @@
 -- `walk` meets its contract. The loop's invariant: what is left to walk decides the whole walk, and the
--- place is in the body. The measure is the count of records left. Assumes nothing.
+-- place is in the body. Assumes nothing.
 use mathlib.Core.Path.{◌≡◌}
 use Prim.Native.Nat.{◌*◌, ◌-◌, ◌≤◌}
 use lib.ListN.{length, drop}
@@ -10,6 +10,3 @@ abbrev pub invariant-loop-i : goal.invariant-loop-i
 invariant-loop-i l =
     (l.i ≤ l.count) × (l.at ≤ length l.body)
     × (walks l.edition (l.count - l.i) l.at (drop l.at l.body) (drop (8 * l.i) l.entries) ≡ walks l.edition l.count 0 l.body l.entries)
-
-abbrev pub decreases-loop-i : goal.decreases-loop-i
-decreases-loop-i l = l.count - l.i

@@ -6,7 +6,8 @@ pub returns : goal.returns
 unfolding place_with
 returns c =
     rw (
-      c.trace_row-code.ensures,
+      c.code-code.ensures,
+      c.trace_row.ensures,
       c.has_room-room.ensures,
       c.entry_ok-laid.ensures,
       c.size_for-size.ensures,

@@ -12,9 +12,9 @@ overflow_add-result c =
     let a = c.args in
     omega (
       arith,
-      found_inside a.bytes.now a.at a.edition c.in-Record.shape (sym c.found_from.ensures ∙ c.in-Record.is),
+      found_inside a.bytes.now a.at a.edition c.in-Some.shape (sym c.found_from.ensures ∙ c.in-Some.is),
       c.well_formed.0,
     )
 
 pub returns : goal.returns
-returns c = behind_record _ _ _ _ (sym c.found_from.ensures ∙ c.in-Record.is)
+returns c = behind_record _ _ _ _ (sym c.found_from.ensures ∙ c.in-Some.is)

@@ -12,7 +12,8 @@ use Rattle.octets.proofs.words.Words.{below_of_places}
 use Rattle.octets.specs.words.Runs.{runs_size}
 use Rattle.trace_layout.specs.Records.{Record, bytes_of, exponents, shape_ok, runs_for}
 use Rattle.trace_layout.proofs.Records.{bounds, exponents-most}
-use Rattle.cone.proofs.table.Settled.{refused, through}
+use Rattle.cone.specs.table.Table.{number_of, code_of}
+use Rattle.cone.proofs.table.Settled.{number_above_0, refused, through}
 use Rattle.trace_layout.specs.declared.pieces.Entry.{Entry}
 use Rattle.cone.specs.declared.Cone.{Cone}
 use Rattle.cone.specs.declared.Settings.{Settings}
@@ -80,9 +81,9 @@ module _ (bs : List ℕ) (at e : ℕ) (cone : Cone) (flag : ℕ) (settings : Set
             (h ∙ ap (λ (k : List Float). sets bs at (entry_bytes e x k dz ds z s)) is_cut)
             ∙ ap (λ (q : Record). put_down bs at (bytes_of e q)) is-given
 
-pub returns-then-code-ne0 : goal.returns-then-code-ne0
+pub returns-in-Err : goal.returns-in-Err
 unfolding record_put_of
-returns-then-code-ne0 c =
+returns-in-Err c =
     let a = c.args in
     let is_bytes : AllBelow 256 a.bytes.now = below_of_places 256 a.bytes.now (λ i h. search rules) in
     let places : length a.cone.exps ≡ 32 = search rules in
@@ -110,16 +111,16 @@ returns-then-code-ne0 c =
     } in
     let size = c.size_for-size.ensures in
     let code_here =
-    rw (c.short.ensures, c.known.ensures, c.entry_ok-laid.ensures, size) at c.trace_row-code.ensures
+    rw (c.short.ensures, c.known.ensures, c.entry_ok-laid.ensures, size) at (sym (ap code_of c.in-Err.is) ∙ c.trace_row.ensures)
     ∙ put_code a.bytes.now a.at a.edition c.entry_of-x.result (take (exponents c.entry_of-x.result.kind c.entry_of-x.result.dim1)
     a.cone.exps)
     a.dz.now a.ds.now a.z.now a.s.now
     (exponent_places a.bytes.now a.at a.edition a.cone a.flag a.settings a.dz.now a.ds.now a.z.now a.s.now a.steps places
     c.entry_of-x.result
     c.entry_of-x.ensures) in (
-      refused _ _ _ _ (code_given a.bytes.now a.at a.edition a.cone a.flag a.settings a.dz.now a.ds.now a.z.now a.s.now a.steps places
+      rw c.refused.ensures (refused _ _ _ _ (code_given a.bytes.now a.at a.edition a.cone a.flag a.settings a.dz.now a.ds.now a.z.now a.s.now a.steps places
           c.entry_of-x.result
-          c.entry_of-x.ensures c.trace_row-code.result code_here) c.if-code-ne0.true,
+          c.entry_of-x.ensures (number_of c.in-Err.refusal) code_here) (number_above_0 _)),
       is_bytes,
       passed,
     )
@@ -130,17 +131,17 @@ put_record-requires c =
     let places : length a.cone.exps ≡ 32 = search rules in
     let size = c.size_for-size.ensures in
     let code_here =
-    rw (c.short.ensures, c.known.ensures, c.entry_ok-laid.ensures, size) at c.trace_row-code.ensures
+    rw (c.short.ensures, c.known.ensures, c.entry_ok-laid.ensures, size) at c.trace_row.ensures
     ∙ put_code a.bytes.now a.at a.edition c.entry_of-x.result (take (exponents c.entry_of-x.result.kind c.entry_of-x.result.dim1)
     a.cone.exps)
     a.dz.now a.ds.now a.z.now a.s.now
     (exponent_places a.bytes.now a.at a.edition a.cone a.flag a.settings a.dz.now a.ds.now a.z.now a.s.now a.steps places
     c.entry_of-x.result
     c.entry_of-x.ensures) in
-    let ok = c.if-code-ne0.false in
+    let ok = (ap code_of c.in_default.is) in
     let cut = c.head.ensures ∙ ap (λ (n : ℕ). take n a.cone.exps) c.exponents-n.ensures in
     entry_fits a.bytes.now a.at a.edition a.cone a.flag a.settings a.dz.now a.ds.now a.z.now a.s.now a.steps places c.entry_of-x.result
-    c.entry_of-x.ensures c.trace_row-code.result code_here ok _ size _ cut
+    c.entry_of-x.ensures (code_of c.trace_row.result) code_here ok _ size _ cut
 
 pub overflow_add-result : goal.overflow_add-result
 overflow_add-result c =
@@ -148,7 +149,7 @@ overflow_add-result c =
     let places : length a.cone.exps ≡ 32 = search rules in
     let size = c.size_for-size.ensures in
     let code_here =
-    rw (c.short.ensures, c.known.ensures, c.entry_ok-laid.ensures, size) at c.trace_row-code.ensures
+    rw (c.short.ensures, c.known.ensures, c.entry_ok-laid.ensures, size) at c.trace_row.ensures
     ∙ put_code a.bytes.now a.at a.edition c.entry_of-x.result (take (exponents c.entry_of-x.result.kind c.entry_of-x.result.dim1)
     a.cone.exps)
     a.dz.now a.ds.now a.z.now a.s.now
@@ -158,7 +159,7 @@ overflow_add-result c =
     omega (
       arith,
       room a.bytes.now a.at a.edition a.cone a.flag a.settings a.dz.now a.ds.now a.z.now a.s.now a.steps places c.entry_of-x.result
-          c.entry_of-x.ensures c.trace_row-code.result code_here c.if-code-ne0.false _ size,
+          c.entry_of-x.ensures (code_of c.trace_row.result) code_here (ap code_of c.in_default.is) _ size,
     )
 
 pub returns : goal.returns
@@ -191,20 +192,20 @@ returns c =
     } in
     let size = c.size_for-size.ensures in
     let code_here =
-    rw (c.short.ensures, c.known.ensures, c.entry_ok-laid.ensures, size) at c.trace_row-code.ensures
+    rw (c.short.ensures, c.known.ensures, c.entry_ok-laid.ensures, size) at c.trace_row.ensures
     ∙ put_code a.bytes.now a.at a.edition c.entry_of-x.result (take (exponents c.entry_of-x.result.kind c.entry_of-x.result.dim1)
     a.cone.exps)
     a.dz.now a.ds.now a.z.now a.s.now
     (exponent_places a.bytes.now a.at a.edition a.cone a.flag a.settings a.dz.now a.ds.now a.z.now a.s.now a.steps places
     c.entry_of-x.result
     c.entry_of-x.ensures) in
-    let ok = c.if-code-ne0.false in
+    let ok = (ap code_of c.in_default.is) in
     let cut = c.head.ensures ∙ ap (λ (n : ℕ). take n a.cone.exps) c.exponents-n.ensures in (
       through _ _ _ _ (code_given a.bytes.now a.at a.edition a.cone a.flag a.settings a.dz.now a.ds.now a.z.now a.s.now a.steps places
           c.entry_of-x.result
-          c.entry_of-x.ensures c.trace_row-code.result code_here) ok (left a.bytes.now a.at a.edition a.cone a.flag a.settings a.dz.now
+          c.entry_of-x.ensures (code_of c.trace_row.result) code_here) ok (left a.bytes.now a.at a.edition a.cone a.flag a.settings a.dz.now
           a.ds.now a.z.now a.s.now a.steps places c.entry_of-x.result
-          c.entry_of-x.ensures c.trace_row-code.result code_here ok _ size _ cut _ c.put_record.ensures),
+          c.entry_of-x.ensures (code_of c.trace_row.result) code_here ok _ size _ cut _ c.put_record.ensures),
       is_bytes,
       passed,
     )

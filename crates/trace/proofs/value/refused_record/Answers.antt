@@ -4,4 +4,4 @@ use Rattle.trace.proofs.value.refused_record.Goals as goal
 
 pub returns : goal.returns
 unfolding refused_record
-returns c = rw c.empty_cone-cone.ensures
+returns c = rw (c.empty_cone-cone.ensures, c.number.ensures)

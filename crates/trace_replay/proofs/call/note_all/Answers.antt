@@ -7,9 +7,12 @@ use native.Mathlib.Omega.{arith}
 use lib.ListN.{length, take, drop}
 use lib.Seq.{sets}
 use Rattle.trace.specs.declared.judge.Judged.{Judged}
-use Rattle.trace_layout.specs.declared.pieces.Piece.TheVariants.{Record}
+use Rattle.std.specs.Prelude.{Some}
+use Rattle.trace_layout.specs.Records.{record_at}
 use Rattle.trace.specs.reader.Reading.{found_from, place_after}
-use Rattle.trace_replay.proofs.call.Noting.{few, walks-begun, all_left, none_left, noted-most, laid, never_broken, found_shape}
+use Rattle.trace.proofs.value.Finding.{find_none, find_some, find_of}
+use Rattle.trace_replay.specs.call.Replay.{same_record}
+use Rattle.trace_replay.proofs.call.Noting.{few, walks-begun, all_left, none_left, noted-most, never_none}
 use Rattle.trace_replay.proofs.call.Noting.{walks_on, turn-length, turn_writes}
 use Rattle.trace_replay.proofs.call.note_all.Goals as goal
 
@@ -27,24 +30,9 @@ loop-i-init c =
 
 pub returns-in_default : goal.returns-in_default
 returns-in_default c =
-    absurd (never_broken c.args.trace.now c.args.opened c.requires.0 c.loop-i.at c.loop-i.i (omega arith) c.loop-i.invariant.4
+    absurd (never_none c.args.trace.now c.args.opened c.requires.0 c.loop-i.at c.loop-i.i (omega arith) c.loop-i.invariant.4
     (ap (λ (x : List ℕ). found_from x c.loop-i.at c.args.opened.edition) (sym c.front-body.ensures)
-    ∙ sym c.current_in.ensures ∙ c.in_default.is))
-
-pub same_at-same-requires : goal.same_at-same-requires
-same_at-same-requires c =
-    let trace : List ℕ = c.args.trace.now in
-    let opened : Judged = c.args.opened in
-    let more : c.loop-i.i < opened.count = omega arith in
-    let is_body : c.front-body.result.now ≡ take opened.list trace = c.front-body.ensures in
-    let is_found : found_from (take opened.list trace) c.loop-i.at opened.edition ≡ Record c.in-Record.shape =
-    ap (λ (x : List ℕ). found_from x c.loop-i.at opened.edition) (sym is_body) ∙ sym c.current_in.ensures ∙ c.in-Record.is in
-    let part : c.behind.result.now ≡ drop c.loop-i.at (take opened.list trace) = c.behind.ensures ∙ ap (drop c.loop-i.at) is_body in
-    let l = c.loop-i in
-    let is = c.requires.0 in (
-      rw part (laid trace opened is l.at l.i more l.invariant.4),
-      rw part (found_shape trace opened is l.at l.i more l.invariant.4 c.in-Record.shape is_found),
-    )
+    ∙ find_none c.front-body.result.now c.loop-i.at c.args.opened.edition _ c.find.ensures.shape c.in_default.is))
 
 pub note-n-requires : goal.note-n-requires
 note-n-requires c =
@@ -67,30 +55,35 @@ loop-i-preserved c =
     let opened : Judged = c.args.opened in
     let more : c.loop-i.i < opened.count = omega arith in
     let is_body : c.front-body.result.now ≡ take opened.list trace = c.front-body.ensures in
-    let is_found : found_from (take opened.list trace) c.loop-i.at opened.edition ≡ Record c.in-Record.shape =
-    ap (λ (x : List ℕ). found_from x c.loop-i.at opened.edition) (sym is_body) ∙ sym c.current_in.ensures ∙ c.in-Record.is in
-    let part : c.behind.result.now ≡ drop c.loop-i.at (take opened.list trace) = c.behind.ensures ∙ ap (drop c.loop-i.at) is_body in
     let l = c.loop-i in
+    let f = c.in-Some.found in
+    let got = c.find.ensures.shape in
+    let is_found : found_from (take opened.list trace) l.at opened.edition ≡ Some f.shape =
+    ap (λ (x : List ℕ). found_from x l.at opened.edition) (sym is_body) ∙ find_some c.front-body.result.now l.at opened.edition _ got f
+    c.in-Some.is in
+    let of = find_of c.front-body.result.now l.at opened.edition _ got c.find.ensures.bytes f c.in-Some.is in
+    let part : f.bytes.now ≡ drop l.at (take opened.list trace) = of.1 ∙ ap (drop l.at) is_body in
     let is = c.requires.0 in
-    let same = c.same_at-same in
+    let same : c.same_at-same.result ≡ same_record opened.edition (record_at opened.edition f.bytes.now) =
+    c.same_at-same.ensures ∙ ap (λ (e : ℕ). same_record e (record_at e f.bytes.now)) of.0 in
     let moved = c.place_in-at.ensures ∙ ap (λ (x : List ℕ). place_after x l.at opened.edition) is_body in
     let length-turn =
-    turn-length trace opened is l.at l.i more l.invariant.4 c.in-Record.shape is_found
-    c.behind.result.now part
-    same.result same.ensures c.place_in-at.result moved l.offsets
+    turn-length trace opened is l.at l.i more l.invariant.4 f.shape is_found
+    f.bytes.now part
+    c.same_at-same.result same c.place_in-at.result moved l.offsets
     c.note-n.new.offsets l.n c.note-n.result c.note-n.ensures.0
     c.note-n.ensures.1 in
     let turn_wrote =
-    turn_writes trace opened is l.at l.i more l.invariant.4 c.in-Record.shape is_found
-    c.behind.result.now part
-    same.result same.ensures c.place_in-at.result moved l.offsets
+    turn_writes trace opened is l.at l.i more l.invariant.4 f.shape is_found
+    f.bytes.now part
+    c.same_at-same.result same c.place_in-at.result moved l.offsets
     c.note-n.new.offsets l.n c.note-n.result c.note-n.ensures.0
     c.note-n.ensures.1 in (
       omega (arith, more),
       refl,
-      omega (arith, c.note-n.ensures.0, noted-most same.result l.at, l.invariant.2),
+      omega (arith, c.note-n.ensures.0, noted-most c.same_at-same.result l.at, l.invariant.2),
       c.note-n.auto.offsets ∙ l.invariant.3,
-      walks_on trace opened is l.at l.i more l.invariant.4 c.in-Record.shape is_found c.place_in-at.result moved,
+      walks_on trace opened is l.at l.i more l.invariant.4 f.shape is_found c.place_in-at.result moved,
       length-turn ∙ l.invariant.5,
       turn_wrote ∙ l.invariant.6,
     )

@@ -1,6 +1,8 @@
 -- `replay` meets its contract: the trace is judged, the offsets are noted in a row of its own, and only where they have room they go out.
 -- Assumes nothing.
 use mathlib.Core.Path.{◌≡◌, sym, ap, ◌∙◌}
+use Rattle.cone.specs.table.Table.{number_of, code_of}
+use Rattle.cone.proofs.table.Settled.{number_above_0}
 use mathlib.Core.List.{List}
 use Prim.Native.Nat.{ℕ, ◌≤◌}
 use native.Mathlib.Omega.{arith}
@@ -19,16 +21,16 @@ noted_with offsets answer = record { answer = answer; offsets = offsets }
 
 -- what is known where the rows were judged
 
-pub returns-then-code-ne0 : goal.returns-then-code-ne0
-returns-then-code-ne0 c =
+pub returns-in-Err : goal.returns-in-Err
+returns-in-Err c =
     let n : ℕ = c.note_all-n.result in
     let opened : Judged = c.open-opened.result in
     let trace : List ℕ = c.args.trace.now in
     let old : List ℕ = c.args.at.now in
     ap (noted_with old) c.refused.ensures
     ∙ refused-row trace old opened c.open-opened.ensures _ n
-    c.trace_row-code.ensures c.note_all-n.ensures.0
-    c.if-code-ne0.true
+    (sym (ap code_of c.in-Err.is) ∙ c.trace_row.ensures) c.note_all-n.ensures.0
+    (number_above_0 _)
 
 pub slice_bounds-offsets-end : goal.slice_bounds-offsets-end
 slice_bounds-offsets-end c =
@@ -67,10 +69,10 @@ store-requires c =
     let row-length : length noted-row ≡ most_records =
     let row = c.row-offsets in ap length c.note_all-n.ensures.1 ∙ length-sets row.result 0 (differing_in trace opened)
     ∙ row.ensures.0 in
-    let has_room : c.trace_row-code.result ≡ 0 → n ≤ length old =
-    λ on. room trace old opened c.open-opened.ensures _ n c.trace_row-code.ensures c.note_all-n.ensures.0 on in
+    let has_room : (code_of c.trace_row.result) ≡ 0 → n ≤ length old =
+    λ on. room trace old opened c.open-opened.ensures _ n c.trace_row.ensures c.note_all-n.ensures.0 on in
     let places = length-take-le n noted-row (omega (arith, few, row-length)) in
-    omega (arith, places, has_room c.if-code-ne0.false)
+    omega (arith, places, has_room (ap code_of c.in_default.is))
 
 pub overflow_cast-result : goal.overflow_cast-result
 overflow_cast-result c =
@@ -111,5 +113,5 @@ returns c =
     let count = c.note_all-n.ensures.0 in cut-is c.row-offsets.result (differing_in trace opened) noted-row n c.note_all-n.ensures.1
     count (omega (arith, few, count, c.row-offsets.ensures.0)) in
     replayed_row trace old opened c.open-opened.ensures _ n
-    c.trace_row-code.ensures c.note_all-n.ensures.0
-    c.if-code-ne0.false c.store.new.out _ cut c.store.ensures
+    c.trace_row.ensures c.note_all-n.ensures.0
+    (ap code_of c.in_default.is) c.store.new.out _ cut c.store.ensures

@@ -2,6 +2,8 @@
 -- go out, list and trailer behind them. Assumes nothing.
 use borrow.Author.Rules.{rules}
 use mathlib.Core.Path.{◌≡◌, sym, ap, ◌∙◌}
+use Rattle.cone.specs.table.Table.{number_of, code_of}
+use Rattle.cone.proofs.table.Settled.{number_above_0}
 use mathlib.Core.List.{List}
 use Prim.Native.Nat.{ℕ, ◌+◌, ◌*◌, ◌≤◌}
 use native.Mathlib.Omega.{arith}
@@ -65,8 +67,8 @@ overflow_add-length-2 c =
     let walked_inside : w.end ≤ length bs = inside bs is_bytes o judged _ e chosen w told in
     omega (arith, walked_few, walked_inside, c.well_formed)
 
-pub returns-then-code-ne0 : goal.returns-then-code-ne0
-returns-then-code-ne0 c =
+pub returns-in-Err : goal.returns-in-Err
+returns-in-Err c =
     let bs : List ℕ = c.args.input.now in
     let old : List ℕ = c.args.output.now in
     let o : Judged = c.open-opened.result in
@@ -78,7 +80,7 @@ returns-then-code-ne0 c =
     let is_bytes : AllBelow 256 bs = below_of_places 256 bs (λ i h. search rules) in (
       ap (saved_with old) c.refused.ensures
           ∙ refused-row bs is_bytes o judged _ e chosen w told old _ c.known.ensures _
-          c.trace_row-code.ensures c.if-code-ne0.true,
+          (sym (ap code_of c.in-Err.is) ∙ c.trace_row.ensures) (number_above_0 _),
       is_bytes,
     )
 
@@ -95,7 +97,7 @@ copy-requires c =
     let is_bytes : AllBelow 256 bs = below_of_places 256 bs (λ i h. search rules) in
     let walked_inside : w.end ≤ length bs = inside bs is_bytes o judged _ e chosen w told in
     let has_room : w.end + 8 * w.count + 20 ≤ length old =
-    room bs is_bytes o judged _ e chosen w told old _ c.known.ensures _ c.trace_row-code.ensures c.if-code-ne0.false in
+    room bs is_bytes o judged _ e chosen w told old _ c.known.ensures _ c.trace_row.ensures (ap code_of c.in_default.is) in
     let front_length : length c.front.result.now ≡ w.end = ap length c.front.ensures ∙ length-take-le w.end bs walked_inside in
     omega (arith, front_length, has_room)
 
@@ -145,7 +147,7 @@ seal-requires c =
     let walked_few : w.count ≤ most_records = few bs is_bytes o judged _ e chosen w told in
     let starts-length : length starts ≡ most_records = c.walk-walked.auto.starts ∙ c.row-starts.ensures.0 in
     let has_room : w.end + 8 * w.count + 20 ≤ length old =
-    room bs is_bytes o judged _ e chosen w told old _ c.known.ensures _ c.trace_row-code.ensures c.if-code-ne0.false in
+    room bs is_bytes o judged _ e chosen w told old _ c.known.ensures _ c.trace_row.ensures (ap code_of c.in_default.is) in
     let cut-length : length (take w.count starts) ≡ w.count = length-take-le w.count starts (omega (arith, walked_few, starts-length)) in (
       omega (arith, cut-length, has_room),
       omega (arith, cut-length, walked_few),
@@ -189,7 +191,7 @@ returns c =
     let told : w ≡ walked_of e bs = c.walk-walked.ensures.0 in
     let is_bytes : AllBelow 256 bs = below_of_places 256 bs (λ i h. search rules) in (
       done bs is_bytes o judged _ e chosen w told old _ c.known.ensures _
-          c.trace_row-code.ensures c.if-code-ne0.false _ c.taken.ensures c.row-starts.result starts _ _ c.row-starts.ensures.0
+          c.trace_row.ensures (ap code_of c.in_default.is) _ c.taken.ensures c.row-starts.result starts _ _ c.row-starts.ensures.0
           c.walk-walked.ensures.1 (c.copy.ensures ∙ ap (sets old 0) c.front.ensures) c.seal.ensures,
       is_bytes,
     )

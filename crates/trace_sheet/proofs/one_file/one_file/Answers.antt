@@ -20,7 +20,7 @@ returns-then-bytes-gt-MOST_BYTES c =
     below_of_places 256 c.args.bytes.now (λ i h. search rules) in
     let above : most_bytes < length c.args.bytes.now = omega (arith, c.if-bytes-gt-MOST_BYTES.true) in
     let skipped = too_large c.args.bytes.now above in (
-      c.nothing.ensures ∙ no_part c.args.bytes.now skipped,
+      no_part c.args.bytes.now skipped,
       no_counts c.args.bytes.now skipped false c.args.dual.now c.requires.0,
       no_counts c.args.bytes.now skipped true c.args.primal.now c.requires.1,
       is_bytes,
@@ -33,7 +33,7 @@ returns-then-opened-ne0 c =
     let is = c.open-opened.ensures in
     let skipped =
     broken c.args.bytes.now (λ on. c.if-opened-ne0.true (ap (λ (x : Judged). x.code) is ∙ on)) in (
-      c.nothing-then-opened-ne0.ensures ∙ no_part c.args.bytes.now skipped,
+      no_part c.args.bytes.now skipped,
       no_counts c.args.bytes.now skipped false c.args.dual.now c.requires.0,
       no_counts c.args.bytes.now skipped true c.args.primal.now c.requires.1,
       is_bytes,

@@ -12,7 +12,7 @@ use Rattle.octets.proofs.words.Words.{below_of_places}
 use Rattle.trace_layout.specs.Traces.{most_records}
 use Rattle.trace_layout.specs.declared.pieces.Shape.{Shape}
 use Rattle.trace_layout.specs.pieces.Shapes.{shape_at, found_at}
-use Rattle.trace_layout.proofs.pieces.Shapes.{record_is_laid, broken_is_not}
+use Rattle.trace_layout.proofs.pieces.Shapes.{record_is_laid, none_is_not}
 use Rattle.trace_layout.specs.Records.{kind_at, dim1_at, dim2_at, flag_at, laid_at, size_at}
 use Rattle.trace_layout.proofs.Records.{size-least}
 use Rattle.trace_sheet.specs.counts.Counts.{place_of, places, counted, larger_of}
@@ -28,7 +28,7 @@ returns-in_default c =
     let a = c.args in
     let none =
     none_laid a.primal a.edition a.bytes.now _ _ _ _ t.invariant
-    (broken_is_not a.edition rest (sym found ∙ c.in_default.is)) in
+    (none_is_not a.edition rest (sym found ∙ c.in_default.is)) in
     (all_told _ _ _ _ _ _ _ t.invariant none, all_counted _ _ _ _ _ _ _ t.invariant none)
 
 pub count-requires : goal.count-requires
@@ -41,9 +41,9 @@ count-requires c =
     let p : Bool = c.args.primal in
     let e : ℕ = c.args.edition in
     let bs : List ℕ = c.args.bytes.now in
-    let shape : Shape = c.in-Record.shape in
+    let shape : Shape = c.in-Some.shape in
     let early : c.loop-i.i < most_records = omega arith in
-    let laid : (laid_at e rest ≡ true) × (shape ≡ shape_at e rest) = record_is_laid e rest shape (sym found ∙ c.in-Record.is) in
+    let laid : (laid_at e rest ≡ true) × (shape ≡ shape_at e rest) = record_is_laid e rest shape (sym found ∙ c.in-Some.is) in
     let size : shape.size ≡ size_at e rest = ap (λ (x : Shape). x.size) laid.1 in
     let n : ℕ = shape.size in
     let step : ℕ = c.step_at-step.result in
@@ -66,8 +66,8 @@ overflow_add-at c =
     let rest : List ℕ = drop c.loop-i.at c.args.bytes.now in
     let found : c.current_in.result ≡ found_at c.args.edition rest = c.current_in.ensures in
     let e : ℕ = c.args.edition in
-    let shape : Shape = c.in-Record.shape in
-    let laid : (laid_at e rest ≡ true) × (shape ≡ shape_at e rest) = record_is_laid e rest shape (sym found ∙ c.in-Record.is) in
+    let shape : Shape = c.in-Some.shape in
+    let laid : (laid_at e rest ≡ true) × (shape ≡ shape_at e rest) = record_is_laid e rest shape (sym found ∙ c.in-Some.is) in
     let size : shape.size ≡ size_at e rest = ap (λ (x : Shape). x.size) laid.1 in
     let early : c.loop-i.i < most_records = omega arith in
     let fits : c.loop-i.at + shape.size ≤ length c.args.bytes.now =
@@ -84,9 +84,9 @@ loop-i-preserved c =
     let p : Bool = c.args.primal in
     let e : ℕ = c.args.edition in
     let bs : List ℕ = c.args.bytes.now in
-    let shape : Shape = c.in-Record.shape in
+    let shape : Shape = c.in-Some.shape in
     let early : c.loop-i.i < most_records = omega arith in
-    let laid : (laid_at e rest ≡ true) × (shape ≡ shape_at e rest) = record_is_laid e rest shape (sym found ∙ c.in-Record.is) in
+    let laid : (laid_at e rest ≡ true) × (shape ≡ shape_at e rest) = record_is_laid e rest shape (sym found ∙ c.in-Some.is) in
     let size : shape.size ≡ size_at e rest = ap (λ (x : Shape). x.size) laid.1 in
     let n : ℕ = shape.size in
     let step : ℕ = c.step_at-step.result in
@@ -119,8 +119,8 @@ step_at-step-requires c =
     let rest : List ℕ = drop c.loop-i.at c.args.bytes.now in
     let found : c.current_in.result ≡ found_at c.args.edition rest = c.current_in.ensures in
     let e : ℕ = c.args.edition in
-    let shape : Shape = c.in-Record.shape in
-    let laid : (laid_at e rest ≡ true) × (shape ≡ shape_at e rest) = record_is_laid e rest shape (sym found ∙ c.in-Record.is) in
+    let shape : Shape = c.in-Some.shape in
+    let laid : (laid_at e rest ≡ true) × (shape ≡ shape_at e rest) = record_is_laid e rest shape (sym found ∙ c.in-Some.is) in
     let size : shape.size ≡ size_at e rest = ap (λ (x : Shape). x.size) laid.1 in
     let long : 56 ≤ shape.size =
     omega (arith, size, size-least e (kind_at rest) (dim1_at rest) (dim2_at rest) (flag_at e rest)) in
@@ -132,8 +132,8 @@ tests_at-tests-requires c =
     let rest : List ℕ = drop c.loop-i.at c.args.bytes.now in
     let found : c.current_in.result ≡ found_at c.args.edition rest = c.current_in.ensures in
     let e : ℕ = c.args.edition in
-    let shape : Shape = c.in-Record.shape in
-    let laid : (laid_at e rest ≡ true) × (shape ≡ shape_at e rest) = record_is_laid e rest shape (sym found ∙ c.in-Record.is) in
+    let shape : Shape = c.in-Some.shape in
+    let laid : (laid_at e rest ≡ true) × (shape ≡ shape_at e rest) = record_is_laid e rest shape (sym found ∙ c.in-Some.is) in
     let size : shape.size ≡ size_at e rest = ap (λ (x : Shape). x.size) laid.1 in
     let long : 56 ≤ shape.size =
     omega (arith, size, size-least e (kind_at rest) (dim1_at rest) (dim2_at rest) (flag_at e rest)) in

@@ -8,7 +8,8 @@ use native.Mathlib.Omega.{arith}
 use lib.Dec.{ltb}
 use lib.ListN.{length}
 use lib.Seq.{sets}
-use Rattle.cone.proofs.table.Settled.{refused, through}
+use Rattle.cone.specs.table.Table.{number_of, code_of}
+use Rattle.cone.proofs.table.Settled.{number_above_0, refused, through}
 use Rattle.trace_layout.specs.Traces.{most_files}
 use Rattle.trace_sheet.specs.rows.Rows.{Held, sheet_in, rows_in, sheet_row}
 use Rattle.trace_sheet.specs.lines.Text.{skipped_lines}
@@ -18,28 +19,28 @@ use Rattle.trace_sheet.specs.text.Printed.{sheet_text, text_room, Told, refuse, 
 use Rattle.trace_sheet.proofs.text.Printing.{Fits, fits, flags, flags_length, whole_text}
 use Rattle.trace_sheet.proofs.text.put_sheet.Goals as goal
 
-pub returns-then-code-ne0 : goal.returns-then-code-ne0
+pub returns-in-Err : goal.returns-in-Err
 unfolding print_of
-returns-then-code-ne0 c =
+returns-in-Err c =
     let old : List ℕ = c.args.text.now in
     let h : Held = let a = c.args in record { totals = a.sheet; dual = a.dual.now; primal = a.primal.now; skipped = a.skipped.now } in
     let row : ℕ = sheet_row (not (rows_in h)) (ltb most_files h.totals.files) (ltb (length old) text_room) in
-    let code_is : c.sheet_row-code.result ≡ row =
-    c.sheet_row-code.ensures ∙ ap (λ (b : Bool). sheet_row (not b) (ltb most_files h.totals.files) (ltb
+    let code_is : (number_of c.in-Err.refusal) ≡ row =
+    (sym (ap code_of c.in-Err.is) ∙ c.sheet_row.ensures) ∙ ap (λ (b : Bool). sheet_row (not b) (ltb most_files h.totals.files) (ltb
     (length old) text_room)) c.rows_ok-rows.ensures in
     let printed : Told =
     record { answer = record { code = 0; length = length (sheet_text (sheet_in h)) }; text = sets old 0 (sheet_text (sheet_in h)) } in
-    refused row c.sheet_row-code.result printed (refuse old) code_is c.if-code-ne0.true
+    rw c.number.ensures (refused row (number_of c.in-Err.refusal) printed (refuse old) code_is (number_above_0 _))
 
 pub put_flags-second-requires : goal.put_flags-second-requires
 put_flags-second-requires c =
     let old : List ℕ = c.args.text.now in
     let h : Held = let a = c.args in record { totals = a.sheet; dual = a.dual.now; primal = a.primal.now; skipped = a.skipped.now } in
     let row : ℕ = sheet_row (not (rows_in h)) (ltb most_files h.totals.files) (ltb (length old) text_room) in
-    let code_is : c.sheet_row-code.result ≡ row =
-    c.sheet_row-code.ensures ∙ ap (λ (b : Bool). sheet_row (not b) (ltb most_files h.totals.files) (ltb
+    let code_is : (code_of c.sheet_row.result) ≡ row =
+    c.sheet_row.ensures ∙ ap (λ (b : Bool). sheet_row (not b) (ltb most_files h.totals.files) (ltb
     (length old) text_room)) c.rows_ok-rows.ensures in
-    let fit : Fits old h = fits old h (sym code_is ∙ c.if-code-ne0.false) in
+    let fit : Fits old h = fits old h (sym code_is ∙ (ap code_of c.in_default.is)) in
     let front_is : c.front.result.now ≡ flags old h = c.front.ensures in
     let few_flags : length c.front.result.now ≤ most_files = omega (arith, ap length front_is, flags_length old h fit, fit.files) in
     (omega (arith, few_flags, fit.room), few_flags)
@@ -49,10 +50,10 @@ put_side-third-requires c =
     let old : List ℕ = c.args.text.now in
     let h : Held = let a = c.args in record { totals = a.sheet; dual = a.dual.now; primal = a.primal.now; skipped = a.skipped.now } in
     let row : ℕ = sheet_row (not (rows_in h)) (ltb most_files h.totals.files) (ltb (length old) text_room) in
-    let code_is : c.sheet_row-code.result ≡ row =
-    c.sheet_row-code.ensures ∙ ap (λ (b : Bool). sheet_row (not b) (ltb most_files h.totals.files) (ltb
+    let code_is : (code_of c.sheet_row.result) ≡ row =
+    c.sheet_row.ensures ∙ ap (λ (b : Bool). sheet_row (not b) (ltb most_files h.totals.files) (ltb
     (length old) text_room)) c.rows_ok-rows.ensures in
-    let fit : Fits old h = fits old h (sym code_is ∙ c.if-code-ne0.false) in
+    let fit : Fits old h = fits old h (sym code_is ∙ (ap code_of c.in_default.is)) in
     let front_is : c.front.result.now ≡ flags old h = c.front.ensures in
     let few_flags : length c.front.result.now ≤ most_files = omega (arith, ap length front_is, flags_length old h fit, fit.files) in
     let flags_low : c.put_flags-second.result ≤ 64000 =
@@ -64,10 +65,10 @@ put_side-end-requires c =
     let old : List ℕ = c.args.text.now in
     let h : Held = let a = c.args in record { totals = a.sheet; dual = a.dual.now; primal = a.primal.now; skipped = a.skipped.now } in
     let row : ℕ = sheet_row (not (rows_in h)) (ltb most_files h.totals.files) (ltb (length old) text_room) in
-    let code_is : c.sheet_row-code.result ≡ row =
-    c.sheet_row-code.ensures ∙ ap (λ (b : Bool). sheet_row (not b) (ltb most_files h.totals.files) (ltb
+    let code_is : (code_of c.sheet_row.result) ≡ row =
+    c.sheet_row.ensures ∙ ap (λ (b : Bool). sheet_row (not b) (ltb most_files h.totals.files) (ltb
     (length old) text_room)) c.rows_ok-rows.ensures in
-    let fit : Fits old h = fits old h (sym code_is ∙ c.if-code-ne0.false) in
+    let fit : Fits old h = fits old h (sym code_is ∙ (ap code_of c.in_default.is)) in
     let front_is : c.front.result.now ≡ flags old h = c.front.ensures in
     let few_flags : length c.front.result.now ≤ most_files = omega (arith, ap length front_is, flags_length old h fit, fit.files) in
     let flags_low : c.put_flags-second.result ≤ 64000 =
@@ -88,15 +89,15 @@ returns c =
     let old : List ℕ = c.args.text.now in
     let h : Held = let a = c.args in record { totals = a.sheet; dual = a.dual.now; primal = a.primal.now; skipped = a.skipped.now } in
     let row : ℕ = sheet_row (not (rows_in h)) (ltb most_files h.totals.files) (ltb (length old) text_room) in
-    let code_is : c.sheet_row-code.result ≡ row =
-    c.sheet_row-code.ensures ∙ ap (λ (b : Bool). sheet_row (not b) (ltb most_files h.totals.files) (ltb
+    let code_is : (code_of c.sheet_row.result) ≡ row =
+    c.sheet_row.ensures ∙ ap (λ (b : Bool). sheet_row (not b) (ltb most_files h.totals.files) (ltb
     (length old) text_room)) c.rows_ok-rows.ensures in
     let printed : Told =
     record { answer = record { code = 0; length = length (sheet_text (sheet_in h)) }; text = sets old 0 (sheet_text (sheet_in h)) } in
     let front_is : c.front.result.now ≡ flags old h = c.front.ensures in
     let skipped =
     wrote_as old c.put_flags-second.new.text 0 c.put_flags-second.result (ap (skipped_lines 1) front_is) c.put_flags-second.ensures in
-    through row c.sheet_row-code.result printed (refuse old) code_is c.if-code-ne0.false
+    through row (code_of c.sheet_row.result) printed (refuse old) code_is (ap code_of c.in_default.is)
     (whole_text old h c.put_flags-second.new.text c.put_side-third.new.text c.put_side-end.new.text c.put_flags-second.result
     c.put_side-third.result
     c.put_side-end.result skipped c.put_side-third.ensures c.put_side-end.ensures)

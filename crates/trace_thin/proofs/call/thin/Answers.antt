@@ -2,6 +2,8 @@
 -- trailer behind them. Assumes nothing.
 use borrow.Author.Rules.{rules}
 use mathlib.Core.Path.{◌≡◌, sym, ap, ◌∙◌}
+use Rattle.cone.specs.table.Table.{number_of, code_of}
+use Rattle.cone.proofs.table.Settled.{number_above_0}
 use mathlib.Core.Bool.{true}
 use mathlib.Core.List.{List}
 use Prim.Native.Nat.{ℕ, ◌+◌, ◌*◌, ◌≤◌}
@@ -61,8 +63,8 @@ overflow_add-length-2 c =
     let small : (ch.kept ≤ most_records) × (ch.size ≤ length bs) = bounded bs is_bytes o judged ch told in
     omega (arith, small.0, small.1)
 
-pub returns-then-code-ne0 : goal.returns-then-code-ne0
-returns-then-code-ne0 c =
+pub returns-in-Err : goal.returns-in-Err
+returns-in-Err c =
     let bs : List ℕ = c.args.trace.now in
     let o : Judged = c.open-opened.result in
     let judged : o ≡ open_of bs = c.open-opened.ensures in
@@ -72,8 +74,8 @@ returns-then-code-ne0 c =
     let old : List ℕ = c.args.output.now in (
       ap (left_with old) c.refused.ensures
           ∙ refused-row bs is_bytes o judged ch told
-          old _ c.trace_row-code.ensures
-          c.if-code-ne0.true,
+          old _ (sym (ap code_of c.in-Err.is) ∙ c.trace_row.ensures)
+          (number_above_0 _),
       is_bytes,
     )
 
@@ -89,9 +91,9 @@ gather-requires c =
     let small : (ch.kept ≤ most_records) × (ch.size ≤ length bs) = bounded bs is_bytes o judged ch told in
     let old : List ℕ = c.args.output.now in
     let good : good_trace bs ≡ true =
-    is-good bs is_bytes o judged ch told old _ c.trace_row-code.ensures c.if-code-ne0.false in
+    is-good bs is_bytes o judged ch told old _ c.trace_row.ensures (ap code_of c.in_default.is) in
     let has_room : ch.size + 8 * ch.kept + 20 ≤ length old =
-    room bs is_bytes o judged ch told old _ c.trace_row-code.ensures c.if-code-ne0.false in
+    room bs is_bytes o judged ch told old _ c.trace_row.ensures (ap code_of c.in_default.is) in
     let places-length : length places ≡ most_records =
     row-length bs is_bytes o judged ch told good c.row-places.result
     places c.row-places.ensures.0 c.choose-chosen.ensures.1 in (
@@ -116,7 +118,7 @@ slice_bounds-places-end c =
     let small : (ch.kept ≤ most_records) × (ch.size ≤ length bs) = bounded bs is_bytes o judged ch told in
     let old : List ℕ = c.args.output.now in
     let good : good_trace bs ≡ true =
-    is-good bs is_bytes o judged ch told old _ c.trace_row-code.ensures c.if-code-ne0.false in
+    is-good bs is_bytes o judged ch told old _ c.trace_row.ensures (ap code_of c.in_default.is) in
     let places-length : length places ≡ most_records =
     row-length bs is_bytes o judged ch told good c.row-places.result
     places c.row-places.ensures.0 c.choose-chosen.ensures.1 in
@@ -136,7 +138,7 @@ slice_bounds-seal-end c =
     let small : (ch.kept ≤ most_records) × (ch.size ≤ length bs) = bounded bs is_bytes o judged ch told in
     let old : List ℕ = c.args.output.now in
     let good : good_trace bs ≡ true =
-    is-good bs is_bytes o judged ch told old _ c.trace_row-code.ensures c.if-code-ne0.false in
+    is-good bs is_bytes o judged ch told old _ c.trace_row.ensures (ap code_of c.in_default.is) in
     let places-length : length places ≡ most_records =
     row-length bs is_bytes o judged ch told good c.row-places.result
     places c.row-places.ensures.0 c.choose-chosen.ensures.1 in
@@ -158,9 +160,9 @@ seal-requires c =
     let small : (ch.kept ≤ most_records) × (ch.size ≤ length bs) = bounded bs is_bytes o judged ch told in
     let old : List ℕ = c.args.output.now in
     let good : good_trace bs ≡ true =
-    is-good bs is_bytes o judged ch told old _ c.trace_row-code.ensures c.if-code-ne0.false in
+    is-good bs is_bytes o judged ch told old _ c.trace_row.ensures (ap code_of c.in_default.is) in
     let has_room : ch.size + 8 * ch.kept + 20 ≤ length old =
-    room bs is_bytes o judged ch told old _ c.trace_row-code.ensures c.if-code-ne0.false in
+    room bs is_bytes o judged ch told old _ c.trace_row.ensures (ap code_of c.in_default.is) in
     let places-length : length places ≡ most_records =
     row-length bs is_bytes o judged ch told good c.row-places.result
     places c.row-places.ensures.0 c.choose-chosen.ensures.1 in
@@ -202,7 +204,7 @@ overflow_sub-result c =
     let told : ch ≡ chosen_of bs (firsts_in bs o.list o.edition) = c.choose-chosen.ensures.0 in
     let old : List ℕ = c.args.output.now in
     let good : good_trace bs ≡ true =
-    is-good bs is_bytes o judged ch told old _ c.trace_row-code.ensures c.if-code-ne0.false in
+    is-good bs is_bytes o judged ch told old _ c.trace_row.ensures (ap code_of c.in_default.is) in
     let no_more : ch.kept ≤ o.count = kept_few bs is_bytes o judged ch told good in
     no_more
 
@@ -217,11 +219,11 @@ returns c =
     let told : ch ≡ chosen_of bs (firsts_in bs o.list o.edition) = c.choose-chosen.ensures.0 in
     let old : List ℕ = c.args.output.now in
     let good : good_trace bs ≡ true =
-    is-good bs is_bytes o judged ch told old _ c.trace_row-code.ensures c.if-code-ne0.false in
+    is-good bs is_bytes o judged ch told old _ c.trace_row.ensures (ap code_of c.in_default.is) in
     let has_room : ch.size + 8 * ch.kept + 20 ≤ length old =
-    room bs is_bytes o judged ch told old _ c.trace_row-code.ensures c.if-code-ne0.false in
+    room bs is_bytes o judged ch told old _ c.trace_row.ensures (ap code_of c.in_default.is) in
     let starts : List ℕ = c.gather.new.places in (
-      done bs is_bytes o judged ch told old _ c.trace_row-code.ensures c.if-code-ne0.false _
+      done bs is_bytes o judged ch told old _ c.trace_row.ensures (ap code_of c.in_default.is) _
           (apart-is bs is_bytes o judged ch told good c.row-places.result places
           c.row-places.ensures.0 c.choose-chosen.ensures.1 old _ _ starts c.gather.ensures.0 c.gather.ensures.1
           c.seal.ensures has_room),

@@ -2,6 +2,8 @@
 -- the rest cleared. Assumes nothing.
 use borrow.Author.Rules.{rules}
 use mathlib.Core.Path.{◌≡◌, refl, sym, ap, ◌∙◌}
+use Rattle.cone.specs.table.Table.{number_of, code_of}
+use Rattle.cone.proofs.table.Settled.{number_above_0}
 use mathlib.Core.Bool.{true}
 use mathlib.Core.List.{List}
 use Prim.Native.Nat.{ℕ, ◌+◌, ◌*◌, ◌≤◌}
@@ -24,14 +26,14 @@ use Rattle.trace_thin.proofs.call.thin_in_place.Goals as goal
 abbrev left_with : List ℕ → Thinned → Left
 left_with output answer = record { answer = answer; output = output }
 
-pub returns-then-code-ne0 : goal.returns-then-code-ne0
-returns-then-code-ne0 c =
+pub returns-in-Err : goal.returns-in-Err
+returns-in-Err c =
     let bs : List ℕ = c.args.trace.now in
     let o : Judged = c.open-opened.result in
     let judged : o ≡ open_of bs = c.open-opened.ensures in
     let is_bytes : AllBelow 256 bs = below_of_places 256 bs (λ i h. search rules) in (
       ap (left_with bs) c.refused.ensures
-          ∙ refused-within bs is_bytes o judged _ c.trace_row-code.ensures c.if-code-ne0.true,
+          ∙ refused-within bs is_bytes o judged _ (sym (ap code_of c.in-Err.is) ∙ c.trace_row.ensures) (number_above_0 _),
       is_bytes,
     )
 
@@ -58,7 +60,7 @@ overflow_add-length c =
     let is_bytes : AllBelow 256 bs = below_of_places 256 bs (λ i h. search rules) in
     let ch : Chosen = c.choose-chosen.result in
     let told : ch ≡ chosen_of bs (firsts_in bs o.list o.edition) = c.choose-chosen.ensures.0 in
-    let good : good_trace bs ≡ true = good-within bs is_bytes o judged _ c.trace_row-code.ensures c.if-code-ne0.false in
+    let good : good_trace bs ≡ true = good-within bs is_bytes o judged _ c.trace_row.ensures (ap code_of c.in_default.is) in
     let has_room : ch.size + 8 * ch.kept + 20 ≤ length bs = inside bs is_bytes o judged ch told good in
     omega (arith, has_room)
 
@@ -70,7 +72,7 @@ overflow_add-length-2 c =
     let is_bytes : AllBelow 256 bs = below_of_places 256 bs (λ i h. search rules) in
     let ch : Chosen = c.choose-chosen.result in
     let told : ch ≡ chosen_of bs (firsts_in bs o.list o.edition) = c.choose-chosen.ensures.0 in
-    let good : good_trace bs ≡ true = good-within bs is_bytes o judged _ c.trace_row-code.ensures c.if-code-ne0.false in
+    let good : good_trace bs ≡ true = good-within bs is_bytes o judged _ c.trace_row.ensures (ap code_of c.in_default.is) in
     let has_room : ch.size + 8 * ch.kept + 20 ≤ length bs = inside bs is_bytes o judged ch told good in
     omega (arith, has_room)
 
@@ -83,7 +85,7 @@ move_down-requires c =
     let ch : Chosen = c.choose-chosen.result in
     let places : List ℕ = c.choose-chosen.new.places in
     let told : ch ≡ chosen_of bs (firsts_in bs o.list o.edition) = c.choose-chosen.ensures.0 in
-    let good : good_trace bs ≡ true = good-within bs is_bytes o judged _ c.trace_row-code.ensures c.if-code-ne0.false in
+    let good : good_trace bs ≡ true = good-within bs is_bytes o judged _ c.trace_row.ensures (ap code_of c.in_default.is) in
     let small : (ch.kept ≤ most_records) × (ch.size ≤ length bs) = bounded bs is_bytes o judged ch told in
     let places-length : length places ≡ most_records =
     row-length bs is_bytes o judged ch told good c.row-places.result places c.row-places.ensures.0
@@ -102,7 +104,7 @@ slice_bounds-places-end c =
     let ch : Chosen = c.choose-chosen.result in
     let places : List ℕ = c.choose-chosen.new.places in
     let told : ch ≡ chosen_of bs (firsts_in bs o.list o.edition) = c.choose-chosen.ensures.0 in
-    let good : good_trace bs ≡ true = good-within bs is_bytes o judged _ c.trace_row-code.ensures c.if-code-ne0.false in
+    let good : good_trace bs ≡ true = good-within bs is_bytes o judged _ c.trace_row.ensures (ap code_of c.in_default.is) in
     let small : (ch.kept ≤ most_records) × (ch.size ≤ length bs) = bounded bs is_bytes o judged ch told in
     let places-length : length places ≡ most_records =
     row-length bs is_bytes o judged ch told good c.row-places.result places c.row-places.ensures.0
@@ -120,7 +122,7 @@ slice_bounds-seal-end c =
     let ch : Chosen = c.choose-chosen.result in
     let places : List ℕ = c.choose-chosen.new.places in
     let told : ch ≡ chosen_of bs (firsts_in bs o.list o.edition) = c.choose-chosen.ensures.0 in
-    let good : good_trace bs ≡ true = good-within bs is_bytes o judged _ c.trace_row-code.ensures c.if-code-ne0.false in
+    let good : good_trace bs ≡ true = good-within bs is_bytes o judged _ c.trace_row.ensures (ap code_of c.in_default.is) in
     let small : (ch.kept ≤ most_records) × (ch.size ≤ length bs) = bounded bs is_bytes o judged ch told in
     let places-length : length places ≡ most_records =
     row-length bs is_bytes o judged ch told good c.row-places.result places c.row-places.ensures.0
@@ -139,7 +141,7 @@ seal-requires c =
     let ch : Chosen = c.choose-chosen.result in
     let places : List ℕ = c.choose-chosen.new.places in
     let told : ch ≡ chosen_of bs (firsts_in bs o.list o.edition) = c.choose-chosen.ensures.0 in
-    let good : good_trace bs ≡ true = good-within bs is_bytes o judged _ c.trace_row-code.ensures c.if-code-ne0.false in
+    let good : good_trace bs ≡ true = good-within bs is_bytes o judged _ c.trace_row.ensures (ap code_of c.in_default.is) in
     let small : (ch.kept ≤ most_records) × (ch.size ≤ length bs) = bounded bs is_bytes o judged ch told in
     let has_room : ch.size + 8 * ch.kept + 20 ≤ length bs = inside bs is_bytes o judged ch told good in
     let places-length : length places ≡ most_records =
@@ -180,7 +182,7 @@ overflow_sub-result c =
     let is_bytes : AllBelow 256 bs = below_of_places 256 bs (λ i h. search rules) in
     let ch : Chosen = c.choose-chosen.result in
     let told : ch ≡ chosen_of bs (firsts_in bs o.list o.edition) = c.choose-chosen.ensures.0 in
-    let good : good_trace bs ≡ true = good-within bs is_bytes o judged _ c.trace_row-code.ensures c.if-code-ne0.false in
+    let good : good_trace bs ≡ true = good-within bs is_bytes o judged _ c.trace_row.ensures (ap code_of c.in_default.is) in
     let no_more : ch.kept ≤ o.count = kept_few bs is_bytes o judged ch told good in
     no_more
 
@@ -193,10 +195,10 @@ returns c =
     let ch : Chosen = c.choose-chosen.result in
     let places : List ℕ = c.choose-chosen.new.places in
     let told : ch ≡ chosen_of bs (firsts_in bs o.list o.edition) = c.choose-chosen.ensures.0 in
-    let good : good_trace bs ≡ true = good-within bs is_bytes o judged _ c.trace_row-code.ensures c.if-code-ne0.false in
+    let good : good_trace bs ≡ true = good-within bs is_bytes o judged _ c.trace_row.ensures (ap code_of c.in_default.is) in
     let starts : List ℕ = c.move_down.new.places in (
-      done_within bs is_bytes o judged _ c.trace_row-code.ensures
-          c.if-code-ne0.false _
+      done_within bs is_bytes o judged _ c.trace_row.ensures
+          (ap code_of c.in_default.is) _
           (within-is bs is_bytes o judged ch told
           good c.row-places.result places
           c.row-places.ensures.0 c.choose-chosen.ensures.1 bs _ _

@@ -3,8 +3,9 @@
 -- Assumes nothing.
 use borrow.Author.Rules.{rules}
 use mathlib.Core.Path.{◌≡◌, sym, ap, ◌∙◌}
+use mathlib.Core.Bool.{cond}
 use mathlib.Core.List.{List}
-use Prim.Native.Nat.{ℕ, ◌≤◌, ◌<◌}
+use Prim.Native.Nat.{ℕ, ◌+◌, ◌≤◌, ◌<◌}
 use native.Mathlib.Omega.{arith}
 use lib.ListN.{length, take}
 use lib.Seq.{sets}
@@ -18,8 +19,9 @@ use Rattle.trace.specs.whole.Whole.{whole_records, walked_of}
 use Rattle.trace_thin.specs.firsts.Pieces.{piece_at, pieces_at, joined}
 use Rattle.trace_thin.specs.firsts.Firsts.{firsts, starts_in, numbers_at, chosen_of}
 use Rattle.trace_thin.proofs.firsts.Pieced.{few_records, all_inside}
-use Rattle.trace_thin.proofs.firsts.Choosing.{begun, piece-below, turned, all_chosen, all_placed, all_listed}
+use Rattle.trace_thin.proofs.firsts.Choosing.{begun, piece-below, more_so, more_not, turned, all_chosen, all_placed, all_listed}
 use Rattle.trace_thin.proofs.firsts.choose.Goals as goal
+use Rattle.trace_thin.proofs.firsts.choose.Goals.{then-new, else-new}
 
 -- the rows have room for one more, and the piece's bytes are among all
 
@@ -42,9 +44,9 @@ keep-new-requires c =
     let r = c.loop-i.invariant in omega (arith, r.fewer, r.few, r.number-room, count-is, few, c.requires.1) in
     record { kept_in_bounds = (fits, fits_number); numbers_value = c.loop-i.invariant.numbered }
 
-pub plus-kept-requires : goal.plus-kept-requires
+pub overflow_add-kept : goal.overflow_add-kept
 unfolding walked_of
-plus-kept-requires c =
+overflow_add-kept c =
     let b : List ℕ = c.args.bytes.now in
     let list : ℕ = c.args.list in
     let e : ℕ = c.args.edition in
@@ -58,9 +60,9 @@ plus-kept-requires c =
     omega (arith, length-offsets e 0 (whole_records e (take list b)), few_records b is_bytes list e) in
     omega (arith, c.loop-i.invariant.fewer, c.loop-i.invariant.few, count-is, few)
 
-pub plus-size-requires : goal.plus-size-requires
+pub overflow_add-size : goal.overflow_add-size
 unfolding walked_of
-plus-size-requires c =
+overflow_add-size c =
     let b : List ℕ = c.args.bytes.now in
     let row : List ℕ = c.args.places.now in
     let list : ℕ = c.args.list in
@@ -100,8 +102,17 @@ loop-i-preserved c =
     let fits_number : c.loop-i.kept < length c.loop-i.numbers =
     let r = c.loop-i.invariant in omega (arith, r.fewer, r.few, r.number-room, count-is, few, c.requires.1) in
     let e = c.keep-new.ensures in
-    turned _ _ _ _ _ _ _ _ _ c.loop-i.invariant (omega arith) fits fits_number c.keep-new.result e.0 _ _ e.1 e.2 _ _ _
-    c.size_at-n.ensures c.plus-kept.ensures c.plus-size.ensures
+    let new = c.keep-new.result in
+    let counts : c.if-new.kept ≡ c.loop-i.kept + cond new 1 0 = elim c.if-new.branch [
+      | then-new w ↦ more_so _ _ _ _ w.if-new.true w.kept-is
+      | else-new w ↦ more_not _ _ _ _ w.if-new.false w.kept-is
+    ] in
+    let adds : c.if-new.size ≡ c.loop-i.size + cond new c.size_at-n.result 0 = elim c.if-new.branch [
+      | then-new w ↦ more_so _ _ _ _ w.if-new.true w.size-is
+      | else-new w ↦ more_not _ _ _ _ w.if-new.false w.size-is
+    ] in
+    turned _ _ _ _ _ _ _ _ _ c.loop-i.invariant (omega arith) fits fits_number new e.0 _ _ e.1 e.2 _ _ _
+    c.size_at-n.ensures counts adds
 
 pub returns : goal.returns
 unfolding walked_of

@@ -1,39 +1,35 @@
--- `seen` meets its contract. The loop's invariant: the pieces before place j are other ones, so that those that are left decide. The
--- measure is their count. Assumes nothing.
-use mathlib.Core.Path.{refl, sym, ◌∙◌}
-use native.Mathlib.Omega.{arith}
-use Rattle.trace_thin.proofs.firsts.Seeking.{number_at, numbers-length, found_here, not-here, not_found}
+-- `seen` meets its contract. The loop's invariant: the pieces that were passed are other ones, so that those that are left decide, and what is
+-- left of the numbers is theirs. Assumes nothing.
+use mathlib.Core.Path.{◌≡◌, sym, ◌∙◌}
+use mathlib.Core.Logic.{inl, inr}
+use lib.ListN.{length}
+use Rattle.trace_thin.proofs.firsts.Seeking.{found_here, not-here, numbers_on, none-ahead, not_found}
 use Rattle.trace_thin.proofs.firsts.seen.Goals as goal
-
-pub bounds-numbers-j : goal.bounds-numbers-j
-bounds-numbers-j c =
-    let a = c.args in
-    omega (arith, numbers-length a.bytes.now a.places.now a.numbers.now c.requires.1)
-
-pub alike-requires : goal.alike-requires
-alike-requires c =
-    let a = c.args in
-    (c.requires.0, number_at a.bytes.now a.places.now a.numbers.now c.loop-j.j c.requires.1 (omega arith))
 
 pub returns-then-alike : goal.returns-then-alike
 returns-then-alike c =
     let a = c.args in
-    found_here a.bytes.now a.piece.now a.places.now c.loop-j.j c.loop-j.invariant.2 (omega arith)
+    found_here a.bytes.now a.piece.now a.places.now _ _ _ c.in-Some.ensures.steps.0 c.loop-place.invariant.3
     (sym c.if-alike.true ∙ c.alike.ensures)
 
-pub loop-j-preserved : goal.loop-j-preserved
-loop-j-preserved c =
-    let a = c.args in (
-      refl,
-      omega arith,
-      not-here a.bytes.now a.piece.now a.places.now c.loop-j.j c.loop-j.invariant.2 (omega arith)
-          (sym c.if-alike.false ∙ c.alike.ensures),
+pub loop-place-preserved : goal.loop-place-preserved
+loop-place-preserved c =
+    let a = c.args in
+    let l = c.loop-place.invariant in
+    let steps = c.in-Some.ensures.steps in (
+      (tt, tt),
+      tt,
+      numbers_on a.bytes.now a.piece.now a.places.now _ _ _ steps.0 l.3 _ _ _ steps.1 l.2,
+      not-here a.bytes.now a.piece.now a.places.now _ _ _ steps.0 l.3 (sym c.if-alike.false ∙ c.alike.ensures),
     )
 
 pub returns : goal.returns
 returns c =
     let a = c.args in
-    not_found a.bytes.now a.piece.now a.places.now c.loop-j.j c.loop-j.invariant.2 (omega arith)
-
-pub loop-j-init : goal.loop-j-init
-loop-j-init c = (refl, omega arith, refl)
+    let l = c.loop-place.invariant in
+    let ahead = c.loop-place.place-iterator.a.rest.now in
+    let end : length ahead ≡ 0 = elim c.in-None.ensures.steps [
+      | inl p ↦ p.1.0
+      | inr p ↦ none-ahead a.bytes.now ahead _ p.1.0 l.2
+    ] in
+    not_found a.bytes.now a.piece.now a.places.now ahead l.3 end

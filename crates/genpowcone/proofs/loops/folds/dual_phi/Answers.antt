@@ -1,18 +1,17 @@
--- `dual_phi` meets its contract: after i turns the loop holds the product of the first i powers. The measure is what is left of the shorter
--- length. Assumes nothing.
-use Rattle.std.proofs.Common.{arith}
-use Rattle.arith.proofs.Turns.{iter_end, iter-next, iter-none}
+-- `dual_phi` meets its contract: its fold takes the turns of the definition. Assumes nothing.
+use Rattle.std.proofs.Common.{rules}
+use Rattle.std.proofs.lemmas.Iterator.{YieldsList-from_slice, YieldsList-from_zip}
+use lib.Ieee.{Float}
+use Rattle.double.specs.Operators.{◌⊗◌, ◌⊘◌}
+use Rattle.double.specs.Numbers.{#1, #2}
+use Rattle.kernels.specs.Door.{powf_of}
 use Rattle.genpowcone.specs.loops.Folds.{dual_phi}
+use Rattle.genpowcone.proofs.loops.Turns.{zip-folded}
 use Rattle.genpowcone.proofs.loops.folds.dual_phi.Goals as goal
-
-pub loop-i-init : goal.loop-i-init
-loop-i-init c = (c.shorter-n.ensures, omega arith, iter-none _ _)
-
-pub loop-i-preserved : goal.loop-i-preserved
-loop-i-preserved c =
-    let l = c.loop-i in
-    (l.invariant.0, omega arith, rw c.powf-phi.ensures (iter-next _ _ _ l.invariant.2))
 
 pub returns : goal.returns
 unfolding dual_phi
-returns c = iter_end _ _ _ _ c.loop-i.invariant.2 (omega arith) (omega arith)
+returns c =
+    zip-folded _ _ _ (λ (t a x : Float). t ⊗ powf_of (x ⊘ a) (#2 ⊗ a)) #1 _ c.fold.ensures.ran
+    (YieldsList-from_zip (YieldsList-from_slice c.args.alpha.now cc) (YieldsList-from_slice c.args.z.now cc))
+    (λ t x u q k. search rules)

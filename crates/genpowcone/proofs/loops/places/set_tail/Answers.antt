@@ -1,20 +1,17 @@
--- `set_tail` meets its contract: after j turns the first j places of the tail are written. The measure is what is left of the count.
--- Assumes nothing.
-use Rattle.std.proofs.Common.{sym, refl, arith}
-use lib.ListN.{length-replicate, get_or-replicate}
-use Rattle.genpowcone.proofs.loops.Arrays.{sets_more, sets_all}
+-- `set_tail` meets its contract: the tail's places are filled, and the others stay. Assumes nothing.
+use Rattle.std.proofs.Common.{rules, ◌≡◌, ◌+◌, List, ◌++◌, length, take, drop, replicate, sym, refl, ap, ◌∙◌, arith, take_all}
+use Rattle.std.proofs.lemmas.List.Edits.{sets-eq}
+use Rattle.std.proofs.lemmas.Slice.{put_mid-paste}
+use lib.ListN.{length-replicate}
+use lib.Ieee.{Float}
 use Rattle.genpowcone.proofs.loops.places.set_tail.Goals as goal
-
-pub loop-j-preserved : goal.loop-j-preserved
-loop-j-preserved c =
-    let l = c.loop-j in
-    let m = c.args.m in
-    (omega arith, sets_more _ _ _ _ l.invariant.1 (sym (get_or-replicate m l.j _ _ (omega arith))) (simp length-replicate (omega arith)))
 
 pub returns : goal.returns
 returns c =
-    let l = c.loop-j in
-    sets_all _ _ _ l.j l.invariant.1 (simp length-replicate (omega arith))
-
-pub loop-j-init : goal.loop-j-init
-loop-j-init c = (omega arith, refl)
+    let g = c.args.g0 in
+    let n = c.args.n in
+    let vs = replicate c.args.m c.args.v in
+    let filled : c.fill.new.self ≡ vs = search rules in
+    put_mid-paste n _ g c.fill.new.self vs (length vs) filled (omega (arith, length-replicate c.args.m c.args.v)) refl
+    ∙ ap (λ (l : List Float). take n g ++ l ++ drop (n + length vs) g) (take_all (length vs) vs (omega arith))
+    ∙ sym (sets-eq vs g n (omega (arith, length-replicate c.args.m c.args.v)))

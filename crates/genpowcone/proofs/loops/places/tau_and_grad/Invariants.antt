@@ -1,16 +1,18 @@
--- `tau_and_grad` meets its contract: after i turns the first i places of both arrays are written. The measure is what is left of the
--- shorter length. Assumes nothing.
-use Rattle.std.proofs.Common.{◌≡◌, ◌-◌, ◌≤◌, min, length, take}
+-- `tau_and_grad` meets its contract: after i turns the first i places of both arrays are written, and what is left of both slices begins at
+-- place i. Assumes nothing.
+use Rattle.std.proofs.Common.{◌≡◌, ◌≤◌, length, take, drop}
 use Rattle.cone.specs.Points.{padded}
 use Rattle.genpowcone.specs.loops.Places.{grad_head, tau_of}
 use Rattle.genpowcone.proofs.loops.places.tau_and_grad.Given as goal
 
 abbrev pub invariant-loop-i : goal.invariant-loop-i
 invariant-loop-i l =
-    (l.n ≡ min (length l.alpha) (length l.z))
-    × (l.i ≤ l.n)
-    × (l.tau ≡ padded 32 (take l.i (tau_of l.alpha l.z)))
-    × (l.grad ≡ padded 64 (take l.i (grad_head l.alpha l.z l.phi l.zeta)))
-
-abbrev pub decreases-loop-i : goal.decreases-loop-i
-decreases-loop-i l = l.n - l.i
+    let i = l.i-iterator.count in
+    goal.iterator-loop-i.can_next l.i-iterator
+    × goal.iterator-loop-i.is_finite l.i-iterator
+    × (l.i-iterator.iter.a.rest.now ≡ drop i l.alpha)
+    × (l.i-iterator.iter.b.rest.now ≡ drop i l.z)
+    × (i ≤ length l.alpha)
+    × (i ≤ length l.z)
+    × (l.tau ≡ padded 32 (take i (tau_of l.alpha l.z)))
+    × (l.grad ≡ padded 64 (take i (grad_head l.alpha l.z l.phi l.zeta)))

@@ -1,19 +1,8 @@
--- `times32` meets its contract: after i turns the first i places are written. The measure is what is left of the count. Assumes nothing.
-use Rattle.std.proofs.Common.{arith}
-use Rattle.cone.proofs.Points.{padded-none}
-use Rattle.genpowcone.proofs.loops.Arrays.{map_more, map_all}
+-- `times32` meets its contract: its closure gives what the definition says of each place. Assumes nothing.
+use Rattle.std.proofs.Common.{rules}
+use lib.Ieee.{Float}
+use Rattle.double.specs.Operators.{◌⊗◌}
 use Rattle.genpowcone.proofs.loops.places.times32.Goals as goal
 
-pub loop-i-init : goal.loop-i-init
-loop-i-init c = (omega arith, padded-none 32)
-
-pub loop-i-preserved : goal.loop-i-preserved
-loop-i-preserved c =
-    let at_loop = c.before.before in
-    let l = at_loop.loop-i in
-    (omega arith, map_more 32 _ at_loop.args.xs.now _ l.invariant.1 (omega arith) (omega arith))
-
 pub returns : goal.returns
-returns c =
-    let l = c.loop-i in
-    map_all 32 _ c.args.xs.now l.i l.invariant.1 (omega arith)
+returns c = c.filled.ensures (λ (x : Float). c.args.c ⊗ x) (λ x y given. search rules)

@@ -1,20 +1,10 @@
--- `unit_head` meets its contract: after i turns the first i places are written. The measure is what is left of the count. Assumes nothing.
-use Rattle.std.proofs.Common.{arith}
-use Rattle.cone.proofs.Points.{padded-none}
-use Rattle.genpowcone.proofs.loops.Arrays.{map_more, map_all}
+-- `unit_head` meets its contract: its closure gives what the definition says of each place. Assumes nothing.
+use Rattle.std.proofs.Common.{rules}
+use lib.Ieee.{Float}
+use Rattle.double.specs.Operators.{◌⊕◌}
+use Rattle.double.specs.Numbers.{#1}
+use Rattle.kernels.specs.Door.{sqrt_of}
 use Rattle.genpowcone.proofs.loops.places.unit_head.Goals as goal
 
-pub loop-i-init : goal.loop-i-init
-loop-i-init c = (omega arith, padded-none 64)
-
-pub loop-i-preserved : goal.loop-i-preserved
-loop-i-preserved c =
-    let at_loop = c.before.before.before in
-    let l = at_loop.loop-i in
-    let α = at_loop.args.alpha.now in
-    (omega arith, rw c.sqrt.ensures (map_more 64 _ α _ l.invariant.1 (omega arith) (omega arith)))
-
 pub returns : goal.returns
-returns c =
-    let l = c.loop-i in
-    map_all 64 _ c.args.alpha.now l.i l.invariant.1 (omega arith)
+returns c = c.filled.ensures (λ (x : Float). sqrt_of (#1 ⊕ x)) (λ x y given. search rules)

@@ -1,5 +1,5 @@
 -- `move_up` meets its contract. The loop's invariant: the bytes from i on stand at their
--- new place, and nothing else has changed. The measure is i. Assumes nothing.
+-- new place, and nothing else has changed. Assumes nothing.
 use mathlib.Core.Path.{◌≡◌, refl, sym, ap, ◌∙◌}
 use mathlib.Core.List.{List}
 use Prim.Native.Nat.{ℕ, suc, ◌+◌, ◌-◌}

@@ -1,0 +1,2 @@
+-- Any two outcomes of a public function agree.
+mod Agree

@@ -9,12 +9,13 @@ ghost use Rattle.call_record.specs.update.Entries.{update_rows, update_scaling_o
 
 use cone::lent::LentScaling;
 use cone::table::{Refusal, first_row, no_faults};
-use cone::{LAST_SERIAL, Scaling, Updated};
+use cone::{LAST_SERIAL, Scaling, Updated, fresh};
 use double::is_finite;
-use judges::refusal::last_rows;
 use judges::{all_finite, cone_ok, lent_finite, numel, strategy_ok};
 use scaling::update::new_record;
 
+// Never in its caller's frame, which the formulas need.
+#[inline(never)]
 fn update_rows(
     lent: &LentScaling<'_>,
     s: &[f64],
@@ -58,15 +59,15 @@ pub fn update_in_place(
     if let Err(refusal) = update_rows(lent, s, z, mu, strategy) {
         return refused(refusal, lent);
     }
-    let made = new_record(lent.cone.copied(), s, z, mu, strategy);
-    match last_rows(&made) {
-        Ok(new) => {
-            let mut scaling = *new;
-            scaling.serial = lent.serial + 1;
-            Updated { code: 0, scaling }
-        }
-        Err(refusal) => refused(refusal, lent),
+    let mut scaling = fresh(lent.cone.copied());
+    let Some(()) = new_record(&mut scaling, s, z, mu, strategy) else {
+        return refused(Refusal::WouldPanic, lent);
+    };
+    if !lent_finite(&LentScaling::of(&scaling)) {
+        return refused(Refusal::AnswerNotFinite, lent);
     }
+    scaling.serial = lent.serial + 1;
+    Updated { code: 0, scaling }
 }
 
 pub fn update_scaling(scaling: Scaling, s: &[f64], z: &[f64], mu: f64, strategy: u32) -> Updated

@@ -20,20 +20,18 @@ point_fits n m exps z p l e =
 
 pub update_dual_grad_h-requires : goal.update_dual_grad_h-requires
 update_dual_grad_h-requires c =
-    point_fits _ c.args.cone.dim2 _ c.args.z.now c.requires (search rules) c.head.ensures
+    point_fits _ c.args.cone.now.dim2 _ c.args.z.now c.requires (search rules) c.head.ensures
 
 pub returns-in_err-dual : goal.returns-in_err-dual
 unfolding new_wide
 returns-in_err-dual c =
-    rw (← c.head.ensures, ← c.update_dual_grad_h.ensures, c.in_err-dual.was) c.from_residual.ensures
+    rw (c.from_residual.ensures, ← c.head.ensures, ← c.update_dual_grad_h.ensures, c.in_err-dual.was)
 
 pub returns : goal.returns
 unfolding new_wide
 returns c =
     rw (
-      c.attempted.ensures,
-      c.no_three.ensures,
-      c.wide_at-wide.ensures,
+      c.wide_at.ensures,
       c.wide_of.ensures,
       ← c.head.ensures,
       ← c.update_dual_grad_h.ensures,

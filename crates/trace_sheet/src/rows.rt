@@ -40,7 +40,11 @@ pub(crate) fn rows_ok(dual: usize, primal: usize, skipped: usize, files: u32) ->
 fn spills(row: &[u64], more: &[u64]) -> bool
     ensures { result ≡ spills row.now more.now }
 {
-    for (x, y) in row.iter().zip(more) {
+    // no zip, which looks for two ends at each place: this loop is most of what a join takes
+    for (i, x) in row.iter().enumerate() {
+        let Some(y) = more.get(i) else {
+            return false;
+        };
         if LARGEST_COUNT - *x < *y {
             return true;
         }

@@ -4,10 +4,11 @@ use mathlib.Core.Bool.{Bool, true, false, ◌||◌}
 use mathlib.Core.List.{List, [], ◌∷◌}
 use Prim.Native.Nat.{ℕ, zero, suc, ◌+◌, ◌-◌, ◌<◌, ◌≤◌}
 use native.Mathlib.Omega.{arith}
+use native.Mathlib.Numerals.{add-one}
 use lib.Dec.{ltb}
 use lib.ListN.{length, take, drop, get_or, set}
-use lib.ListN.{replicate, length-set, length-replicate, get_or-replicate, get_or-eq_default}
-use lib.Seq.{drop-drop, drop-set-lt, get_or-drop}
+use lib.ListN.{replicate, length-set, length-replicate, get_or-replicate, drop_of_length-le, get_or-eq_default}
+use lib.Seq.{drop-cons, drop-drop, drop-set-lt, get_or-drop}
 use borrow.Author.Tests.{lt-ltb, le-ltb, ltb-true, ltb-false}
 use Rattle.arith.proofs.Branches.{or_left, or_right}
 use Rattle.arith.proofs.Filling.{fill_more, fill_end}
@@ -36,28 +37,32 @@ zeros n all = record { all = length-replicate n 0 ∙ all; zero = λ k. zero-by 
 
 -- ---- from a place on
 
-module _ (xs ys : List ℕ) (x y : ℕ) (ahead next left others : List ℕ) (first : ahead ≡ x ∷ next) (second : left ≡ y ∷ others)
-    (so_far : spills ahead left ≡ spills xs ys) where
-  here : spills xs ys ≡ (ltb most (x + y) || spills next others)
+module _ (xs ys : List ℕ) (i : ℕ) where
+  abbrev pub left : Bool
+  left = spills (drop i xs) (drop i ys)
+
+  pub none_first : length xs ≤ i → left ≡ false
   unfolding spills
-  here = sym so_far ∙ ap (λ (l : List ℕ). spills l left) first ∙ ap (spills (x ∷ next)) second
+  none_first h = rw (drop_of_length-le xs {i = i} h)
 
-  pub spilled : most < x + y → true ≡ spills xs ys
-  spilled h = sym (here ∙ rw (lt-ltb most (x + y) h))
+  short : (zs : List ℕ) → spills zs [] ≡ false
+  unfolding spills
+  short [] = refl
+  short (z ∷ zs) = refl
 
-  pub fitted : x + y ≤ most → spills next others ≡ spills xs ys
-  fitted h = sym (here ∙ rw (le-ltb most (x + y) h))
+  pub none-second : length ys ≤ i → left ≡ false
+  none-second h = rw (drop_of_length-le ys {i = i} h) (short (drop i xs))
 
-pub none_first : (xs ys : List ℕ) → length xs ≡ 0 → spills xs ys ≡ false
-unfolding spills
-none_first [] ys e = refl
-none_first (x ∷ xs) ys e = absurd (omega (arith, e))
+  module _ (hx : i < length xs) (hy : i < length ys) where
+    here : left ≡ (ltb most (get_or xs i 0 + get_or ys i 0) || spills (drop (suc i) xs) (drop (suc i) ys))
+    unfolding spills
+    here = rw (drop-cons xs i 0 hx, drop-cons ys i 0 hy)
 
-pub none-second : (xs ys : List ℕ) → length ys ≡ 0 → spills xs ys ≡ false
-unfolding spills
-none-second [] ys e = refl
-none-second (x ∷ xs) [] e = refl
-none-second (x ∷ xs) (y ∷ ys) e = absurd (omega (arith, e))
+    pub spilled : most < get_or xs i 0 + get_or ys i 0 → left ≡ true
+    spilled h = here ∙ rw (lt-ltb most (get_or xs i 0 + get_or ys i 0) h)
+
+    pub fitted : get_or xs i 0 + get_or ys i 0 ≤ most → spills (drop (i + 1) xs) (drop (i + 1) ys) ≡ left
+    fitted h = rw (add-one i) (sym (here ∙ rw (le-ltb most (get_or xs i 0 + get_or ys i 0) h)))
 
 -- ---- a sum that has room
 

@@ -55,7 +55,9 @@ fn f64_at(bytes: &[u8], place: usize) -> f64
     of_bits(u64_at(bytes, place))
 }
 
-// The first n doubles of a row of bytes, in N places: 64 of a vector, 32 of a cone's exponents.
+// The first n doubles of a row of bytes, in N places: 64 of a vector, 32 of a cone's exponents. Never in its caller's frame: beside so many
+// loops LLVM gives each copy of a Recorded that a call hands on, 2,400 bytes, a place of its own on the stack.
+#[inline(never)]
 fn row<const N: usize>(bytes: &[u8], n: usize) -> [f64; N]
     requires { n ≤ N }
     ensures { result ≡ row_in N n bytes.now }
@@ -187,7 +189,8 @@ impl<'a> Found<'a> {
         }
     }
 
-    // The record by value, at an offset.
+    // The record by value, at an offset. In its caller's frame: as a call it would hand on 2,400 bytes once more.
+    #[inline(always)]
     pub fn recorded(self, at: u64) -> Recorded
         requires { at + self.shape.size < 2 ^ 64 }
         ensures { result ≡ recorded_of self.entry.edition at (record_at self.entry.edition self.entry.bytes.now) }

@@ -8,7 +8,8 @@ ghost use Rattle.search.specs.trials.Costed.{costed_of};
 ghost use Rattle.search.specs.plan.Plans.{cone_passes, total_of, plan_ok, tested_of, plan_trials, plan_of, Listed, Plannable};
 ghost use Rattle.search.specs.plan.Sides.{OnSide, sides_trials, sides_of, in_sides};
 
-use crate::trials::{Tested, Trial, search};
+pub use crate::trials::Tested;
+use crate::trials::{Trial, search};
 use crate::{Searched, put_trial};
 use algebra::vector::{head, tail};
 use cone::words::{cone_of, high_half, low_half, places};
@@ -51,14 +52,13 @@ fn cone_passes(w: [u64; 34], primal: bool, part: &[f64]) -> bool
 {
     let kind = low_half(w[0]);
     let dim1 = high_half(w[0]);
-    let dim2 = low_half(w[1]);
-    let rule = high_half(w[1]);
     let exps = places(w, used(kind, dim1));
+    // a test reads neither the second dim nor the rule
     let cone = Cone {
         kind,
         dim1,
-        dim2,
-        rule,
+        dim2: 0,
+        rule: 0,
         exps,
     };
     passes(&cone, primal, part)

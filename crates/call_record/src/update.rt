@@ -14,7 +14,7 @@ use double::is_finite;
 use judges::{all_finite, cone_ok, lent_finite, numel, strategy_ok};
 use scaling::update::new_record;
 
-// Never in its caller's frame, which the formulas need.
+// Never in its caller's frame: the formulas run on top of that, and the judge's copy of the cone would lie below them.
 #[inline(never)]
 fn update_rows(
     lent: &LentScaling<'_>,

@@ -114,8 +114,8 @@ fn good_with(bytes: &[u8], trailer: Trailer) -> bool
     )
 }
 
-// 02: "9 a trace or record that breaks the layout". Never in its caller's frame: in the build for Arm a record that is read by its number took
-// 6 KB of stack more so.
+// 02: "9 a trace or record that breaks the layout". Never in its caller's frame: built the way for Arm, a record that is read by its number
+// took 6 KB of stack more so.
 #[inline(never)]
 pub fn open(bytes: &[u8]) -> Judged
     ensures { result ≡ open_of bytes.now }
